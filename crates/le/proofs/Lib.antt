@@ -1,0 +1,4 @@
+pub mod Choices
+pub mod Parts
+pub mod Fields
+pub mod Layouts

@@ -1,0 +1,43 @@
+use borrow.Author.Needs.{needs}
+use Rattle.medium.specs.Sector.{writeAt}
+use Rattle.medium.proofs.Laws.{write-refused, write-done}
+use Rattle.medium.proofs.write_sector.Statement.{statement}
+use Rattle.medium.proofs.write_sector.Tie as tie
+
+spend-requires : tie.Need-spend-requires
+spend-requires c κs = search needs
+
+enum-told : tie.Need-enum-told
+enum-told c = search needs
+
+returns : tie.Need-returns
+returns c = let a = c .before .before .before .before .args in write-refused (a .volume .now) (a .medium) (a .at) (a .sector .now) (c .before .before .spend .ensures) (c .enum-told .given .1)
+
+enum-told-2 : tie.Need-enum-told-2
+enum-told-2 c = search needs
+
+mul-put-bytes : tie.Need-mul-put-bytes
+mul-put-bytes c = search needs
+
+put-bytes-requires : tie.Need-put-bytes-requires
+put-bytes-requires c κs = search needs
+
+same-length : tie.Need-same-length
+same-length c = search needs
+
+returns-2 : tie.Need-returns-2
+unfolding writeAt
+returns-2 c = let a = c .before .before .before .before .before .before .before .before .before .args in write-done (a .volume .now) (a .medium) (a .at) (a .sector .now) (c .before .before .before .before .before .before .before .spend .ensures) (c .before .before .before .before .before .enum-told2 .given .1) (c .before .before .put-bytes .ensures)
+
+pub write-sector-spec : {M : Type 1} → statement M
+write-sector-spec =
+    tie.close
+    (tie.spec
+    spend-requires
+    enum-told
+    returns
+    enum-told-2
+    mul-put-bytes
+    put-bytes-requires
+    same-length
+    returns-2)

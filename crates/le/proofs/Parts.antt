@@ -4,9 +4,9 @@ use Prim.Native.Nat.{ℕ, zero, suc, _+_, _-_, _≤_, _<_}
 use native.Mathlib.Nat.{add-assoc, suc-add, not-suc-le-zero}
 use native.Mathlib.Omega.{arith}
 use mathlib.Core.List.{List, [], _∷_, _++_, append-assoc}
-use lib.ListN.{length, take, drop, length-append, length-take, length-drop}
+use lib.ListN.{length, take, drop, length-append, length-take, length-drop, length-replicate}
 use lib.Seq.{length-take-le, take-at, drop-at, take-append-seam, take-take, take-nil, drop-nil, drop-drop, take-append-le, take-add}
-use Rattle.le.specs.Part.{part, over}
+use Rattle.le.specs.Part.{part, over, zeros}
 
 pub length-part : (o n : ℕ) (l : List ℕ) → o + n ≤ length l → length (part o n l) ≡ n
 unfolding part
@@ -24,6 +24,15 @@ before (suc j) m (suc o) (x ∷ xs) h = before j m o xs (omega arith)
 pub part-add : (o m n : ℕ) (l : List ℕ) → part o (m + n) l ≡ part o m l ++ part (o + m) n l
 unfolding part
 part-add o m n l = take-add m n (drop o l) ∙ ap (λ (r : List ℕ). take m (drop o l) ++ take n r) (drop-drop m o l)
+
+-- a part of a part is a part
+pub part-part : (a n b m : ℕ) (l : List ℕ) → b + m ≤ n → part b m (part a n l) ≡ part (a + b) m l
+unfolding part
+part-part a n b m l h = before b m n (drop a l) h ∙ ap (take m) (drop-drop b a l)
+
+pub length-zeros : (n : ℕ) → length (zeros n) ≡ n
+unfolding zeros
+length-zeros n = length-replicate n 0
 
 -- ---- a part replaced
 

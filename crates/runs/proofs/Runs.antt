@@ -8,10 +8,12 @@ use native.Mathlib.Numerals.{add-one}
 use native.Mathlib.Omega.{arith}
 use borrow.Author.Tests.{eq-eqb, ne-eqb}
 use lib.Dec.{eqb}
-use lib.ListN.{length, getD, take, drop, set, replicate, length-replicate, getD-replicate}
+use lib.ListN.{length, getD, take, drop, set, getD-replicate}
 use lib.Seq.{paste, paste-suc, take-length, drop-length, drop-cons}
-use Rattle.le.specs.Part.{over}
-use Rattle.runs.specs.Run.{startsWith}
+use Rattle.le.specs.Part.{over, zeros}
+use Rattle.le.proofs.Parts.{length-zeros}
+use Rattle.le.proofs.Turns.{drop-one, drop-end}
+use Rattle.runs.specs.Run.{startsWith, sameBytes, allZero}
 
 -- one more element is copied
 pub copy-more : (d s : List ℕ) (at i : ℕ) → at + length s ≤ length d → i < length s → set (paste d at s i) (at + i) (getD s i 0) ≡ paste d at s (i + 1)
@@ -21,15 +23,19 @@ pub copy-all : (d s : List ℕ) (at : ℕ) → paste d at s (length s) ≡ over 
 unfolding over
 copy-all d s at = rw take-length
 
--- the same of n zeros
-pub zero-more : (d : List ℕ) (at n i : ℕ) → at + n ≤ length d → i < n → set (paste d at (replicate n 0) i) (at + i) 0 ≡ paste d at (replicate n 0) (i + 1)
-zero-more d at n i h k =
-    let e : length {A = ℕ} (replicate n 0) ≡ n = length-replicate n 0 in
-    ap (λ (x : ℕ). set (paste d at (replicate n 0) i) (at + i) x) (sym (getD-replicate n i 0 0 k))
-    ∙ copy-more d (replicate n 0) at i (rw e h) (rw e k)
+getD-zeros : (n i : ℕ) → i < n → getD (zeros n) i 0 ≡ 0
+unfolding zeros
+getD-zeros n i k = getD-replicate n i 0 0 k
 
-pub zero-all : (d : List ℕ) (at n : ℕ) → paste d at (replicate n 0) n ≡ over at (replicate n 0) d
-zero-all d at n = ap (λ (k : ℕ). paste d at (replicate n 0) k) (sym (length-replicate n 0)) ∙ copy-all d (replicate n 0) at
+-- the same of n zeros
+pub zero-more : (d : List ℕ) (at n i : ℕ) → at + n ≤ length d → i < n → set (paste d at (zeros n) i) (at + i) 0 ≡ paste d at (zeros n) (i + 1)
+zero-more d at n i h k =
+    let e : length {A = ℕ} (zeros n) ≡ n = length-zeros n in
+    ap (λ (x : ℕ). set (paste d at (zeros n) i) (at + i) x) (sym (getD-zeros n i k))
+    ∙ copy-more d (zeros n) at i (rw e h) (rw e k)
+
+pub zero-all : (d : List ℕ) (at n : ℕ) → paste d at (zeros n) n ≡ over at (zeros n) d
+zero-all d at n = ap (λ (k : ℕ). paste d at (zeros n) k) (sym (length-zeros n)) ∙ copy-all d (zeros n) at
 
 -- one more element is compared
 module _ (b w : List ℕ) (at i : ℕ) (h : at + length w ≤ length b) (k : i < length w) where
@@ -48,3 +54,43 @@ module _ (b w : List ℕ) (at i : ℕ) (h : at + length w ≤ length b) (k : i <
 pub same-all : (w r : List ℕ) → startsWith (drop (length w) w) r ≡ true
 unfolding startsWith
 same-all w r = rw drop-length
+
+-- lists of different lengths are not the same
+and-false : (b : Bool) → (b && false) ≡ false
+and-false true = refl
+and-false false = refl
+
+pub same-long : (a b : List ℕ) → (length a ≡ length b → ⊥) → sameBytes a b ≡ false
+unfolding sameBytes
+same-long [] [] h = absurd (h refl)
+same-long [] (y ∷ ys) h = refl
+same-long (x ∷ xs) [] h = refl
+same-long (x ∷ xs) (y ∷ ys) h = rw (same-long xs ys (λ e. h (ap suc e))) (and-false (eqb x y))
+
+-- one more pair of bytes is compared
+module _ (a b : List ℕ) (i : ℕ) (h : i < length a) (k : i < length b) where
+  pub pair-same : getD a i 0 ≡ getD b i 0 → sameBytes (drop (i + 1) a) (drop (i + 1) b) ≡ sameBytes (drop i a) (drop i b)
+  unfolding sameBytes
+  pair-same e = rw (drop-one a i h, drop-one b i k, eq-eqb _ _ e)
+
+  pub pair-other : (getD a i 0 ≡ getD b i 0 → ⊥) → sameBytes (drop i a) (drop i b) ≡ false
+  unfolding sameBytes
+  pair-other e = rw (drop-one a i h, drop-one b i k, ne-eqb _ _ e)
+
+pub pairs-end : (a b : List ℕ) (i : ℕ) → length a ≤ i → length a ≡ length b → sameBytes (drop i a) (drop i b) ≡ true
+unfolding sameBytes
+pairs-end a b i h e = rw (drop-end a i h, drop-end b i (rw e at h))
+
+-- one more byte is tested
+module _ (l : List ℕ) (i : ℕ) (h : i < length l) where
+  pub zero-next : getD l i 0 ≡ 0 → allZero (drop (i + 1) l) ≡ allZero (drop i l)
+  unfolding allZero
+  zero-next e = rw (drop-one l i h, eq-eqb _ _ e)
+
+  pub zero-not : (getD l i 0 ≡ 0 → ⊥) → allZero (drop i l) ≡ false
+  unfolding allZero
+  zero-not e = rw (drop-one l i h, ne-eqb _ _ e)
+
+pub zero-end : (l : List ℕ) (i : ℕ) → length l ≤ i → allZero (drop i l) ≡ true
+unfolding allZero
+zero-end l i h = rw (drop-end l i h)

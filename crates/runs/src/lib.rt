@@ -1,9 +1,9 @@
 // Runs of bytes: copied, set to zero and compared, at any place of a slice.
 ghost use mathlib.Core.Path.{_≡_};
 ghost use Prim.Native.Nat.{_+_, _≤_};
-ghost use lib.ListN.{length, drop, replicate};
-ghost use Rattle.le.specs.Part.{over};
-ghost use Rattle.runs.specs.Run.{startsWith};
+ghost use lib.ListN.{length, drop};
+ghost use Rattle.le.specs.Part.{over, zeros};
+ghost use Rattle.runs.specs.Run.{startsWith, sameBytes, allZero};
 
 pub fn put_bytes(dst: &mut [u8], at: usize, src: &[u8])
     requires { ⌜ at + length (now src) ≤ length (now dst) ⌝ }
@@ -16,7 +16,7 @@ pub fn put_bytes(dst: &mut [u8], at: usize, src: &[u8])
 
 pub fn put_zeros(dst: &mut [u8], at: usize, n: usize)
     requires { ⌜ at + n ≤ length (now dst) ⌝ }
-    ensures { λ _. ⌜ now (dst .exit) ≡ over at (replicate n 0) (now (dst .entry)) ⌝ }
+    ensures { λ _. ⌜ now (dst .exit) ≡ over at (zeros n) (now (dst .entry)) ⌝ }
 {
     for i in 0..n {
         dst[at + i] = 0;
@@ -29,6 +29,32 @@ pub fn starts_with(bytes: &[u8], at: usize, what: &[u8]) -> bool
 {
     for i in 0..what.len() {
         if bytes[at + i] != what[i] {
+            return false;
+        }
+    }
+    true
+}
+
+// The two slices hold the same bytes.
+pub fn same(a: &[u8], b: &[u8]) -> bool
+    ensures { λ r. ⌜ r ≡ sameBytes (now (a .entry)) (now (b .entry)) ⌝ }
+{
+    if a.len() != b.len() {
+        return false;
+    }
+    for i in 0..a.len() {
+        if a[i] != b[i] {
+            return false;
+        }
+    }
+    true
+}
+
+pub fn all_zero(bytes: &[u8]) -> bool
+    ensures { λ r. ⌜ r ≡ allZero (now (bytes .entry)) ⌝ }
+{
+    for i in 0..bytes.len() {
+        if bytes[i] != 0 {
             return false;
         }
     }

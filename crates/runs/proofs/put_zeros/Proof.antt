@@ -5,20 +5,21 @@ use mathlib.Core.List.{List}
 use native.Mathlib.Omega.{arith}
 use borrow.Author.Needs.{needs}
 use denote.Ref.{now}
-use lib.ListN.{length, length-set, set, replicate}
+use lib.ListN.{length, length-set, set}
 use lib.Seq.{paste, paste-zero}
+use Rattle.le.specs.Part.{zeros}
 use Rattle.runs.proofs.Runs.{zero-more, zero-all}
 use Rattle.runs.proofs.put_zeros.Statement.{statement}
 use Rattle.runs.proofs.put_zeros.Tie as tie
 
 abbrev Inv-loop : tie.InvT-loop
-Inv-loop dst₀ at n i₀ dst i = (i ≤ n) × (length dst ≡ length dst₀) × (dst ≡ paste dst₀ at (replicate n 0) i)
+Inv-loop dst₀ at n i₀ dst i = (i ≤ n) × (length dst ≡ length dst₀) × (dst ≡ paste dst₀ at (zeros n) i)
 
 abbrev μ-loop : tie.MeasureT-loop
 μ-loop dst₀ at n i₀ dst i = n - i
 
 loop-holds : tie.Need-loop-holds Inv-loop μ-loop
-loop-holds c = (search needs, refl, paste-zero (now (c .args .dst)) (c .args .at) (replicate (c .args .n) 0))
+loop-holds c = (search needs, refl, paste-zero (now (c .args .dst)) (c .args .at) (zeros (c .args .n)))
 
 add-dst : tie.Need-add-dst Inv-loop μ-loop
 add-dst c = search needs
@@ -49,7 +50,7 @@ returns c =
     let l = c .before .loop in
     let a = c .before .before .args in
     let e : l .i ≡ a .n = omega arith in
-    l .inv .2 ∙ ap (λ (k : ℕ). paste (now (a .dst)) (a .at) (replicate (a .n) 0) k) e ∙ zero-all (now (a .dst)) (a .at) (a .n)
+    l .inv .2 ∙ ap (λ (k : ℕ). paste (now (a .dst)) (a .at) (zeros (a .n)) k) e ∙ zero-all (now (a .dst)) (a .at) (a .n)
 
 pub put-zeros-spec : {M : Type 1} → statement M
 put-zeros-spec =

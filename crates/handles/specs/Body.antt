@@ -1,5 +1,6 @@
 -- 01, "Header" and refusals 4 and 7: body sector k of the copy that a store value names. Assumes nothing.
 use Prim.Native.Nat.{ℕ, _+_}
+use mathlib.Core.Bool.{Bool}
 use mathlib.Core.List.{List}
 use lib.Dec.{eqb}
 use lib.ListN.{getD}
@@ -24,3 +25,7 @@ checkOf vol m st k =
     onDone (readOf m (bodyAt st k))
     (pick (eqb (crc32Of (sectorAt vol (bodyAt st k))) (getD (st .head .crcs) k 0)) Done (No Corrupt))
     No
+
+-- the check where a walk enters the sector
+unfoldable pub dueOf : List ℕ → Medium → Store → Bool → ℕ → Outcome
+dueOf vol m st enters k = pick enters (checkOf vol m st k) Done

@@ -7,7 +7,7 @@ ghost use Prim.Native.Nat.{ℕ, _+_, _*_, _<_, _≤_};
 ghost use lib.ListN.{length};
 ghost use Rattle.medium.specs.Sector.{sectorsOf};
 ghost use Rattle.handles.specs.Handles.{blankOf, noStore, tableOf, bodyOf, baseOf, saneOf, storeOk, endOk, readerOk};
-ghost use Rattle.handles.specs.Body.{checkOf};
+ghost use Rattle.handles.specs.Body.{checkOf, dueOf};
 
 // One copy's header: store id, generation, next file id, allocation cursor, chunks, sectors per chunk, and one checksum for each body sector.
 pub struct Header {
@@ -169,6 +169,17 @@ impl Store {
             return Outcome::Done;
         }
         Outcome::No(Error::Corrupt)
+    }
+
+    // The check of body sector `k` where a walk enters it.
+    pub fn due(self, volume: &[u8], medium: Medium, enters: bool, k: usize) -> Outcome
+        requires { ⌜ (64 ≤ sectorsOf (now volume)) × (k < 24) ⌝ }
+        ensures { λ r. ⌜ r ≡ dueOf (now (volume .entry)) medium self enters k ⌝ }
+    {
+        if enters {
+            return self.body(volume, medium, k);
+        }
+        Outcome::Done
     }
 }
 

@@ -1,0 +1,48 @@
+-- The edges of 01's rule for names and directories, computed from the definitions. Assumes nothing.
+use Prim.Native.Nat.{ℕ}
+use mathlib.Core.Path.{_≡_, refl}
+use mathlib.Core.Bool.{true, false}
+use mathlib.Core.List.{List, [], _∷_, _++_}
+use lib.ListN.{replicate}
+use Rattle.le.specs.Choice.{pick}
+use Rattle.names.specs.Names.{plainByte, everyByte, longer, segments, noneEmpty, nameOk, lastByte, allButLast, dirOk}
+
+-- n bytes `a`, and the same with `/` after them
+abbrev letters : ℕ → List ℕ
+letters n = replicate n 97
+
+abbrev lettersDir : ℕ → List ℕ
+lettersDir n = letters n ++ (47 ∷ [])
+
+pub record Edges : Type 0 where
+  pub empty-name : nameOk [] ≡ false
+  pub empty-dir : dirOk [] ≡ true
+  pub slash-name : nameOk (47 ∷ []) ≡ false
+  pub slash-dir : dirOk (47 ∷ []) ≡ false
+  -- a//b
+  pub double-slash : nameOk (97 ∷ 47 ∷ 47 ∷ 98 ∷ []) ≡ false
+  -- a/b
+  pub one-slash : nameOk (97 ∷ 47 ∷ 98 ∷ []) ≡ true
+  pub name-40 : nameOk (letters 40) ≡ true
+  pub name-41 : nameOk (letters 41) ≡ false
+  pub dir-40 : dirOk (lettersDir 39) ≡ true
+  pub dir-41 : dirOk (lettersDir 40) ≡ false
+  -- without its `/`
+  pub open-dir : dirOk (letters 40) ≡ false
+
+pub edges : Edges
+unfolding pick plainByte everyByte longer segments noneEmpty nameOk lastByte allButLast dirOk
+edges =
+    record {
+      empty-name = refl;
+      empty-dir = refl;
+      slash-name = refl;
+      slash-dir = refl;
+      double-slash = refl;
+      one-slash = refl;
+      name-40 = refl;
+      name-41 = refl;
+      dir-40 = refl;
+      dir-41 = refl;
+      open-dir = refl;
+    }

@@ -1,4 +1,4 @@
--- What a handle that passes refusal 3 tells. Assumes nothing.
+-- What a store value that passes refusal 3 tells. Assumes nothing.
 use mathlib.Core.Path.{_≡_, refl}
 use mathlib.Core.Bool.{Bool, true, false, not, _&&_}
 use Prim.Native.Nat.{ℕ, _+_, _-_, _*_, _^_, _≤_, _<_}
@@ -6,11 +6,9 @@ use native.Mathlib.Nat.{mul-le-mul}
 use native.Mathlib.Omega.{arith}
 use borrow.Author.Tests.{ltb-true, leb-true, eqb-false, not-true}
 use lib.Dec.{leb, ltb, eqb}
-use Rattle.handles.specs.declared.End.{End}
 use Rattle.handles.specs.declared.Header.{Header}
-use Rattle.handles.specs.declared.Reader.{Reader}
 use Rattle.handles.specs.declared.Store.{Store}
-use Rattle.handles.specs.Handles.{saneOf, storeOk, endOk, readerOk}
+use Rattle.handles.specs.Handles.{saneOf, storeOk}
 
 -- the product of two numbers of 32 bits, and 64 more, fit 64 bits
 pub product-fits : (a b : ℕ) → a < 2 ^ 32 → b < 2 ^ 32 → 64 + a * b < 2 ^ 64
@@ -70,35 +68,3 @@ store-facts st sectors e =
     let a = and-true _ _ e in
     let s : Sane (st .head) sectors = sane-facts (st .head) sectors (a .1) in
     record { copy = ltb-true _ _ (a .0); head = s; enough = omega (arith, s .room) }
-
--- a reader that passes beside a store value
-pub record Reads (rd : Reader) (st : Store) : Type 0 where
-  pub slot : rd .slot < 64
-  pub id : rd .id ≡ 0 → ⊥
-  pub chunks-least : 1 ≤ rd .chunks
-  pub chunks-most : rd .chunks ≤ 2048
-  pub chunk : rd .chunk < st .head .chunks
-  pub position : rd .position ≤ rd .chunks
-  pub index : rd .index ≤ st .head .chunk
-  pub end : endOk (rd .end) (st .head .chunk) ≡ true
-
-pub reader-facts : (rd : Reader) (st : Store) → readerOk rd st ≡ true → Reads rd st
-unfolding readerOk
-reader-facts rd st e =
-    let a = and-true _ _ e in
-    let b = and-true _ _ (a .1) in
-    let c = and-true _ _ (b .1) in
-    let c′ = and-true _ _ (c .0) in
-    let d = and-true _ _ (c .1) in
-    let f = and-true _ _ (d .1) in
-    let g = and-true _ _ (f .1) in
-    record {
-      slot = ltb-true _ _ (a .0);
-      id = eqb-false _ _ (not-true _ (b .0));
-      chunks-least = leb-true _ _ (c′ .0);
-      chunks-most = leb-true _ _ (c′ .1);
-      chunk = ltb-true _ _ (d .0);
-      position = leb-true _ _ (f .0);
-      index = leb-true _ _ (g .0);
-      end = g .1;
-    }

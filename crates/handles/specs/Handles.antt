@@ -1,14 +1,11 @@
--- 01, "Header" and refusal 3: the numbers of a header, and which handles no call accepts. Assumes nothing.
+-- 01, "Header" and refusal 3: the numbers of a header, and which store values no call accepts. Assumes nothing.
 use Prim.Native.Nat.{ℕ, _+_, _*_, _/_}
-use mathlib.Core.Bool.{Bool, true, false, not, _&&_}
+use mathlib.Core.Bool.{Bool, not, _&&_}
 use mathlib.Core.List.{List}
 use lib.Dec.{ltb, leb, eqb}
 use Rattle.le.specs.Choice.{pick}
 use Rattle.le.specs.Part.{zeros}
-use Rattle.handles.specs.declared.End.{End}
-use Rattle.handles.specs.declared.End.the-variants.{Last, Records}
 use Rattle.handles.specs.declared.Header.{Header}
-use Rattle.handles.specs.declared.Reader.{Reader}
 use Rattle.handles.specs.declared.Store.{Store}
 use Rattle.handles.specs.declared.Writer.the-variants.{Nobody}
 
@@ -35,18 +32,6 @@ saneOf h sectors =
 -- a store value that passes refusal 3
 unfoldable pub storeOk : Store → ℕ → Bool
 storeOk st sectors = ltb (st .copy) 2 && saneOf (st .head) sectors
-
--- where a chunk that is not the last ends
-abbrev pub endOk : End → ℕ → Bool
-endOk Last size = true
-endOk (Records n) size = leb n size
-
--- a reader that passes refusal 3, beside a store value
-unfoldable pub readerOk : Reader → Store → Bool
-readerOk rd st =
-    ltb (rd .slot) 64 && (not (eqb (rd .id) 0) && ((leb 1 (rd .chunks) && leb (rd .chunks) 2048)
-    && (ltb (rd .chunk) (st .head .chunks)
-    && (leb (rd .position) (rd .chunks) && (leb (rd .index) (st .head .chunk) && endOk (rd .end) (st .head .chunk))))))
 
 -- zeros where there is no header, and a store value that no call accepts
 unfoldable pub blankOf : Header

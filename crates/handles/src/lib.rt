@@ -1,4 +1,4 @@
-// The values that a caller holds between calls, the tests of 01's refusal 3 on a store value and a reader, and the check of a body sector.
+// The store value that a caller holds between calls, the tests of 01's refusal 3 on it, and the check of a body sector.
 use medium::Error;
 use medium::Medium;
 use medium::Outcome;
@@ -6,7 +6,7 @@ ghost use mathlib.Core.Path.{_≡_};
 ghost use Prim.Native.Nat.{ℕ, _+_, _*_, _<_, _≤_};
 ghost use lib.ListN.{length};
 ghost use Rattle.medium.specs.Sector.{sectorsOf};
-ghost use Rattle.handles.specs.Handles.{blankOf, noStore, tableOf, bodyOf, baseOf, saneOf, storeOk, endOk, readerOk};
+ghost use Rattle.handles.specs.Handles.{blankOf, noStore, tableOf, bodyOf, baseOf, saneOf, storeOk};
 ghost use Rattle.handles.specs.Body.{checkOf, dueOf};
 
 // One copy's header: store id, generation, next file id, allocation cursor, chunks, sectors per chunk, and one checksum for each body sector.
@@ -31,53 +31,6 @@ pub struct Store {
     pub copy: u64,
     pub head: Header,
     pub writer: Writer,
-}
-
-// A directory: the first `length` of its bytes.
-pub struct Dir {
-    pub bytes: [u8; 40],
-    pub length: usize,
-}
-
-// Where an appender's next record goes: record `index` of its chunk or, at the chunk size, another chunk; another chunk after so many
-// records of this one; nowhere, since an error closed it.
-pub enum Tail {
-    At(u32),
-    Reopened(u32),
-    Closed,
-}
-
-// The open file of a store, with the bytes that are not written yet. With `rolls`, a full store loses the oldest file in `dir`.
-pub struct Appender {
-    pub token: u32,
-    pub slot: usize,
-    pub id: u32,
-    pub chunk: u32,
-    pub position: u32,
-    pub tail: Tail,
-    pub fill: usize,
-    pub buffer: [u8; 486],
-    pub rolls: bool,
-    pub dir: Dir,
-}
-
-// The records of a reader's chunk when it is not the file's last.
-pub enum End {
-    Last,
-    Records(u32),
-}
-
-// A sequential reader of one file's records.
-pub struct Reader {
-    pub store: u64,
-    pub generation: u64,
-    pub slot: usize,
-    pub id: u32,
-    pub chunks: u32,
-    pub chunk: u32,
-    pub end: End,
-    pub position: u32,
-    pub index: u32,
 }
 
 // A header of zeros, where there is none.
@@ -180,31 +133,5 @@ impl Store {
             return self.body(volume, medium, k);
         }
         Outcome::Done
-    }
-}
-
-// The end of a reader's chunk is within a chunk.
-fn end_ok(end: End, size: u32) -> bool
-    ensures { λ r. ⌜ r ≡ endOk end size ⌝ }
-{
-    match end {
-        End::Last => true,
-        End::Records(n) => n <= size,
-    }
-}
-
-impl Reader {
-    // Refusal 3 on a reader, beside a store value.
-    pub fn handle_ok(self, store: Store) -> bool
-        ensures { λ r. ⌜ r ≡ readerOk self store ⌝ }
-    {
-        let e = self.end;
-        let h = store.head;
-        let ends = end_ok(e, h.chunk);
-        (self.slot < 64)
-            & ((self.id != 0)
-                & (((1 <= self.chunks) & (self.chunks <= 2048))
-                    & ((self.chunk < h.chunks)
-                        & ((self.position <= self.chunks) & ((self.index <= h.chunk) & ends)))))
     }
 }

@@ -1,9 +1,8 @@
 -- 01, "Directory entry": 64 bytes: name, zeros to 40, file id (not 0) at 40, zeros. All zeros is free. Assumes nothing.
-use Prim.Native.Nat.{ℕ, _+_, _-_, _*_, _/_, _%_}
+use Prim.Native.Nat.{ℕ, _-_, _*_, _/_, _%_}
 use mathlib.Core.Bool.{Bool, not, _&&_}
 use mathlib.Core.List.{List}
 use lib.Dec.{eqb}
-use lib.ListN.{take}
 use Rattle.le.specs.Choice.{pick}
 use Rattle.le.specs.Field.{getLe, putLe}
 use Rattle.le.specs.Part.{part, over, zeros}

@@ -4,14 +4,14 @@ use medium::Error;
 use medium::Medium;
 use medium::Outcome;
 ghost use mathlib.Core.Path.{_≡_};
-ghost use Prim.Native.Nat.{ℕ, _+_, _*_, _<_, _≤_};
+ghost use Prim.Native.Nat.{_+_, _*_, _<_, _≤_};
 ghost use lib.ListN.{length};
-ghost use Rattle.le.specs.Part.{part};
+ghost use Rattle.le.specs.Part.{part, over};
 ghost use Rattle.runs.specs.Run.{sameBytes};
 ghost use Rattle.names.specs.Names.{inDir};
 ghost use Rattle.medium.specs.Sector.{sectorsOf};
 ghost use Rattle.handles.specs.Handles.{baseOf};
-ghost use Rattle.directory.specs.Entry.{entryBytes, lenOf, entryOk, entryOf, entryAt, slotAt};
+ghost use Rattle.directory.specs.Entry.{entryBytes, entryOf, entryAt, slotAt};
 ghost use Rattle.directory.specs.Scan.{findOf, freeSeen, fileSeen, lookOf, olderOf, oldestOf};
 ghost use Rattle.directory.specs.Rows.{rowOf, rowsOf};
 
@@ -260,10 +260,10 @@ pub fn oldest(
     OldestFile::Done(old)
 }
 
-// Row `count` of the lent rows, made from the entry at byte `a` of the volume.
+// Row `count` of the lent rows: the name with zeros to 40, the id and the chunks.
 fn put_row(rows: &mut [u8], count: usize, name: &[u8], id: u32, chunks: u32)
     requires { ⌜ (48 * count + 48 ≤ length (now rows)) × (count < 64) × (length (now name) ≤ 40) ⌝ }
-    ensures { λ _. ⌜ now (rows .exit) ≡ Rattle.le.specs.Part.over (48 * count) (rowOf (now (name .entry)) id chunks) (now (rows .entry)) ⌝ }
+    ensures { λ _. ⌜ now (rows .exit) ≡ over (48 * count) (rowOf (now (name .entry)) id chunks) (now (rows .entry)) ⌝ }
 {
     let at = 48 * count;
     let len = name.len();

@@ -1,15 +1,20 @@
+use mathlib.Core.Path.{sym}
+use Rattle.le.proofs.Choices.{pick-true, pick-false}
+use Rattle.directory.specs.Scan.{fileSeen}
 use Rattle.directory.proofs.file_seen.Statement.{statement}
 use Rattle.directory.proofs.file_seen.Tie as tie
-use Rattle.directory.proofs.file_seen.Reads as reads
-use Rattle.directory.proofs.file_seen.Lts as lts
 
--- src/lib.rt:158:9
 returns : tie.Need-returns
-returns c = ?
+unfolding fileSeen
+returns c = sym (pick-true _ _ (c .if1 .taken))
 
--- src/lib.rt:154:1
 returns-2 : tie.Need-returns-2
-returns-2 c = ?
+unfolding fileSeen
+returns-2 c = sym (pick-false _ _ (c .if1 .left))
 
 pub file-seen-spec : {M : Type 1} → statement M
-file-seen-spec = tie.close (tie.spec returns returns-2)
+file-seen-spec =
+    tie.close
+    (tie.spec
+    returns
+    returns-2)

@@ -1,70 +1,67 @@
+use borrow.Author.Needs.{needs}
+use mathlib.Core.Path.{refl}
+use Prim.Native.Nat.{_-_}
+use Rattle.le.proofs.Choices.{pick-true, pick-false}
+use Rattle.le.proofs.Turns.{told}
+use Rattle.walk.proofs.Laws.{at-start, at-next, at-stop, at-end}
+use Rattle.directory.specs.Scan.{finding, findOf}
+use Rattle.directory.proofs.Entries.{found-file}
+use Rattle.directory.proofs.Scans.{ScanAt}
 use Rattle.directory.proofs.find.Statement.{statement}
 use Rattle.directory.proofs.find.Tie as tie
-use Rattle.directory.proofs.find.Reads as reads
-use Rattle.directory.proofs.find.Lts as lts
-use Rattle.directory.proofs.named.Reads as named-reads
-use Rattle.directory.proofs.slot_at.Reads as slot-at-reads
 
 abbrev Inv-loop : tie.InvT-loop
-Inv-loop volume medium store name next₀ next = ?
+Inv-loop volume medium store name i₀ i = ScanAt (finding name) volume medium store (findOf volume medium store name) i tt
 
 abbrev μ-loop : tie.MeasureT-loop
-μ-loop volume medium store name next₀ next = ?
+μ-loop volume medium store name i₀ i = 64 - i
 
--- src/lib.rt:110:5
 loop-holds : tie.Need-loop-holds Inv-loop μ-loop
-loop-holds c = ?
+unfolding findOf
+loop-holds c = at-start _ _ _ _ _
 
--- src/lib.rt:112:13
 slot-at-requires : tie.Need-slot-at-requires Inv-loop μ-loop
-slot-at-requires c κs = ?
+slot-at-requires c κs = search needs
 
--- src/lib.rt:113:9
 add-next : tie.Need-add-next Inv-loop μ-loop
-add-next c = ?
+add-next c = search needs
 
--- src/lib.rt:115:27
 enum-known-s : tie.Need-enum-known-s Inv-loop μ-loop
-enum-known-s c = ?
+enum-known-s c = search needs
 
--- src/lib.rt:116:17
 returns : tie.Need-returns Inv-loop μ-loop
-returns c = ?
+returns c = let t = c .before .before .before .before in at-stop (t .before .loop .inv) (t .loop-test .taken) (c .before .before .before .slot-at .ensures) (c .before .s .given .1) refl
 
 enum-told : tie.Need-enum-told Inv-loop μ-loop
-enum-told c = ?
+enum-told c = search needs
 
--- src/lib.rt:110:5
 loop-less : tie.Need-loop-less Inv-loop μ-loop
-loop-less c = ?
+loop-less c = search needs
 
--- src/lib.rt:110:5
 loop-again : tie.Need-loop-again Inv-loop μ-loop
-loop-again c = ?
+loop-again c = let t = c .before .before .before in at-next (t .before .loop .inv) (t .loop-test .taken) (c .before .before .slot-at .ensures) (c .enum-told .given .1) refl
 
--- src/lib.rt:119:26
 enum-known-s-2 : tie.Need-enum-known-s-2 Inv-loop μ-loop
-enum-known-s-2 c = ?
+enum-known-s-2 c = search needs
 
--- src/lib.rt:120:20
 named-requires : tie.Need-named-requires Inv-loop μ-loop
-named-requires c κs = ?
+named-requires c κs = (search needs, search needs, found-file _ _ _ _ (c .before .before .before .slot-at .ensures) (c .before .s2 .given .1) .short)
 
--- src/lib.rt:121:21
 returns-2 : tie.Need-returns-2 Inv-loop μ-loop
-returns-2 c = ?
+returns-2 c = at-stop (c .before .before .before .before .before .before .before .loop .inv) (c .before .before .before .before .before .before .loop-test .taken)
+    (c .before .before .before .before .before .slot-at .ensures) (c .before .before .before .s2 .given .1)
+    (pick-true _ _ (told (c .before .named .ensures) (c .if1 .taken)))
 
--- src/lib.rt:110:5
 loop-less-2 : tie.Need-loop-less-2 Inv-loop μ-loop
-loop-less-2 c = ?
+loop-less-2 c = search needs
 
--- src/lib.rt:110:5
 loop-again-2 : tie.Need-loop-again-2 Inv-loop μ-loop
-loop-again-2 c = ?
+loop-again-2 c = at-next (c .before .before .before .before .before .before .before .loop .inv) (c .before .before .before .before .before .before .loop-test .taken)
+    (c .before .before .before .before .before .slot-at .ensures) (c .before .before .before .s2 .given .1)
+    (pick-false _ _ (told (c .before .named .ensures) (c .if1 .left)))
 
--- src/lib.rt:105:1
 returns-3 : tie.Need-returns-3 Inv-loop μ-loop
-returns-3 c = ?
+returns-3 c = at-end (c .before .loop .inv) (c .loop-test .left)
 
 pub find-spec : {M : Type 1} → statement M
 find-spec =

@@ -1,15 +1,20 @@
+use mathlib.Core.Path.{sym}
+use Rattle.le.proofs.Choices.{pick-true, pick-false}
+use Rattle.directory.specs.Scan.{freeSeen}
 use Rattle.directory.proofs.free_seen.Statement.{statement}
 use Rattle.directory.proofs.free_seen.Tie as tie
-use Rattle.directory.proofs.free_seen.Reads as reads
-use Rattle.directory.proofs.free_seen.Lts as lts
 
--- src/lib.rt:145:9
 returns : tie.Need-returns
-returns c = ?
+unfolding freeSeen
+returns c = sym (pick-true _ _ (c .if1 .taken))
 
--- src/lib.rt:141:1
 returns-2 : tie.Need-returns-2
-returns-2 c = ?
+unfolding freeSeen
+returns-2 c = sym (pick-false _ _ (c .if1 .left))
 
 pub free-seen-spec : {M : Type 1} → statement M
-free-seen-spec = tie.close (tie.spec returns returns-2)
+free-seen-spec =
+    tie.close
+    (tie.spec
+    returns
+    returns-2)

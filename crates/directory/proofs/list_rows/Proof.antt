@@ -1,120 +1,125 @@
+use borrow.Author.Needs.{needs}
+use mathlib.Core.Path.{_≡_, refl, ap}
+use Prim.Native.Nat.{_-_, _≤_}
+use native.Mathlib.Omega.{arith}
+use denote.Ref.{now}
+use lib.ListN.{length}
+use Rattle.walk.proofs.Laws.{at-start, at-next, at-stop, at-end}
+use Rattle.directory.specs.Rows.{RowsOut, listing, rowsOf}
+use Rattle.directory.proofs.Entries.{found-file}
+use Rattle.directory.proofs.Places.{name-slice, slice-short}
+use Rattle.directory.proofs.RowParts.{row-made, row-skipped}
+use Rattle.directory.proofs.Scans.{ScanAt}
 use Rattle.directory.proofs.list_rows.Statement.{statement}
 use Rattle.directory.proofs.list_rows.Tie as tie
-use Rattle.directory.proofs.list_rows.Reads as reads
-use Rattle.directory.proofs.list_rows.Lts as lts
-use Rattle.directory.proofs.entry_place.Reads as entry-place-reads
-use Rattle.directory.proofs.is_in.Reads as is-in-reads
-use Rattle.directory.proofs.put_row.Reads as put-row-reads
-use Rattle.directory.proofs.slot_at.Reads as slot-at-reads
+
+three : {o w : RowsOut} → o ≡ w → (o .made .rows ≡ w .made .rows) × (o .outcome ≡ w .outcome) × (o .made .count ≡ w .made .count)
+three e = (ap (λ (x : RowsOut). x .made .rows) e, ap (λ (x : RowsOut). x .outcome) e, ap (λ (x : RowsOut). x .made .count) e)
 
 abbrev Inv-loop : tie.InvT-loop
-Inv-loop volume medium store dir counts rows₀ count₀ next₀ rows count next = ?
+Inv-loop volume medium store dir counts rows₀ count₀ i₀ rows count i = (ScanAt (listing dir counts) volume medium store (rowsOf volume medium store dir counts rows₀) i
+    (record { rows = rows; count = count })) × (count ≤ i) × (length rows ≡ length rows₀)
 
 abbrev μ-loop : tie.MeasureT-loop
-μ-loop volume medium store dir counts rows₀ count₀ next₀ rows count next = ?
+μ-loop volume medium store dir counts rows₀ count₀ i₀ rows count i = 64 - i
 
--- src/lib.rt:295:5
 loop-holds : tie.Need-loop-holds Inv-loop μ-loop
-loop-holds c = ?
+unfolding rowsOf
+loop-holds c = (at-start _ _ _ _ _, search needs, refl)
 
--- src/lib.rt:297:13
 slot-at-requires : tie.Need-slot-at-requires Inv-loop μ-loop
-slot-at-requires c κs = ?
+slot-at-requires c κs = search needs
 
--- src/lib.rt:298:9
 add-next : tie.Need-add-next Inv-loop μ-loop
-add-next c = ?
+add-next c = search needs
 
--- src/lib.rt:300:27
 enum-known-s : tie.Need-enum-known-s Inv-loop μ-loop
-enum-known-s c = ?
+enum-known-s c = search needs
 
--- src/lib.rt:301:17
 same-length : tie.Need-same-length Inv-loop μ-loop
-same-length c = ?
+same-length c = c .before .before .before .before .before .loop .inv .2
 
--- src/lib.rt:301:17
 returns : tie.Need-returns Inv-loop μ-loop
-returns c = ?
+returns c = let t = c .before .before .before .before in three (at-stop (t .before .loop .inv .0) (t .loop-test .taken) (c .before .before .before .slot-at .ensures) (c .before .s .given .1) refl)
 
 enum-told : tie.Need-enum-told Inv-loop μ-loop
-enum-told c = ?
+enum-told c = search needs
 
--- src/lib.rt:295:5
 loop-less : tie.Need-loop-less Inv-loop μ-loop
-loop-less c = ?
+loop-less c = search needs
 
--- src/lib.rt:295:5
 loop-again : tie.Need-loop-again Inv-loop μ-loop
-loop-again c = ?
+loop-again c = let t = c .before .before .before in
+    (at-next (t .before .loop .inv .0) (t .loop-test .taken) (c .before .before .slot-at .ensures) (c .enum-told .given .1) refl, omega arith, t .before .loop .inv .2)
 
--- src/lib.rt:307:26
 enum-known-s-2 : tie.Need-enum-known-s-2 Inv-loop μ-loop
-enum-known-s-2 c = ?
+enum-known-s-2 c = search needs
 
--- src/lib.rt:308:20
 is-in-requires : tie.Need-is-in-requires Inv-loop μ-loop
-is-in-requires c κs = ?
+is-in-requires c κs = (search needs, search needs, found-file _ _ _ _ (c .before .before .before .slot-at .ensures) (c .before .s2 .given .1) .short)
 
--- src/lib.rt:309:25
 entry-place-requires : tie.Need-entry-place-requires Inv-loop μ-loop
-entry-place-requires c κs = ?
+entry-place-requires c κs = search needs
 
--- src/lib.rt:310:53
 add-put-row : tie.Need-add-put-row Inv-loop μ-loop
-add-put-row c = ?
+add-put-row c = search (needs, found-file _ _ _ _ (c .before .before .before .before .before .before .before .slot-at .ensures) (c .before .before .before .before .before .s2 .given .1) .short)
 
--- src/lib.rt:310:42
 sub-put-row : tie.Need-sub-put-row Inv-loop μ-loop
-sub-put-row c = ?
+sub-put-row c = search needs
 
--- src/lib.rt:310:42
 part-put-row-start : tie.Need-part-put-row-start Inv-loop μ-loop
-part-put-row-start c = ?
+part-put-row-start c = search needs
 
--- src/lib.rt:310:42
 part-put-row-end : tie.Need-part-put-row-end Inv-loop μ-loop
-part-put-row-end c = ?
+part-put-row-end c = search (needs, found-file _ _ _ _ (c .before .before .before .before .before .before .before .slot-at .ensures) (c .before .before .before .before .before .s2 .given .1) .short)
 
--- src/lib.rt:310:67
 mul-put-row : tie.Need-mul-put-row Inv-loop μ-loop
-mul-put-row c = ?
+mul-put-row c = search needs
 
--- src/lib.rt:310:67
 shared-slice-read-put-row : tie.Need-shared-slice-read-put-row Inv-loop μ-loop
-shared-slice-read-put-row c = ?
+shared-slice-read-put-row c = search needs
 
--- src/lib.rt:310:21
 put-row-requires : tie.Need-put-row-requires Inv-loop μ-loop
-put-row-requires c κs = ?
+put-row-requires c κs = let s = c .before .before .before .before .before .before .before in
+    (omega arith, omega arith, slice-short _ _ _ (found-file _ _ _ _ (s .before .before .slot-at .ensures) (s .s2 .given .1) .short))
 
--- src/lib.rt:311:21
 add-count : tie.Need-add-count Inv-loop μ-loop
-add-count c = ?
+add-count c = search needs
 
--- src/lib.rt:295:5
 loop-less-2 : tie.Need-loop-less-2 Inv-loop μ-loop
-loop-less-2 c = ?
+loop-less-2 c = search needs
 
--- src/lib.rt:295:5
 loop-again-2 : tie.Need-loop-again-2 Inv-loop μ-loop
-loop-again-2 c = ?
+loop-again-2 c = let s = c .before .before .before .before .before .before .before .before .before .before in
+    let t = s .before .before .before in
+    let l = t .before .loop in
+    let a = t .before .before .before .before .before .before .args in
+    let n = name-slice (now (a .volume)) (a .store) (l .next) (c .before .before .before .before .before .before .entry-place .ensures .0) (found-file _ _ _ _ (s .before .before .slot-at .ensures) (s .s2 .given .1) .short) in (
+      at-next (l .inv .0) (t .loop-test .taken) (s .before .before .slot-at .ensures) (s .s2 .given .1)
+          (row-made (now (a .dir)) (now (a .counts)) (l .next) _ _ (l .rows) (l .count) (c .before .before .before .before .before .before .before .before .is-in .ensures) _ _ (c .before .before .before .before .before .before .before .if1 .taken) (c .before .before .put-row .ensures) n),
+      omega arith,
+      search needs,
+    )
 
--- src/lib.rt:295:5
 loop-less-3 : tie.Need-loop-less-3 Inv-loop μ-loop
-loop-less-3 c = ?
+loop-less-3 c = search needs
 
--- src/lib.rt:295:5
 loop-again-3 : tie.Need-loop-again-3 Inv-loop μ-loop
-loop-again-3 c = ?
+loop-again-3 c = let s = c .before .before .before in
+    let t = s .before .before .before in
+    let l = t .before .loop in
+    let a = t .before .before .before .before .before .before .args in (
+      at-next (l .inv .0) (t .loop-test .taken) (s .before .before .slot-at .ensures) (s .s2 .given .1)
+          (row-skipped (now (a .dir)) (now (a .counts)) (l .next) _ _ (l .rows) (l .count) (c .before .is-in .ensures) (c .if1 .left)),
+      omega arith,
+      l .inv .2,
+    )
 
--- src/lib.rt:282:1
 same-length-2 : tie.Need-same-length-2 Inv-loop μ-loop
-same-length-2 c = ?
+same-length-2 c = c .before .loop .inv .2
 
--- src/lib.rt:282:1
 returns-2 : tie.Need-returns-2 Inv-loop μ-loop
-returns-2 c = ?
+returns-2 c = three (at-end (c .before .loop .inv .0) (c .loop-test .left))
 
 pub list-rows-spec : {M : Type 1} → statement M
 list-rows-spec =

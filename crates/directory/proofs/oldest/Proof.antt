@@ -1,71 +1,63 @@
+use borrow.Author.Needs.{needs}
+use mathlib.Core.Path.{refl}
+use Prim.Native.Nat.{_-_}
+use Rattle.walk.proofs.Laws.{at-start, at-next, at-stop, at-end}
+use Rattle.directory.specs.Scan.{seeking, oldestOf}
+use Rattle.directory.proofs.Entries.{found-file}
+use Rattle.directory.proofs.Scans.{ScanAt}
 use Rattle.directory.proofs.oldest.Statement.{statement}
 use Rattle.directory.proofs.oldest.Tie as tie
-use Rattle.directory.proofs.oldest.Reads as reads
-use Rattle.directory.proofs.oldest.Lts as lts
-use Rattle.directory.proofs.is_in.Reads as is-in-reads
-use Rattle.directory.proofs.older.Reads as older-reads
-use Rattle.directory.proofs.slot_at.Reads as slot-at-reads
 
 abbrev Inv-loop : tie.InvT-loop
-Inv-loop volume medium store dir keeping keep old₀ next₀ old next = ?
+Inv-loop volume medium store dir keeping keep old₀ i₀ old i = ScanAt (seeking dir keeping keep) volume medium store (oldestOf volume medium store dir keeping keep) i old
 
 abbrev μ-loop : tie.MeasureT-loop
-μ-loop volume medium store dir keeping keep old₀ next₀ old next = ?
+μ-loop volume medium store dir keeping keep old₀ i₀ old i = 64 - i
 
--- src/lib.rt:244:5
 loop-holds : tie.Need-loop-holds Inv-loop μ-loop
-loop-holds c = ?
+unfolding oldestOf
+loop-holds c = at-start _ _ _ _ _
 
--- src/lib.rt:246:13
 slot-at-requires : tie.Need-slot-at-requires Inv-loop μ-loop
-slot-at-requires c κs = ?
+slot-at-requires c κs = search needs
 
--- src/lib.rt:247:9
 add-next : tie.Need-add-next Inv-loop μ-loop
-add-next c = ?
+add-next c = search needs
 
--- src/lib.rt:249:27
 enum-known-s : tie.Need-enum-known-s Inv-loop μ-loop
-enum-known-s c = ?
+enum-known-s c = search needs
 
--- src/lib.rt:250:17
 returns : tie.Need-returns Inv-loop μ-loop
-returns c = ?
+returns c = let t = c .before .before .before .before in at-stop (t .before .loop .inv) (t .loop-test .taken) (c .before .before .before .slot-at .ensures) (c .before .s .given .1) refl
 
 enum-told : tie.Need-enum-told Inv-loop μ-loop
-enum-told c = ?
+enum-told c = search needs
 
--- src/lib.rt:244:5
 loop-less : tie.Need-loop-less Inv-loop μ-loop
-loop-less c = ?
+loop-less c = search needs
 
--- src/lib.rt:244:5
 loop-again : tie.Need-loop-again Inv-loop μ-loop
-loop-again c = ?
+loop-again c = let t = c .before .before .before in at-next (t .before .loop .inv) (t .loop-test .taken) (c .before .before .slot-at .ensures) (c .enum-told .given .1) refl
 
--- src/lib.rt:253:26
 enum-known-s-2 : tie.Need-enum-known-s-2 Inv-loop μ-loop
-enum-known-s-2 c = ?
+enum-known-s-2 c = search needs
 
--- src/lib.rt:255:21
 is-in-requires : tie.Need-is-in-requires Inv-loop μ-loop
-is-in-requires c κs = ?
+is-in-requires c κs = (search needs, search needs, found-file _ _ _ _ (c .before .before .before .slot-at .ensures) (c .before .s2 .given .1) .short)
 
--- src/lib.rt:256:17
 older-requires : tie.Need-older-requires Inv-loop μ-loop
-older-requires c κs = ?
+older-requires c κs = search needs
 
--- src/lib.rt:244:5
 loop-less-2 : tie.Need-loop-less-2 Inv-loop μ-loop
-loop-less-2 c = ?
+loop-less-2 c = search needs
 
--- src/lib.rt:244:5
 loop-again-2 : tie.Need-loop-again-2 Inv-loop μ-loop
-loop-again-2 c = ?
+loop-again-2 c = let t = c .before .before .before .before .before .before in
+    at-next (t .before .loop .inv) (t .loop-test .taken) (c .before .before .before .before .before .slot-at .ensures) (c .before .before .before .s2 .given .1)
+    (rw (c .older .ensures, c .before .is-in .ensures, found-file _ _ _ _ (c .before .before .before .before .before .slot-at .ensures) (c .before .before .before .s2 .given .1) .whole))
 
--- src/lib.rt:226:1
 returns-2 : tie.Need-returns-2 Inv-loop μ-loop
-returns-2 c = ?
+returns-2 c = at-end (c .before .loop .inv) (c .loop-test .left)
 
 pub oldest-spec : {M : Type 1} → statement M
 oldest-spec =

@@ -7,6 +7,7 @@ use lib.Dec.{ltb}
 use lib.ListN.{length}
 use Rattle.le.specs.Choice.{pick}
 use Rattle.le.specs.Part.{over, zeros}
+use Rattle.medium.specs.declared.Error.{Error}
 use Rattle.medium.specs.declared.Error.the-variants as no
 use Rattle.medium.specs.declared.Medium.{Medium}
 use Rattle.medium.specs.declared.Outcome.{Outcome}
@@ -18,11 +19,16 @@ use Rattle.directory.specs.declared.Found.{Found}
 use Rattle.directory.specs.declared.Found.the-variants as found
 use Rattle.directory.specs.Scan.{findOf}
 use Rattle.directory.specs.Rows.{RowsOut, rowsOf}
-use Rattle.table.specs.Table.{Counted, countOf}
+use Rattle.table.specs.declared.Chained.{Chained}
+use Rattle.table.specs.declared.Chained.the-variants as chained
+use Rattle.table.specs.Table.{Counted, countOf, chainOf}
+use Rattle.reader.specs.declared.Reader.{Reader}
+use Rattle.reader.specs.Reader.{startOf, noReader}
 use Rattle.store.specs.Asked.{askedName, askedDir}
 use Rattle.store.specs.declared.FindAnswer.{FindAnswer}
 use Rattle.store.specs.declared.ListAnswer.{ListAnswer}
 use Rattle.store.specs.declared.MountAnswer.{MountAnswer}
+use Rattle.store.specs.declared.ReaderAnswer.{ReaderAnswer}
 
 -- ---- mount: the store
 
@@ -84,3 +90,33 @@ unfoldable pub listCall : List ℕ → Medium → Store → List ℕ → List �
 listCall vol m st dir counts rows =
     pick (ltb (length rows) 3072 || ltb (length counts) 64) (listAt m (No no.Range) 0 counts rows)
     (onDone (askedDir vol st dir) (listed vol m st dir counts rows) (λ e. listAt m (No e) 0 counts rows))
+
+-- ---- reader: from the file's first record
+
+pub record ReaderCall : Type 0 where
+  pub answer : Answer Unit
+  pub reader : Reader
+  pub medium : Medium
+
+abbrev pub readerAt : Medium → Outcome → Reader → ReaderCall
+readerAt m o rd = record { answer = outcomeOf o; reader = rd; medium = m }
+
+abbrev pub readerAnswer : ReaderAnswer → ReaderCall
+readerAnswer r = readerAt (r .medium) (r .outcome) (r .reader)
+
+-- what a refused call hands back
+abbrev pub noReaderAnswer : Error → Medium → ReaderAnswer
+noReaderAnswer e m = record { outcome = No e; reader = noReader; medium = m }
+
+-- the chain of the file found
+unfoldable pub onChain : Medium → Store → ℕ → ℕ → Chained → ReaderCall
+onChain m st slot id (chained.Refused e) = readerAt m (No e) noReader
+onChain m st slot id (chained.Whole p) = readerAt m Done (startOf st slot id p)
+
+unfoldable pub onFound : List ℕ → Medium → Store → Found → ReaderCall
+onFound vol m st (found.Refused e) = readerAt m (No e) noReader
+onFound vol m st (found.At slot id) = onChain m st slot id (chainOf vol m st slot)
+
+unfoldable pub readerCall : List ℕ → Medium → Store → List ℕ → ReaderCall
+readerCall vol m st name =
+    onDone (askedName vol st name) (onFound vol m st (findOf vol m st name)) (λ e. readerAt m (No e) noReader)

@@ -4,12 +4,14 @@ use handles::Store;
 use medium::Error;
 use medium::Medium;
 use medium::Outcome;
+use reader::Reader;
+use table::Chained;
 ghost use mathlib.Core.Path.{_≡_};
 ghost use Prim.Native.Nat.{_≤_};
 ghost use lib.ListN.{length};
 ghost use Rattle.le.specs.Part.{over, zeros};
 ghost use Rattle.store.specs.Asked.{askedOf};
-ghost use Rattle.store.specs.Reading.{mountAnswer, mountCall, findAnswer, findCall, listAnswer, listCall};
+ghost use Rattle.store.specs.Reading.{mountAnswer, mountCall, findAnswer, findCall, listAnswer, listCall, noReaderAnswer, readerAnswer, readerCall};
 
 // Refusals 3 and 1 of a call that takes a store value and a name or directory; `fine`: that one passes its rule.
 fn asked(volume: &[u8], store: Store, fine: bool) -> Outcome
@@ -121,5 +123,51 @@ pub fn list(
         outcome,
         count: made.count,
         medium,
+    }
+}
+
+pub struct ReaderAnswer {
+    pub outcome: Outcome,
+    pub reader: Reader,
+    pub medium: Medium,
+}
+
+// A refused reader call hands back a reader that no call accepts.
+fn no_reader(e: Error, medium: Medium) -> ReaderAnswer
+    ensures { λ r. ⌜ r ≡ noReaderAnswer e medium ⌝ }
+{
+    let reader = reader::no_reader();
+    ReaderAnswer {
+        outcome: Outcome::No(e),
+        reader,
+        medium,
+    }
+}
+
+// A reader of a file from its first record.
+pub fn reader(volume: &[u8], medium: Medium, store: Store, name: &[u8]) -> ReaderAnswer
+    ensures { λ r. ⌜ readerAnswer r ≡ readerCall (now (volume .entry)) medium store (now (name .entry)) ⌝ }
+{
+    let o = asked(volume, store, names::name_ok(name));
+    if let Outcome::No(e) = o {
+        return no_reader(e, medium);
+    }
+    let f = directory::find(volume, medium, store, name);
+    match f {
+        Found::Refused(e) => no_reader(e, medium),
+        Found::At { slot, id } => {
+            let c = table::chain(volume, medium, store, slot);
+            match c {
+                Chained::Refused(e) => no_reader(e, medium),
+                Chained::Whole(p) => {
+                    let reader = Reader::start(store, slot, id, p);
+                    ReaderAnswer {
+                        outcome: Outcome::Done,
+                        reader,
+                        medium,
+                    }
+                }
+            }
+        }
     }
 }

@@ -1,0 +1,82 @@
+use borrow.Author.Needs.{needs}
+use Rattle.store.proofs.Laws.{asked-done}
+use Rattle.store.proofs.Starts.{input-refused, not-found, no-chain, started}
+use Rattle.store.proofs.reader.Statement.{statement}
+use Rattle.store.proofs.reader.Tie as tie
+
+name-ok-requires : tie.Need-name-ok-requires
+name-ok-requires c κs = search needs
+
+asked-requires : tie.Need-asked-requires
+asked-requires c κs = search needs
+
+enum-known-o : tie.Need-enum-known-o
+enum-known-o c = search needs
+
+no-reader-requires : tie.Need-no-reader-requires
+no-reader-requires c κs = search needs
+
+returns : tie.Need-returns
+returns c = let a = c .before .before .before .before .before .before .before .before .args in input-refused (a .volume .now) (a .medium) (a .store) (a .name .now) (c .before .before .before .before .before .name-ok .ensures) (c .before .before .before .before .asked .ensures) (c .before .before .o .given .1) (c .no-reader .ensures)
+
+enum-told : tie.Need-enum-told
+enum-told c = search needs
+
+find-requires : tie.Need-find-requires
+find-requires c κs = asked-done (c .before .before .before .before .before .before .args .volume .now) (c .before .before .before .before .before .before .args .store) _ (c .before .before .asked .ensures) (c .enum-told .given .1) .held .enough
+
+enum-known-f : tie.Need-enum-known-f
+enum-known-f c = search needs
+
+no-reader-requires-2 : tie.Need-no-reader-requires-2
+no-reader-requires-2 c κs = search needs
+
+enum-known-f-2 : tie.Need-enum-known-f-2
+enum-known-f-2 c = search needs
+
+chain-requires : tie.Need-chain-requires
+chain-requires c κs = let h = asked-done (c .before .before .before .before .before .before .before .before .before .before .args .volume .now) (c .before .before .before .before .before .before .before .before .before .before .args .store) _ (c .before .before .before .before .before .before .asked .ensures) (c .before .before .before .before .enum-told .given .1) .held in (h .enough, h .head .chunks-most)
+
+enum-known-c : tie.Need-enum-known-c
+enum-known-c c = search needs
+
+no-reader-requires-3 : tie.Need-no-reader-requires-3
+no-reader-requires-3 c κs = search needs
+
+enum-known-c-2 : tie.Need-enum-known-c-2
+enum-known-c-2 c = search needs
+
+start-requires : tie.Need-start-requires
+start-requires c κs = search needs
+
+returns-2 : tie.Need-returns-2
+returns-2 c = let a = c .before .before .before .before .before .before .before .before .before .before .before .args in not-found (a .volume .now) (a .medium) (a .store) (a .name .now) (c .before .before .before .before .before .before .before .before .name-ok .ensures) (c .before .before .before .before .before .before .before .asked .ensures) (c .before .before .before .before .before .enum-told .given .1) (c .before .before .before .before .find .ensures) (c .before .before .f .given .1) (c .no-reader2 .ensures)
+
+returns-3 : tie.Need-returns-3
+returns-3 c = let a = c .before .before .before .before .before .before .before .before .before .before .before .before .before .before .before .args in no-chain (a .volume .now) (a .medium) (a .store) (a .name .now) (c .before .before .before .before .before .before .before .before .before .before .before .before .name-ok .ensures) (c .before .before .before .before .before .before .before .before .before .before .before .asked .ensures) (c .before .before .before .before .before .before .before .before .before .enum-told .given .1) (c .before .before .before .before .before .before .before .before .find .ensures) (c .before .before .before .before .before .before .f2 .given .1) (c .before .before .before .before .chain .ensures) (c .before .before .c .given .1) (c .no-reader3 .ensures)
+
+returns-4 : tie.Need-returns-4
+returns-4 c = let a = c .before .before .before .before .before .before .before .before .before .before .before .before .before .before .before .args in started (a .volume .now) (a .medium) (a .store) (a .name .now) (c .before .before .before .before .before .before .before .before .before .before .before .before .name-ok .ensures) (c .before .before .before .before .before .before .before .before .before .before .before .asked .ensures) (c .before .before .before .before .before .before .before .before .before .enum-told .given .1) (c .before .before .before .before .before .before .before .before .find .ensures) (c .before .before .before .before .before .before .f2 .given .1) (c .before .before .before .before .chain .ensures) (c .before .before .c2 .given .1) (c .start .ensures)
+
+pub reader-spec : {M : Type 1} → statement M
+reader-spec =
+    tie.close
+    (tie.spec
+    name-ok-requires
+    asked-requires
+    enum-known-o
+    no-reader-requires
+    returns
+    enum-told
+    find-requires
+    enum-known-f
+    no-reader-requires-2
+    enum-known-f-2
+    chain-requires
+    enum-known-c
+    no-reader-requires-3
+    enum-known-c-2
+    start-requires
+    returns-2
+    returns-3
+    returns-4)

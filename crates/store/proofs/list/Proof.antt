@@ -1,0 +1,82 @@
+use borrow.Author.Needs.{needs}
+use mathlib.Core.Path.{_≡_, refl, sym, ap, _∙_}
+use native.Mathlib.Omega.{arith}
+use Rattle.store.proofs.Laws.{asked-done, cleared-zero}
+use Rattle.store.proofs.Lists.{roomy, short-refused, input-refused, count-refused, rows-told}
+use Rattle.store.proofs.list.Statement.{statement}
+use Rattle.store.proofs.list.Tie as tie
+
+returns : tie.Need-returns
+returns c = let a = c .before .before .before .before .before .args in short-refused (a .volume .now) (a .medium) (a .store) (a .dir .now) (a .counts .now) (a .rows .now) (c .if1 .taken)
+
+dir-ok-requires : tie.Need-dir-ok-requires
+dir-ok-requires c κs = search needs
+
+asked-requires : tie.Need-asked-requires
+asked-requires c κs = search needs
+
+enum-known-o : tie.Need-enum-known-o
+enum-known-o c = search needs
+
+returns-2 : tie.Need-returns-2
+returns-2 c = let a = c .before .before .before .before .before .before .before .before .before .before .args in input-refused (a .volume .now) (a .medium) (a .store) (a .dir .now) (a .counts .now) (a .rows .now) (c .before .before .before .before .before .if1 .left) (c .before .before .before .before .dir-ok .ensures) (c .before .before .before .asked .ensures) (c .before .o .given .1)
+
+enum-told : tie.Need-enum-told
+enum-told c = search needs
+
+clear-counts-requires : tie.Need-clear-counts-requires
+clear-counts-requires c κs = let a = c .before .before .before .before .before .before .before .before .before .before .args in roomy (a .counts .now) (a .rows .now) (c .before .before .before .before .before .if1 .left) .1
+
+count-requires : tie.Need-count-requires
+count-requires c κs = let a = c .before .before .before .before .before .before .before .before .before .before .before .before .before .before .args in
+    let h = asked-done (a .volume .now) (a .store) _ (c .before .before .before .before .before .before .before .asked .ensures) (c .before .before .before .before .before .enum-told .given .1) .held in
+    let n = roomy (a .counts .now) (a .rows .now) (c .before .before .before .before .before .before .before .before .before .if1 .left) in
+    (h .enough, h .head .chunks-most, omega (arith, c .before .before .before .clear-counts .kept, n), cleared-zero (a .counts .now) (c .before .before .before .clear-counts .ensures))
+
+enum-known-c : tie.Need-enum-known-c
+enum-known-c c = search needs
+
+same-length : tie.Need-same-length
+same-length c = search needs
+
+returns-3 : tie.Need-returns-3
+returns-3 c = let a = c .before .before .before .before .before .before .before .before .before .before .before .before .before .before .before .before .before .before .before .before .args in count-refused (a .volume .now) (a .medium) (a .store) (a .dir .now) (a .counts .now) (a .rows .now) (c .before .before .before .before .before .before .before .before .before .before .before .before .before .before .before .if1 .left) (c .before .before .before .before .before .before .before .before .before .before .before .before .before .before .dir-ok .ensures) (c .before .before .before .before .before .before .before .before .before .before .before .before .before .asked .ensures) (c .before .before .before .before .before .before .before .before .before .before .before .enum-told .given .1) (c .before .before .before .before .before .before .before .before .before .clear-counts .ensures) (c .before .before .before .before .before .count .ensures) (c .before .c .given .1)
+
+enum-told-2 : tie.Need-enum-told-2
+enum-told-2 c = search needs
+
+list-rows-requires : tie.Need-list-rows-requires
+list-rows-requires c κs = let a = c .before .before .before .before .before .before .before .before .before .before .before .before .before .before .before .before .before .before .before .before .before .args in
+    let h = asked-done (a .volume .now) (a .store) _ (c .before .before .before .before .before .before .before .before .before .before .before .before .before .before .asked .ensures) (c .before .before .before .before .before .before .before .before .before .before .before .before .enum-told .given .1) .held in
+    let n = roomy (a .counts .now) (a .rows .now) (c .before .before .before .before .before .before .before .before .before .before .before .before .before .before .before .before .if1 .left) in
+    (h .enough, omega (arith, c .before .before .before .before .before .before .before .before .before .before .clear-counts .kept, c .before .before .before .before .before .before .count .kept, n), n .0)
+
+same-length-2 : tie.Need-same-length-2
+same-length-2 c = search needs
+
+same-length-3 : tie.Need-same-length-3
+same-length-3 c = search needs
+
+returns-4 : tie.Need-returns-4
+returns-4 c = let a = c .before .before .before .before .before .before .before .before .before .before .before .before .before .before .before .before .before .before .before .before .before .before .before .before .args in rows-told (a .volume .now) (a .medium) (a .store) (a .dir .now) (a .counts .now) (a .rows .now) (c .before .before .before .before .before .before .before .before .before .before .before .before .before .before .before .before .before .before .before .if1 .left) (c .before .before .before .before .before .before .before .before .before .before .before .before .before .before .before .before .before .before .dir-ok .ensures) (c .before .before .before .before .before .before .before .before .before .before .before .before .before .before .before .before .before .asked .ensures) (c .before .before .before .before .before .before .before .before .before .before .before .before .before .before .before .enum-told .given .1) (c .before .before .before .before .before .before .before .before .before .before .before .before .before .clear-counts .ensures) (c .before .before .before .before .before .before .before .before .before .count .ensures) (c .before .before .before .before .before .enum-told2 .given .1) (c .before .before .list-rows .ensures .0) (c .before .before .list-rows .ensures .1) (c .before .before .list-rows .ensures .2)
+
+pub list-spec : {M : Type 1} → statement M
+list-spec =
+    tie.close
+    (tie.spec
+    returns
+    dir-ok-requires
+    asked-requires
+    enum-known-o
+    returns-2
+    enum-told
+    clear-counts-requires
+    count-requires
+    enum-known-c
+    same-length
+    returns-3
+    enum-told-2
+    list-rows-requires
+    same-length-2
+    same-length-3
+    returns-4)

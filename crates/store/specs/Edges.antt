@@ -1,0 +1,43 @@
+-- 01, "Edges": the starred rows, made of the definitions. One statement has them all; proofs/Starred proves it. Assumes nothing.
+use Prim.Native.Nat.{ℕ, _/_, _≤_}
+use mathlib.Core.Path.{_≡_}
+use mathlib.Core.Bool.{true, false}
+use mathlib.Core.List.{List, [], _∷_, _++_}
+use lib.ListN.{replicate}
+use Rattle.le.specs.Part.{zeros}
+use Rattle.names.specs.Names.{nameOk, dirOk}
+use Rattle.medium.specs.declared.Medium.{Medium}
+use Rattle.medium.specs.declared.Outcome.the-variants.{Done}
+use Rattle.medium.specs.Refusal.{refused}
+use Rattle.medium.specs.Sector.{sectorsOf, readOf}
+use Rattle.handles.specs.declared.Header.{Header}
+use Rattle.header.specs.Header.{ours}
+use Rattle.header.specs.Copies.{copyOf}
+use Rattle.table.specs.declared.Link.{Link}
+use Rattle.table.specs.Link.{linkBytes}
+use Rattle.store.specs.Reading.{mountCall}
+
+-- n bytes `a`
+abbrev pub letters : ℕ → List ℕ
+letters n = replicate n 97
+
+pub record Starred : Type 0 where
+  -- empty name: 1; empty directory: root
+  pub empty-name : nameOk [] ≡ false
+  pub root : dirOk [] ≡ true
+  -- `/`, `a//b`: 1
+  pub slash : nameOk (47 ∷ []) ≡ false
+  pub slash-dir : dirOk (47 ∷ []) ≡ false
+  pub double : nameOk (97 ∷ 47 ∷ 47 ∷ 98 ∷ []) ≡ false
+  -- 40 bytes pass, 41 do not; a directory's `/` is within the 40
+  pub forty : nameOk (letters 40) ≡ true
+  pub forty-one : nameOk (letters 41) ≡ false
+  pub forty-dir : dirOk (letters 39 ++ (47 ∷ [])) ≡ true
+  pub forty-one-dir : dirOk (letters 40 ++ (47 ∷ [])) ≡ false
+  -- slot 2, position 3, 5 records partial: bytes 83 02 03 80 hexadecimal
+  pub link : linkBytes (record { slot = 2; position = 3; partial = true; records = 5 }) ≡ 0x83 ∷ 0x02 ∷ 0x03 ∷ 0x80 ∷ []
+  -- zeroed volume: mount 5
+  pub zeroed : (n : ℕ) (m : Medium) → 64 ≤ n / 512 → readOf m 0 ≡ Done → readOf m 32 ≡ Done → mountCall (zeros n) m .answer ≡ refused 5
+  -- equal generations: mount A
+  pub equal : (vol : List ℕ) (m : Medium) → 64 ≤ sectorsOf vol → readOf m 0 ≡ Done → readOf m 32 ≡ Done → (x y : Header)
+      → copyOf vol 0 ≡ ours x → copyOf vol 32 ≡ ours y → x .generation ≡ y .generation → mountCall vol m .store .copy ≡ 0

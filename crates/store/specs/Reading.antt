@@ -1,0 +1,86 @@
+-- The calls on offer that only read, as 01 has them: the tests of the input in the order 2, 3, 1, then what the state gives. Each hands the medium
+-- record back as it was. Assumes nothing.
+use Prim.Native.Nat.{ℕ}
+use mathlib.Core.Bool.{_||_}
+use mathlib.Core.List.{List}
+use lib.Dec.{ltb}
+use lib.ListN.{length}
+use Rattle.le.specs.Choice.{pick}
+use Rattle.le.specs.Part.{over, zeros}
+use Rattle.medium.specs.declared.Error.the-variants as no
+use Rattle.medium.specs.declared.Medium.{Medium}
+use Rattle.medium.specs.declared.Outcome.{Outcome}
+use Rattle.medium.specs.declared.Outcome.the-variants.{Done, No}
+use Rattle.medium.specs.Refusal.{Answer, ok, refused, numberOf, onDone, outcomeOf}
+use Rattle.handles.specs.declared.Store.{Store}
+use Rattle.header.specs.Copies.{mountOf}
+use Rattle.directory.specs.declared.Found.{Found}
+use Rattle.directory.specs.declared.Found.the-variants as found
+use Rattle.directory.specs.Scan.{findOf}
+use Rattle.directory.specs.Rows.{RowsOut, rowsOf}
+use Rattle.table.specs.Table.{Counted, countOf}
+use Rattle.store.specs.Asked.{askedName, askedDir}
+use Rattle.store.specs.declared.FindAnswer.{FindAnswer}
+use Rattle.store.specs.declared.ListAnswer.{ListAnswer}
+use Rattle.store.specs.declared.MountAnswer.{MountAnswer}
+
+-- ---- mount: the store
+
+pub record MountCall : Type 0 where
+  pub answer : Answer Unit
+  pub store : Store
+  pub medium : Medium
+
+abbrev pub mountAnswer : MountAnswer → MountCall
+mountAnswer r = record { answer = outcomeOf (r .outcome); store = r .store; medium = r .medium }
+
+unfoldable pub mountCall : List ℕ → Medium → MountCall
+mountCall vol m = record { answer = outcomeOf (mountOf vol m .outcome); store = mountOf vol m .store; medium = m }
+
+-- ---- find: slot and id
+
+-- an answer as 01 has it
+abbrev pub foundAnswer : Found → Answer (ℕ × ℕ)
+foundAnswer (found.Refused e) = refused (numberOf e)
+foundAnswer (found.At slot id) = ok (slot, id)
+
+pub record FindCall : Type 0 where
+  pub answer : Answer (ℕ × ℕ)
+  pub medium : Medium
+
+abbrev pub findAnswer : FindAnswer → FindCall
+findAnswer r = record { answer = foundAnswer (r .found); medium = r .medium }
+
+unfoldable pub findCall : List ℕ → Medium → Store → List ℕ → FindCall
+findCall vol m st name =
+    record { answer = foundAnswer (onDone (askedName vol st name) (findOf vol m st name) found.Refused); medium = m }
+
+-- ---- list: the number of rows; counts and rows are lent
+
+pub record ListCall : Type 0 where
+  pub answer : Answer Unit
+  pub made : ℕ
+  pub medium : Medium
+  pub counts : List ℕ
+  pub rows : List ℕ
+
+-- what is told at an outcome: the rows made so far, and the buffers
+abbrev pub listAt : Medium → Outcome → ℕ → List ℕ → List ℕ → ListCall
+listAt m o made counts rows = record { answer = outcomeOf o; made = made; medium = m; counts = counts; rows = rows }
+
+-- the answer, beside what the lent buffers hold
+abbrev pub listAnswer : ListAnswer → List ℕ → List ℕ → ListCall
+listAnswer r counts rows = listAt (r .medium) (r .outcome) (r .count) counts rows
+
+-- the counts set to 0 first, then the whole table, then the directory: a state refusal keeps the counts and rows made before it
+unfoldable pub listed : List ℕ → Medium → Store → List ℕ → List ℕ → List ℕ → ListCall
+listed vol m st dir counts rows =
+    let c : Counted = countOf vol m st (over 0 (zeros 64) counts) in
+    let r : RowsOut = rowsOf vol m st dir (c .counts) rows in
+    onDone (c .outcome) (listAt m (r .outcome) (r .made .count) (c .counts) (r .made .rows)) (λ e. listAt m (No e) 0 (c .counts) rows)
+
+-- a refusal of the input leaves every buffer as it was
+unfoldable pub listCall : List ℕ → Medium → Store → List ℕ → List ℕ → List ℕ → ListCall
+listCall vol m st dir counts rows =
+    pick (ltb (length rows) 3072 || ltb (length counts) 64) (listAt m (No no.Range) 0 counts rows)
+    (onDone (askedDir vol st dir) (listed vol m st dir counts rows) (λ e. listAt m (No e) 0 counts rows))

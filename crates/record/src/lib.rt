@@ -18,7 +18,7 @@ pub enum Judged {
 }
 
 // The sector of a record.
-fn data(store: Store, chunk: u32, index: u32) -> u64
+pub fn data(store: Store, chunk: u32, index: u32) -> u64
     ensures { λ r. ⌜ r ≡ dataAt store chunk index ⌝ }
 {
     64 + (chunk as u64) * (store.head.chunk as u64) + (index as u64)

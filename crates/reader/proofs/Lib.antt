@@ -1,0 +1,4 @@
+pub mod Facts
+pub mod Moves
+pub mod Finds
+pub mod Offers

@@ -1,0 +1,104 @@
+-- The calls on offer: each way out of its function, over plain values, and what a call hands back. Assumes nothing.
+use mathlib.Core.Path.{_≡_, refl, ap}
+use mathlib.Core.Bool.{true}
+use mathlib.Core.List.{List}
+use Prim.Native.Nat.{ℕ, _≤_, _<_}
+use native.Mathlib.Omega.{arith}
+use borrow.Author.Tests.{ltb-false, lt-ltb, le-ltb}
+use lib.Dec.{ltb}
+use lib.ListN.{length}
+use Rattle.le.specs.Choice.{pick}
+use Rattle.le.proofs.Choices.{pick-keeps-by}
+use Rattle.medium.specs.declared.Error.{Error}
+use Rattle.medium.specs.declared.Medium.{Medium}
+use Rattle.medium.specs.declared.Outcome.{Outcome}
+use Rattle.medium.specs.declared.Outcome.the-variants.{Done, No}
+use Rattle.medium.specs.Refusal.{numberOf, Answer, ok, refused, onDone, outcomeOf}
+use Rattle.medium.specs.Sector.{sectorsOf}
+use Rattle.medium.proofs.Laws.{onDone-keeps}
+use Rattle.handles.specs.declared.Store.{Store}
+use Rattle.handles.proofs.Laws.{store-facts}
+use Rattle.reader.specs.declared.Reader.{Reader}
+use Rattle.reader.specs.declared.Entered.{Entered}
+use Rattle.reader.specs.declared.Next.{Next}
+use Rattle.reader.specs.declared.Next.the-variants as found
+use Rattle.reader.specs.declared.Taken.{Taken}
+use Rattle.reader.specs.Reader.{readerOk, seekOf}
+use Rattle.reader.specs.Next.{nextOf}
+use Rattle.reader.specs.Calls.{usableOf, Item, payload, nextAnswer, NextCall, nextCall, SeekCall, seekCall}
+use Rattle.reader.proofs.Facts.{reader-facts, reader-ok, usable-facts}
+use Rattle.reader.proofs.Moves.{seek-reads}
+use Rattle.reader.proofs.Finds.{Finds, next-finds}
+
+-- ---- seek
+
+module _ (vol : List ℕ) (m : Medium) (st : Store) (rd : Reader) (number : ℕ) {o : Outcome} (asked : o ≡ usableOf vol st rd) where
+  abbrev Seeks : Answer (Unit {0}) → Reader → Type 0
+  Seeks a r = (a ≡ seekCall vol m st rd number .answer) × (r ≡ seekCall vol m st rd number .reader) × (m ≡ seekCall vol m st rd number .medium)
+
+  pub seek-refused : {e : Error} → o ≡ No e → Seeks (refused (numberOf e)) rd
+  unfolding seekCall onDone
+  seek-refused q = rw (← asked, q) (refl, refl, refl)
+
+  pub seek-done : {d : Entered} → o ≡ Done → d ≡ seekOf vol m st rd number → Seeks (outcomeOf (d .outcome)) (d .reader)
+  unfolding seekCall onDone
+  seek-done q e = rw (← asked, q, e) (refl, refl, refl)
+
+pub seek-ok : (vol : List ℕ) (m : Medium) (st : Store) (rd : Reader) (number : ℕ) → readerOk rd st ≡ true → readerOk (seekCall vol m st rd number .reader) st ≡ true
+unfolding seekCall
+seek-ok vol m st rd number r =
+    onDone-keeps (λ (c : SeekCall). readerOk (c .reader) st ≡ true) (usableOf vol st rd) _ _
+    (λ q. reader-ok _ st (seek-reads vol m st rd number (store-facts st (sectorsOf vol) (usable-facts vol st rd refl q .0) .head .size-least) (reader-facts rd st r)))
+    (λ e q. r)
+
+-- ---- next
+
+module _ (vol : List ℕ) (m : Medium) (st : Store) (rd : Reader) (out : List ℕ) where
+  abbrev Gives : Answer Item → Reader → List ℕ → Type 0
+  Gives a r l = (a ≡ nextCall vol m st rd out .answer) × (r ≡ nextCall vol m st rd out .reader) × (l ≡ nextCall vol m st rd out .out) × (m ≡ nextCall vol m st rd out .medium)
+
+  pub next-short : length out < 486 → Gives (refused 2) rd out
+  unfolding nextCall pick
+  next-short h = rw (lt-ltb _ _ h) (refl, refl, refl, refl)
+
+  module _ (enough : 486 ≤ length out) {o : Outcome} (asked : o ≡ usableOf vol st rd) where
+    pub next-no : {e : Error} → o ≡ No e → Gives (refused (numberOf e)) rd out
+    unfolding nextCall pick onDone
+    next-no q = rw (le-ltb _ _ enough, ← asked, q) (refl, refl, refl, refl)
+
+    pub next-done : {t : Taken} {l : List ℕ} → o ≡ Done → l ≡ nextOf vol m st rd out .out → t ≡ nextOf vol m st rd out .ans → Gives (nextAnswer (t .next)) (t .reader) l
+    unfolding nextCall pick onDone
+    next-done q e f = rw (le-ltb _ _ enough, ← asked, q, e, f) (refl, refl, refl, refl)
+
+-- what it hands back: a reader that passes, an output of the same length, and no more payload than a record has
+pub record Offered (st : Store) (out : List ℕ) (c : NextCall) : Type 0 where
+  pub reader : readerOk (c .reader) st ≡ true
+  pub kept : length (c .out) ≡ length out
+  pub size : (n : ℕ) → c .answer ≡ ok (payload n) → (1 ≤ n) × (n ≤ 486)
+
+payload-only : (x : Next) (n : ℕ) → nextAnswer x ≡ ok (payload n) → x ≡ found.Payload n
+payload-only (found.Refused e) n q = absurd (let z : _≡_ {A = ℕ} 0 1 = cc in omega arith)
+payload-only (found.Payload k) n q = let z : k ≡ n = cc in ap found.Payload z
+payload-only (found.Hole a b) n q = absurd (let z : _≡_ {A = ℕ} 0 1 = cc in omega arith)
+payload-only found.End n q = absurd (let z : _≡_ {A = ℕ} 0 1 = cc in omega arith)
+
+module _ (vol : List ℕ) (m : Medium) (st : Store) (rd : Reader) (out : List ℕ) (r : readerOk rd st ≡ true) where
+  declined : (n : ℕ) → Offered st out (record { answer = refused n; reader = rd; out = out; medium = m })
+  declined n = record { reader = r; kept = refl; size = λ k q. absurd (let z : _≡_ {A = ℕ} 0 1 = cc in omega arith) }
+
+  pub next-offered : Offered st out (nextCall vol m st rd out)
+  unfolding nextCall
+  next-offered =
+      pick-keeps-by (Offered st out) (ltb (length out) 486) _ _ (λ t. declined 2)
+      (λ t. onDone-keeps (Offered st out) (usableOf vol st rd) _ _
+      (λ q.
+      let f : Finds st out (nextOf vol m st rd out) = next-finds vol m st out (usable-facts vol st rd refl q .0) (ltb-false _ _ t) rd (reader-facts rd st r) in
+      record {
+        reader = reader-ok _ st (f .reads);
+        kept = f .kept;
+        size = λ n w. f .size n (payload-only (nextOf vol m st rd out .ans .next) n w);
+      })
+      (λ e q. declined (numberOf e)))
+
+  pub next-ok : readerOk (nextCall vol m st rd out .reader) st ≡ true
+  next-ok = next-offered .reader

@@ -1,0 +1,4 @@
+pub mod Split
+pub mod Digits
+pub mod Forms
+pub mod Edges

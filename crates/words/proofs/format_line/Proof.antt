@@ -1,0 +1,86 @@
+-- `format-line` meets its contract. Assumes nothing.
+use borrow.Author.Needs.{needs}
+use mathlib.Core.Path.{refl}
+use native.Mathlib.Omega.{arith}
+use Rattle.le.proofs.Turns.{told}
+use Rattle.words.specs.Lines.{bothOf, formatOf, meaning, within}
+use Rattle.words.proofs.Split.{tail-part}
+use Rattle.words.proofs.Digits.{decimal-most}
+use Rattle.words.proofs.format_line.Statement.{statement}
+use Rattle.words.proofs.format_line.Tie as tie
+
+add-last : tie.Need-add-last
+add-last c = search needs
+
+sub-decimal : tie.Need-sub-decimal
+sub-decimal c = search needs
+
+part-decimal-start : tie.Need-part-decimal-start
+part-decimal-start c = search needs
+
+part-decimal-end : tie.Need-part-decimal-end
+part-decimal-end c = search needs
+
+decimal-requires : tie.Need-decimal-requires
+decimal-requires c κs = search needs
+
+enum-known-size : tie.Need-enum-known-size
+enum-known-size c = search needs
+
+enum-told : tie.Need-enum-told
+enum-told c = search needs
+
+returns : tie.Need-returns
+unfolding bothOf formatOf meaning within
+returns c = (rw (told (c .before .before .decimal .ensures) (c .enum-told .given .1)), tt)
+
+sub-decimal-2 : tie.Need-sub-decimal-2
+sub-decimal-2 c = search needs
+
+part-decimal-start-2 : tie.Need-part-decimal-start-2
+part-decimal-start-2 c = search needs
+
+part-decimal-end-2 : tie.Need-part-decimal-end-2
+part-decimal-end-2 c = search needs
+
+decimal-requires-2 : tie.Need-decimal-requires-2
+decimal-requires-2 c κs = search needs
+
+enum-known-seed : tie.Need-enum-known-seed
+enum-known-seed c = search needs
+
+enum-told-2 : tie.Need-enum-told-2
+enum-told-2 c = search needs
+
+returns-2 : tie.Need-returns-2
+unfolding bothOf formatOf meaning within
+returns-2 c = (rw (told (c .before .before .before .before .before .before .before .decimal .ensures) (c .before .before .before .before .before .size .given .1), told (simp tail-part at (c .before .before .decimal2 .ensures)) (c .enum-told2 .given .1)), tt)
+
+cast-t16 : tie.Need-cast-t16
+cast-t16 c = record { fits = omega (arith, decimal-most _ _ _ (told (c .before .before .before .before .before .before .before .before .decimal .ensures) (c .before .before .before .before .before .before .size .given .1))) }
+
+returns-3 : tie.Need-returns-3
+unfolding bothOf formatOf meaning within
+returns-3 c = (rw (told (c .before .before .before .before .before .before .before .before .decimal .ensures) (c .before .before .before .before .before .before .size .given .1), told (simp tail-part at (c .before .before .before .decimal2 .ensures)) (c .before .seed .given .1)), tt)
+
+pub format-line-spec : {M : Type 1} → statement M
+format-line-spec =
+    tie.close
+    (tie.spec
+    add-last
+    sub-decimal
+    part-decimal-start
+    part-decimal-end
+    decimal-requires
+    enum-known-size
+    enum-told
+    returns
+    sub-decimal-2
+    part-decimal-start-2
+    part-decimal-end-2
+    decimal-requires-2
+    enum-known-seed
+    enum-told-2
+    returns-2
+    cast-t16
+    returns-3)

@@ -171,3 +171,30 @@ pub fn reader(volume: &[u8], medium: Medium, store: Store, name: &[u8]) -> Reade
         }
     }
 }
+
+// Changes with every commit and format.
+pub fn generation(store: Store) -> u64
+    ensures { λ r. ⌜ r ≡ store .head .generation ⌝ }
+{
+    store.head.generation
+}
+
+pub fn store_id(store: Store) -> u64
+    ensures { λ r. ⌜ r ≡ store .head .id ⌝ }
+{
+    store.head.id
+}
+
+// Data chunks in the volume.
+pub fn chunks(store: Store) -> u32
+    ensures { λ r. ⌜ r ≡ store .head .chunks ⌝ }
+{
+    store.head.chunks
+}
+
+// Record sectors per chunk.
+pub fn chunk_sectors(store: Store) -> u32
+    ensures { λ r. ⌜ r ≡ store .head .chunk ⌝ }
+{
+    store.head.chunk
+}

@@ -1,0 +1,85 @@
+use borrow.Author.Needs.{needs}
+use mathlib.Core.Path.{refl}
+use Prim.Native.Nat.{_-_}
+use Rattle.le.proofs.Choices.{pick-true, pick-false}
+use Rattle.le.proofs.Turns.{told}
+use Rattle.walk.proofs.Laws.{at-start, at-next, at-stop, at-end}
+use Rattle.directory.specs.Scan.{finding, findOf}
+use Rattle.directory.proofs.Entries.{found-file}
+use Rattle.directory.proofs.Scans.{ScanAt}
+use Rattle.directory.proofs.find.Statement.{statement}
+use Rattle.directory.proofs.find.Tie as tie
+
+abbrev Inv-loop : tie.InvT-loop
+Inv-loop volume medium store name i₀ i = ScanAt (finding name) volume medium store (findOf volume medium store name) i tt
+
+abbrev μ-loop : tie.MeasureT-loop
+μ-loop volume medium store name i₀ i = 64 - i
+
+loop-holds : tie.Need-loop-holds Inv-loop μ-loop
+unfolding findOf
+loop-holds c = at-start _ _ _ _ _
+
+slot-at-requires : tie.Need-slot-at-requires Inv-loop μ-loop
+slot-at-requires c κs = search needs
+
+add-next : tie.Need-add-next Inv-loop μ-loop
+add-next c = search needs
+
+enum-known-s : tie.Need-enum-known-s Inv-loop μ-loop
+enum-known-s c = search needs
+
+returns : tie.Need-returns Inv-loop μ-loop
+returns c = let t = c .before .before .before .before in at-stop (t .before .loop .inv) (t .loop-test .taken) (c .before .before .before .slot-at .ensures) (c .before .s .given .1) refl
+
+enum-told : tie.Need-enum-told Inv-loop μ-loop
+enum-told c = search needs
+
+loop-less : tie.Need-loop-less Inv-loop μ-loop
+loop-less c = search needs
+
+loop-again : tie.Need-loop-again Inv-loop μ-loop
+loop-again c = let t = c .before .before .before in at-next (t .before .loop .inv) (t .loop-test .taken) (c .before .before .slot-at .ensures) (c .enum-told .given .1) refl
+
+enum-known-s-2 : tie.Need-enum-known-s-2 Inv-loop μ-loop
+enum-known-s-2 c = search needs
+
+named-requires : tie.Need-named-requires Inv-loop μ-loop
+named-requires c κs = (search needs, search needs, found-file _ _ _ _ (c .before .before .before .slot-at .ensures) (c .before .s2 .given .1) .short)
+
+returns-2 : tie.Need-returns-2 Inv-loop μ-loop
+returns-2 c = at-stop (c .before .before .before .before .before .before .before .loop .inv) (c .before .before .before .before .before .before .loop-test .taken)
+    (c .before .before .before .before .before .slot-at .ensures) (c .before .before .before .s2 .given .1)
+    (pick-true _ _ (told (c .before .named .ensures) (c .if1 .taken)))
+
+loop-less-2 : tie.Need-loop-less-2 Inv-loop μ-loop
+loop-less-2 c = search needs
+
+loop-again-2 : tie.Need-loop-again-2 Inv-loop μ-loop
+loop-again-2 c = at-next (c .before .before .before .before .before .before .before .loop .inv) (c .before .before .before .before .before .before .loop-test .taken)
+    (c .before .before .before .before .before .slot-at .ensures) (c .before .before .before .s2 .given .1)
+    (pick-false _ _ (told (c .before .named .ensures) (c .if1 .left)))
+
+returns-3 : tie.Need-returns-3 Inv-loop μ-loop
+returns-3 c = at-end (c .before .loop .inv) (c .loop-test .left)
+
+pub find-spec : {M : Type 1} → statement M
+find-spec =
+    tie.close
+    (tie.spec
+    Inv-loop
+    μ-loop
+    loop-holds
+    slot-at-requires
+    add-next
+    enum-known-s
+    returns
+    enum-told
+    loop-less
+    loop-again
+    enum-known-s-2
+    named-requires
+    returns-2
+    loop-less-2
+    loop-again-2
+    returns-3)

@@ -1,0 +1,5 @@
+pub mod Numbers
+pub mod Walks
+pub mod Nearest
+pub mod Clears
+pub mod Edges

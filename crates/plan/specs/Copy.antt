@@ -114,36 +114,38 @@ pub data Kind : Type 0 where
   extended : Kind
   recorded : Kind
 
--- what a writing call gives: the volume and the answer; and for the book the steps that it made
+-- what writing a copy gives: the volume and the answer
 pub record Out : Type 0 where
   pub vol : List ℕ
   pub ans : Committed
-  pub steps : List Kind
 
--- refused: the store value as given, and no step
+-- for the book: accepted, it made one step of its kind, and refused none
+unfoldable pub stepsOf : Kind → Out → List Kind
+stepsOf kind o = onDone (o .ans .outcome) (kind ∷ []) (λ e. [])
+
+-- refused: the store value as given
 abbrev pub refusedOut : Store → List ℕ → Medium → Error → Out
-refusedOut st vol m e = record { vol = vol; ans = record { outcome = No e; medium = m; store = st }; steps = [] }
+refusedOut st vol m e = record { vol = vol; ans = record { outcome = No e; medium = m; store = st } }
 
 -- the last write makes the copy current: the store is the new one
-unfoldable pub lastOf : Kind → Plan → List ℕ → Medium → Header → Out
-lastOf kind p vol m h =
+unfoldable pub lastOf : Plan → List ℕ → Medium → Header → Out
+lastOf p vol m h =
     let w : WriteOut = writeOf vol m (baseOf (p .copy)) (encodeOf h) in
     onDone (w .ans .outcome)
     (record {
       vol = w .vol;
       ans = record { outcome = Done; medium = w .ans .medium; store = record { copy = p .copy; head = h; writer = p .store .writer } };
-      steps = kind ∷ [];
     })
     (refusedOut (p .store) (w .vol) (w .ans .medium))
 
 -- the first image of the header, the body, the whole header
-unfoldable pub copyOut : Kind → Plan → List ℕ → Medium → Out
-copyOut kind p vol m =
+unfoldable pub copyOut : Plan → List ℕ → Medium → Out
+copyOut p vol m =
     let z : WriteOut = writeOf vol m (baseOf (p .copy)) (p .first) in
     let b : StepOut = bodyFrom p (bodyOf (p .head .chunks)) 0 (z .vol) (z .ans .medium) (p .head) in
     onDone (z .ans .outcome)
     (onDone (b .ans .outcome)
-    (lastOf kind p (b .vol) (b .ans .medium) (b .ans .head))
+    (lastOf p (b .vol) (b .ans .medium) (b .ans .head))
     (refusedOut (p .store) (b .vol) (b .ans .medium)))
     (refusedOut (p .store) (z .vol) (z .ans .medium))
 

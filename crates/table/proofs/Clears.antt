@@ -14,7 +14,7 @@ use Rattle.le.specs.Part.{part, over, zeros}
 use Rattle.le.specs.Field.{leNumber, getLe}
 use Rattle.le.proofs.Choices.{pick-keeps, pick-true, pick-false}
 use Rattle.le.proofs.Parts.{length-over, length-zeros, part-over, part-before, part-after, part-part}
-use Rattle.walk.specs.Walk.{Step, next, stop, visits}
+use Rattle.walk.specs.Walk.{visits}
 use Rattle.walk.proofs.Laws.{walk-keeps}
 use Rattle.table.specs.Link.{ownedBy, clearLink, clearedOf}
 

@@ -7,7 +7,6 @@ use Rattle.le.specs.Choice.{pick}
 use Rattle.le.specs.Part.{part}
 use Rattle.le.specs.Field.{leNumber, leBytes, getLe}
 use Rattle.table.specs.declared.Link.{Link}
-use Rattle.table.specs.declared.LinkAt.{LinkAt}
 use Rattle.table.specs.declared.LinkAt.the-variants.{Linked}
 use Rattle.table.specs.Link.{ownerOf, placeOf, linkBytes, linkFits, linkOf, linkIn}
 

@@ -1,12 +1,12 @@
 -- Laws of a link: what its numbers tell, its two numbers and 4 bytes both ways, and where its bytes stand in the volume. Assumes nothing.
 use mathlib.Core.Path.{_≡_, refl, sym, ap, ap₂, _∙_, subst}
 use mathlib.Core.Bool.{Bool, true, false, _&&_, _||_}
-use mathlib.Core.List.{List, _++_}
-use Prim.Native.Nat.{ℕ, _+_, _-_, _*_, _/_, _%_, _^_, _≤_, _<_}
+use mathlib.Core.List.{List}
+use Prim.Native.Nat.{ℕ, _+_, _-_, _*_, _/_, _%_, _≤_, _<_}
 use native.Mathlib.Nat.{add-sub-cancel}
 use native.Mathlib.Numerals.{add-one}
 use native.Mathlib.Omega.{arith}
-use borrow.Author.Tests.{leb-true, leb-false, ltb-true, eqb-true, lt-ltb, le-leb, lt-leb, eq-eqb, ne-eqb}
+use borrow.Author.Tests.{leb-true, ltb-true, eqb-true, lt-ltb, le-leb, lt-leb, eq-eqb, ne-eqb}
 use lib.Dec.{eqb, leb, ltb, eqb·suc-suc}
 use lib.ListN.{length, length-append}
 use Rattle.le.specs.Choice.{pick}
@@ -16,7 +16,6 @@ use Rattle.le.proofs.Choices.{pick-keeps-by, pick-true, pick-false}
 use Rattle.le.proofs.Parts.{part-part, part-over, over-over}
 use Rattle.le.proofs.Fields.{length-bytes}
 use Rattle.medium.specs.declared.Error.{Error}
-use Rattle.medium.specs.declared.Error.the-variants.{Corrupt}
 use Rattle.medium.specs.declared.Medium.{Medium}
 use Rattle.medium.specs.declared.Outcome.{Outcome}
 use Rattle.medium.specs.declared.Outcome.the-variants.{Done, No}
@@ -206,7 +205,7 @@ module _ (slot : ℕ) (bytes : List ℕ) (inside : Bool) (size : ℕ) where
   owned-link {l} e = out (said e)
     where
       out : Said (getLe 2 0 bytes % 128) inside size (Linked l) → eqb (getLe 2 0 bytes % 128) (slot + 1) ≡ eqb (l .slot) slot
-      out (linked o h s) = rw (o, add-one, add-one) (eqb·suc-suc (l .slot) slot)
+      out (linked o h s) = rw (o, add-one (l .slot), add-one slot) (eqb·suc-suc (l .slot) slot)
 
   pub owned-free : linkIn bytes inside size ≡ Free → ownedBy slot bytes ≡ false
   unfolding ownedBy

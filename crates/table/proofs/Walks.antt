@@ -1,27 +1,29 @@
 -- Laws of the walks of the table: a property that each chunk keeps holds of the answer; the ranges of what each walk answers; and volumes whose
 -- table sectors agree give the same walks. Assumes nothing.
-use Prim.Native.Nat.{ℕ, _+_, _-_, _*_, _/_, _%_, _<_, _≤_, zero-le}
+use Prim.Native.Nat.{ℕ, _+_, _-_, _/_, _%_, _<_, _≤_, zero-le}
 use mathlib.Core.Path.{_≡_, refl, sym, ap, ap₂, _∙_, subst}
-use mathlib.Core.Bool.{Bool, true, false, _&&_, _||_}
+use mathlib.Core.Bool.{Bool, true, false, _||_}
 use mathlib.Core.List.{List}
 use native.Mathlib.Decide.{ℕ-discrete}
 use native.Mathlib.Omega.{arith}
 use borrow.Author.Tests.{eqb-true, eqb-false}
-use borrow.Author.Count.{below-more, below-none}
+use borrow.Author.Count.{below-more}
 use lib.Dec.{eqb, ltb}
 use lib.ListN.{length, getD, set}
 use lib.Seq.{getD-set-same, getD-set-other}
 use Rattle.le.specs.Choice.{pick}
-use Rattle.le.specs.Part.{part}
 use Rattle.le.proofs.Choices.{pick-keeps, pick-keeps-by}
 use Rattle.medium.specs.declared.Error.{Error}
 use Rattle.medium.specs.declared.Medium.{Medium}
+use Rattle.medium.specs.declared.Outcome.{Outcome}
+use Rattle.medium.specs.declared.Outcome.the-variants.{Done}
+use Rattle.medium.specs.Refusal.{onDone}
 use Rattle.medium.specs.Sector.{sectorAt}
 use Rattle.handles.specs.declared.Store.{Store}
 use Rattle.handles.specs.Body.{bodyAt, checkOf}
 use Rattle.handles.specs.Handles.{tableOf}
 use Rattle.handles.proofs.Laws.{and-true}
-use Rattle.walk.specs.Walk.{Step, next, stop, visits}
+use Rattle.walk.specs.Walk.{next, stop, visits}
 use Rattle.walk.proofs.Laws.{walk-keeps, visits-alike}
 use Rattle.table.specs.declared.Link.{Link}
 use Rattle.table.specs.declared.LinkAt.{LinkAt}
@@ -32,7 +34,7 @@ use Rattle.table.specs.declared.ChainState.{ChainState}
 use Rattle.table.specs.declared.ChainParts.{ChainParts}
 use Rattle.table.specs.declared.Chained.{Chained}
 use Rattle.table.specs.declared.Chained.the-variants as chained
-use Rattle.table.specs.Link.{linkAt, linkPart, dueOf}
+use Rattle.table.specs.Link.{linkIn, linkPart, dueOf, linkAt}
 use Rattle.table.specs.Table.{TableVisit, onLink, linksOf, overTable, sought, locateStep, locateV, locateOf, firstStep, higher, chainMore, chainStep, chainV, chainEnd, chainOf, wholeOf, noChain}
 use Rattle.table.proofs.Numbers.{Sound, found-free, found-link}
 
@@ -76,6 +78,13 @@ module _ (vol vol′ : List ℕ) (m : Medium) (st : Store)
   pub table-frame : {S R : Type 0} (v : TableVisit S R) (s : S) → overTable v vol m st s ≡ overTable v vol′ m st s
   table-frame v s = visits-alike (onLink v) (linkAt vol m st) (linkAt vol′ m st) (v .done) (linksOf (st .head .chunks)) link-alike 0 s zero-le
 
+-- ---- where every table sector passes its check, a link is what its bytes say
+
+module _ (vol : List ℕ) (m : Medium) (st : Store) (pass : (t : ℕ) → t < tableOf (st .head .chunks) → checkOf vol m st (8 + t) ≡ Done) where
+  pub link-checked : (c : ℕ) → c < linksOf (st .head .chunks) → linkAt vol m st c ≡ linkIn (linkPart vol st c) (ltb c (st .head .chunks)) (st .head .chunk)
+  unfolding linkAt dueOf onDone
+  link-checked c h = rw (pick-keeps (λ (o : Outcome). o ≡ Done) (eqb (c % 128) 0) (checkOf vol m st (8 + c / 128)) Done (pass (c / 128) (omega arith)) refl)
+
 -- ---- locate: the chunk is linked to the slot at the position, and no higher one is
 
 module _ (vol : List ℕ) (m : Medium) (st : Store) (slot position : ℕ) where
@@ -87,7 +96,7 @@ module _ (vol : List ℕ) (m : Medium) (st : Store) (slot position : ℕ) where
     pub fits : sought slot position l ≡ true
     pub highest : (j : ℕ) → j < n → c < j → (k : Link) → linkAt vol m st j ≡ link.Linked k → sought slot position k ≡ false
 
-  abbrev pub PlaceOk : ℕ → Place → Type 0
+  abbrev PlaceOk : ℕ → Place → Type 0
   PlaceOk n (place.Refused e) = Unit
   PlaceOk n (place.At c l) = Located n c l
 
@@ -118,7 +127,7 @@ module _ (vol : List ℕ) (m : Medium) (st : Store) (slot position : ℕ) where
         pick-keeps-by (PlaceOk (n + 1)) (sought slot position l) (place.At n l) s
         (λ t. record { chunk = h; sound = d; held = e; fits = t; highest = λ j a b. absurd (omega arith) }) other
 
-  pub locate-ok : PlaceOk (linksOf (st .head .chunks)) (locateOf vol m st slot position)
+  locate-ok : PlaceOk (linksOf (st .head .chunks)) (locateOf vol m st slot position)
   unfolding locateOf
   locate-ok =
       table-keeps (locateV slot position) vol m st PlaceOk (PlaceOk (linksOf (st .head .chunks)))
@@ -209,9 +218,9 @@ module _ (vol : List ℕ) (m : Medium) (st : Store) (slot : ℕ) where
   ChainOk (chained.Refused e) = Unit
   ChainOk (chained.Whole p) = ChainFacts p
 
-  whole : (s : ChainState) (f : Place) → PlaceOk vol m st slot 0 (linksOf (st .head .chunks)) f → s .first ≡ f → Seen (linksOf (st .head .chunks)) s → ChainOk (wholeOf s f)
-  whole s (place.Refused e) g q p = tt
-  whole s (place.At c l) g q p =
+  whole : (s : ChainState) (f : Place) → PlaceOk vol m st slot 0 (linksOf (st .head .chunks)) f → Seen (linksOf (st .head .chunks)) s → ChainOk (wholeOf s f)
+  whole s (place.Refused e) g p = tt
+  whole s (place.At c l) g p =
       pick-keeps-by ChainOk (eqb (s .top + 1) (s .count)) _ _
       (λ t.
       let e : s .top + 1 ≡ s .count = eqb-true _ _ t in
@@ -228,7 +237,7 @@ module _ (vol : List ℕ) (m : Medium) (st : Store) (slot : ℕ) where
       })
       (λ t. tt)
 
-  pub chain-ok : ChainOk (chainOf vol m st slot)
+  chain-ok : ChainOk (chainOf vol m st slot)
   unfolding chainOf chainEnd
   chain-ok =
       table-keeps (chainV slot) vol m st Seen ChainOk
@@ -236,7 +245,7 @@ module _ (vol : List ℕ) (m : Medium) (st : Store) (slot : ℕ) where
       (λ k t p q. unseen k t (unlinked vol m st slot 0 k (t .first) link.Past q (λ l e. let z : _≡_ {A = ℕ} 0 1 = cc in omega arith) (p .first)) p)
       (λ k t p h q. unseen k t (unlinked vol m st slot 0 k (t .first) link.Free q (λ l e. let z : _≡_ {A = ℕ} 0 1 = cc in omega arith) (p .first)) p)
       (λ k l t p h d q. seen-step k l t p h d q)
-      (λ t p. whole t (t .first) (p .first) refl p)
+      (λ t p. whole t (t .first) (p .first) p)
       noChain (record { passed = zero-le; most = zero-le; first = tt; last = λ a. absurd (omega arith) })
 
   pub chain-range : {p : ChainParts} → chainOf vol m st slot ≡ chained.Whole p → ChainFacts p

@@ -1,7 +1,7 @@
 -- 01, "Link": low 7 bits of the first u16: slot + 1; upper 9: records of a partial chunk. Second u16: position, top bit set for partial. A zero
 -- link is free; past the last chunk it must be zero. Slots are 0 to 63; records are below chunk size, 0 unless partial. Assumes nothing.
 use Prim.Native.Nat.{ℕ, _+_, _-_, _*_, _/_, _%_}
-use mathlib.Core.Bool.{Bool, true, false, _&&_, _||_}
+use mathlib.Core.Bool.{Bool, _&&_, _||_}
 use mathlib.Core.List.{List, _++_}
 use lib.Dec.{eqb, leb, ltb}
 use Rattle.le.specs.Choice.{pick}
@@ -15,7 +15,7 @@ use Rattle.medium.specs.Refusal.{onDone}
 use Rattle.medium.specs.Sector.{sectorAt}
 use Rattle.handles.specs.declared.Store.{Store}
 use Rattle.handles.specs.Body.{bodyAt, checkOf}
-use Rattle.walk.specs.Walk.{Step, next, visits}
+use Rattle.walk.specs.Walk.{next, visits}
 use Rattle.table.specs.declared.Link.{Link}
 use Rattle.table.specs.declared.LinkAt.{LinkAt}
 use Rattle.table.specs.declared.LinkAt.the-variants.{Refused, Past, Free, Linked}

@@ -2,7 +2,7 @@
 -- position is the count − 1. Where positions repeat, reading takes the highest chunk number; appending takes the lowest with the largest position.
 -- And "Directory entry": the count buffer holds the chunks linked to each slot; a state refusal keeps the counts made before it. Assumes nothing.
 use Prim.Native.Nat.{ℕ, _+_, _-_, _*_, _%_, _<_}
-use mathlib.Core.Bool.{Bool, true, false, _&&_, _||_}
+use mathlib.Core.Bool.{Bool, _&&_, _||_}
 use mathlib.Core.List.{List}
 use lib.Dec.{eqb, ltb}
 use lib.ListN.{getD, set}
@@ -23,7 +23,6 @@ use Rattle.table.specs.declared.Place.the-variants as place
 use Rattle.table.specs.declared.Pick.{Pick}
 use Rattle.table.specs.declared.Pick.the-variants as free
 use Rattle.table.specs.declared.ChainState.{ChainState}
-use Rattle.table.specs.declared.ChainParts.{ChainParts}
 use Rattle.table.specs.declared.Chained.{Chained}
 use Rattle.table.specs.declared.Chained.the-variants as chained
 use Rattle.table.specs.Link.{linkAt}

@@ -1,6 +1,4 @@
 use borrow.Author.Needs.{needs}
-use mathlib.Core.Path.{_≡_, refl, sym, _∙_, ap}
-use Prim.Native.Nat.{ℕ, _%_}
 use Rattle.table.proofs.Clears.{clear-owned, clear-kept}
 use Rattle.table.proofs.clear_link.Statement.{statement}
 use Rattle.table.proofs.clear_link.Tie as tie

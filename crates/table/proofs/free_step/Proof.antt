@@ -1,7 +1,5 @@
 use borrow.Author.Needs.{needs}
-use mathlib.Core.Path.{_≡_, refl, sym, _∙_, ap}
-use Rattle.le.specs.Choice.{pick}
-use Rattle.table.specs.Table.{freeStep, Before}
+use Rattle.table.specs.Table.{freeStep}
 use Rattle.table.proofs.Nearest.{later-near, later-far}
 use Rattle.table.proofs.free_step.Statement.{statement}
 use Rattle.table.proofs.free_step.Tie as tie

@@ -1,0 +1,213 @@
+-- What writing a copy keeps, whatever the writes left: the volume's length, the medium record but for writes left, and the header's numbers. Of a
+-- refused one the store value is the given one. Assumes nothing.
+use mathlib.Core.Path.{_≡_, refl, sym, ap, _∙_}
+use mathlib.Core.List.{List}
+use Prim.Native.Nat.{ℕ, zero, suc, _+_, _-_, _*_, _%_, _≤_, _<_}
+use native.Mathlib.Nat.{le-refl, le-trans}
+use native.Mathlib.Omega.{arith}
+use lib.Dec.{eqb, leb, lit≤}
+use lib.ListN.{length, length-set}
+use Rattle.le.specs.Part.{zeros}
+use Rattle.le.proofs.Choices.{pick-keeps}
+use Rattle.le.proofs.Parts.{length-over, length-zeros}
+use Rattle.medium.specs.declared.Error.{Error}
+use Rattle.medium.specs.declared.Medium.{Medium}
+use Rattle.medium.specs.declared.Outcome.the-variants.{Done, No}
+use Rattle.medium.specs.declared.Written.{Written}
+use Rattle.medium.specs.Sector.{sectorsOf, sectorAt, spendOf, WriteOut, writeOf}
+use Rattle.medium.proofs.Laws.{length-sector, length-write, onDone-keeps}
+use Rattle.handles.specs.declared.Header.{Header}
+use Rattle.handles.specs.Body.{bodyAt}
+use Rattle.handles.specs.Handles.{bodyOf, baseOf}
+use Rattle.header.specs.Header.{encodeOf}
+use Rattle.header.proofs.Fill.{length-encode}
+use Rattle.header.proofs.Ways.{listing}
+use Rattle.directory.specs.Entry.{entryBytes}
+use Rattle.directory.proofs.Entries.{length-entry}
+use Rattle.table.specs.declared.Link.{Link}
+use Rattle.table.specs.Link.{linkBytes}
+use Rattle.table.proofs.Clears.{length-cleared}
+use Rattle.table.proofs.Numbers.{length-link}
+use Rattle.plan.specs.declared.Edit.{Edit}
+use Rattle.plan.specs.declared.Edit.the-variants.{Format, Create, Extend, Remove}
+use Rattle.plan.specs.Edit.{entryPut, linkPut, slotCleared, editOf}
+use Rattle.plan.specs.Copy.{Plan, Move, unread, held, put, bad, dueBytes, dueMove, moveOf, StepOut, actOf, stepOf, bodyFrom, Out, lastOf, copyOut}
+
+-- ---- the medium record, of which writes take only from writes left
+
+pub record Spends (m after : Medium) : Type 0 where
+  pub left : after .left ≤ m .left
+  pub unreadable : after .unreadable ≡ m .unreadable
+  pub entropy : after .entropy ≡ m .entropy
+  pub token : after .token ≡ m .token
+
+pub spends-none : (m : Medium) → Spends m m
+spends-none m = record { left = le-refl (m .left); unreadable = refl; entropy = refl; token = refl }
+
+pub spends-more : {m a b : Medium} → Spends m a → Spends a b → Spends m b
+spends-more p q =
+    record {
+      left = le-trans (q .left) (p .left);
+      unreadable = q .unreadable ∙ p .unreadable;
+      entropy = q .entropy ∙ p .entropy;
+      token = q .token ∙ p .token;
+    }
+
+pub write-spends : (vol : List ℕ) (m : Medium) (k : ℕ) (bytes : List ℕ) → Spends m (writeOf vol m k bytes .ans .medium)
+unfolding writeOf spendOf
+write-spends vol m k bytes =
+    pick-keeps (λ (w : Written). Spends m (w .medium)) (eqb (m .left) 0) _ _
+    (spends-none m)
+    (record { left = omega arith; unreadable = refl; entropy = refl; token = refl })
+
+pub write-length : (vol : List ℕ) (m : Medium) (k : ℕ) (bytes : List ℕ) → length bytes ≡ 512 → k < sectorsOf vol → length (writeOf vol m k bytes .vol) ≡ length vol
+unfolding writeOf
+write-length vol m k bytes n f = onDone-keeps (λ (v : List ℕ). length v ≡ length vol) (spendOf m .outcome) _ _ (λ _. length-write vol k bytes n f) (λ _ _. refl)
+
+-- ---- an edited sector is a sector
+
+abbrev Whole : List ℕ → Type 0
+Whole s = length s ≡ 512
+
+entry-whole : (k slot : ℕ) (bytes s : List ℕ) → length bytes ≡ 64 → Whole s → Whole (entryPut k slot bytes s)
+unfolding entryPut
+entry-whole k slot bytes s n e = pick-keeps Whole _ _ _ (length-over (64 * (slot % 8)) bytes s (rw (n, e) (omega arith)) ∙ e) e
+
+link-whole : (k chunk : ℕ) (link : Link) (s : List ℕ) → Whole s → Whole (linkPut k chunk link s)
+unfolding linkPut
+link-whole k chunk link s e =
+    let n : length (linkBytes link) ≡ 4 = length-link link in
+    pick-keeps Whole _ _ _ (length-over (4 * (chunk % 128)) (linkBytes link) s (rw (n, e) (omega arith)) ∙ e) e
+
+pub edit-whole : (e : Edit) (name : List ℕ) (k : ℕ) (s : List ℕ) → length name ≤ 40 → length s ≡ 512 → length (editOf e name k s) ≡ 512
+unfolding editOf slotCleared
+edit-whole Format name k s short n = length-zeros 512
+edit-whole (Create slot id chunk) name k s short n = link-whole k chunk _ _ (entry-whole k slot (entryBytes name id) s (length-entry name id short) n)
+edit-whole (Extend slot position next last partial records) name k s short n =
+    let linked = link-whole k next _ s n in
+    pick-keeps Whole partial _ _ (link-whole k last _ _ linked) linked
+edit-whole (Remove slot) name k s short n = pick-keeps Whole (leb 8 k) _ _ (length-cleared slot s n) (entry-whole k slot (zeros 64) s (length-zeros 64) n)
+
+pub base-most : (copy : ℕ) → baseOf copy ≤ 32
+unfolding baseOf
+base-most copy = pick-keeps (λ (b : ℕ). b ≤ 32) (eqb copy 0) 0 32 (lit≤ tt) (lit≤ tt)
+
+-- ---- a step, and the body
+
+-- a plan on a volume that has both copies' sectors
+pub record Ready (p : Plan) (vol : List ℕ) : Type 0 where
+  pub short : length (p .name) ≤ 40
+  pub enough : 64 ≤ sectorsOf vol
+
+pub ready-still : (p : Plan) (vol v : List ℕ) → length v ≡ length vol → Ready p vol → Ready p v
+ready-still p vol v e r = record { short = r .short; enough = rw e (r .enough) }
+
+pub due-whole : (p : Plan) (vol : List ℕ) (k : ℕ) → Ready p vol → k < 24 → length (dueBytes p vol k) ≡ 512
+unfolding dueBytes
+due-whole p vol k r l =
+    let at : ℕ = bodyAt (p .store) k in
+    let f : at < sectorsOf vol = omega (arith, base-most (p .store .copy), r .enough) in
+    let n : Whole (sectorAt vol at) = length-sector vol at f in
+    pick-keeps Whole _ _ _ (edit-whole (p .edit) (p .name) k (sectorAt vol at) (r .short) n) n
+
+-- what a move writes is a sector
+abbrev Fills : Move → Type 0
+Fills unread = Unit
+Fills (held c) = Unit
+Fills (put c bytes) = Whole bytes
+Fills (bad e) = Unit
+
+move-fills : (p : Plan) (vol : List ℕ) (m : Medium) (k : ℕ) → Ready p vol → k < 24 → Fills (moveOf p vol m k)
+unfolding moveOf dueMove
+move-fills p vol m k r l =
+    pick-keeps Fills _ _ _ (length-zeros 512)
+    (pick-keeps Fills _ _ _ tt
+    (onDone-keeps Fills _ _ _ (λ _. pick-keeps Fills _ _ _ tt (due-whole p vol k r l)) (λ _ _. tt)))
+
+pub record Stays (vol : List ℕ) (m : Medium) (h : Header) (o : StepOut) : Type 0 where
+  pub size : length (o .vol) ≡ length vol
+  pub medium : Spends m (o .ans .medium)
+  pub numbers : o .ans .head ≡ listing h (o .ans .head .crcs)
+  pub count : length (o .ans .head .crcs) ≡ length (h .crcs)
+
+act-stays : (p : Plan) (move : Move) (vol : List ℕ) (m : Medium) (h : Header) (k : ℕ) → Fills move → 64 ≤ sectorsOf vol → k < 24 → Stays vol m h (actOf p move vol m h k)
+unfolding actOf
+act-stays p unread vol m h k w e l = record { size = refl; medium = spends-none m; numbers = refl; count = refl }
+act-stays p (held c) vol m h k w e l = record { size = refl; medium = spends-none m; numbers = refl; count = length-set (h .crcs) k c }
+act-stays p (bad r) vol m h k w e l = record { size = refl; medium = spends-none m; numbers = refl; count = refl }
+act-stays p (put c bytes) vol m h k w e l =
+    let at : ℕ = baseOf (p .copy) + 1 + k in
+    let f : at < sectorsOf vol = omega (arith, base-most (p .copy)) in
+    record { size = write-length vol m at bytes w f; medium = write-spends vol m at bytes; numbers = refl; count = length-set (h .crcs) k c }
+
+pub step-stays : (p : Plan) (vol : List ℕ) (m : Medium) (h : Header) (k : ℕ) → Ready p vol → k < 24 → Stays vol m h (stepOf p vol m h k)
+unfolding stepOf
+step-stays p vol m h k r l = act-stays p (moveOf p vol m k) vol m h k (move-fills p vol m k r l) (r .enough) l
+
+stays-more : {vol : List ℕ} {m : Medium} {h : Header} (s o : StepOut) → Stays vol m h s → Stays (s .vol) (s .ans .medium) (s .ans .head) o → Stays vol m h o
+stays-more s o p q =
+    record {
+      size = q .size ∙ p .size;
+      medium = spends-more (p .medium) (q .medium);
+      numbers = q .numbers ∙ ap (λ (x : Header). listing x (o .ans .head .crcs)) (p .numbers);
+      count = q .count ∙ p .count;
+    }
+
+pub body-stays : (p : Plan) (n k : ℕ) (vol : List ℕ) (m : Medium) (h : Header) → Ready p vol → k + n ≤ 24 → Stays vol m h (bodyFrom p n k vol m h)
+unfolding bodyFrom
+body-stays p zero k vol m h r l = record { size = refl; medium = spends-none m; numbers = refl; count = refl }
+body-stays p (suc n) k vol m h r l =
+    let s : StepOut = stepOf p vol m h k in
+    let one : Stays vol m h s = step-stays p vol m h k r (omega arith) in
+    onDone-keeps (Stays vol m h) (s .ans .outcome) _ _
+    (λ _. stays-more s _ one (body-stays p n (k + 1) (s .vol) (s .ans .medium) (s .ans .head) (ready-still p vol (s .vol) (one .size) r) (omega arith)))
+    (λ _ _. one)
+
+-- ---- the whole copy
+
+pub record Copied (p : Plan) (vol : List ℕ) (m : Medium) (o : Out) : Type 0 where
+  pub size : length (o .vol) ≡ length vol
+  pub medium : Spends m (o .ans .medium)
+  pub writer : o .ans .store .writer ≡ p .store .writer
+  pub refused : (e : Error) → o .ans .outcome ≡ No e → o .ans .store ≡ p .store
+  pub copy : o .ans .outcome ≡ Done → o .ans .store .copy ≡ p .copy
+  pub numbers : o .ans .outcome ≡ Done → o .ans .store .head ≡ listing (p .head) (o .ans .store .head .crcs)
+  pub count : o .ans .outcome ≡ Done → length (o .ans .store .head .crcs) ≡ 24
+
+pub not-done : {A : Type 0} {e : Error} → No e ≡ Done → A
+not-done q = let z : _≡_ {A = ℕ} 0 1 = cc in absurd (let f : ⊥ = omega arith in f)
+
+module _ (p : Plan) (vol : List ℕ) (m : Medium) where
+  refusal : {v : List ℕ} {n : Medium} {e : Error} → length v ≡ length vol → Spends m n
+      → Copied p vol m (record { vol = v; ans = record { outcome = No e; medium = n; store = p .store } })
+  refusal s t = record { size = s; medium = t; writer = refl; refused = λ _ _. refl; copy = not-done; numbers = not-done; count = not-done }
+
+  module _ (r : Ready p vol) (most : p .head .chunks ≤ 2048) (listed : length (p .head .crcs) ≡ 24) where
+    last-copied : (b : StepOut) → Stays vol m (p .head) b → Copied p vol m (lastOf p (b .vol) (b .ans .medium) (b .ans .head))
+    unfolding lastOf
+    last-copied b s =
+        let h : Header = b .ans .head in
+        let at : ℕ = baseOf (p .copy) in
+        let n : length (h .crcs) ≡ 24 = s .count ∙ listed in
+        let c : h .chunks ≡ p .head .chunks = ap (λ (x : Header). x .chunks) (s .numbers) in
+        let f : at < sectorsOf (b .vol) = omega (arith, base-most (p .copy), r .enough, s .size) in
+        let w : length (writeOf (b .vol) (b .ans .medium) at (encodeOf h) .vol) ≡ length vol = write-length _ _ at (encodeOf h) (length-encode h n (rw c most)) f ∙ s .size in
+        let t : Spends m (writeOf (b .vol) (b .ans .medium) at (encodeOf h) .ans .medium) = spends-more (s .medium) (write-spends _ _ at (encodeOf h)) in
+        onDone-keeps (Copied p vol m) _ _ _
+        (λ _. record { size = w; medium = t; writer = refl; refused = λ _ q. not-done (sym q); copy = λ _. refl; numbers = λ _. s .numbers; count = λ _. n })
+        (λ _ _. refusal w t)
+
+    pub copy-copied : length (p .first) ≡ 512 → Copied p vol m (copyOut p vol m)
+    unfolding copyOut
+    copy-copied first =
+        let at : ℕ = baseOf (p .copy) in
+        let f : at < sectorsOf vol = omega (arith, base-most (p .copy), r .enough) in
+        let z : WriteOut = writeOf vol m at (p .first) in
+        let zs : length (z .vol) ≡ length vol = write-length vol m at (p .first) first f in
+        let zm : Spends m (z .ans .medium) = write-spends vol m at (p .first) in
+        let b : StepOut = bodyFrom p (bodyOf (p .head .chunks)) 0 (z .vol) (z .ans .medium) (p .head) in
+        let q : Stays (z .vol) (z .ans .medium) (p .head) b = body-stays p (bodyOf (p .head .chunks)) 0 (z .vol) (z .ans .medium) (p .head) (ready-still p vol (z .vol) zs r) (omega arith) in
+        let s : Stays vol m (p .head) b = record { size = q .size ∙ zs; medium = spends-more zm (q .medium); numbers = q .numbers; count = q .count } in
+        onDone-keeps (Copied p vol m) (z .ans .outcome) _ _
+        (λ _. onDone-keeps (Copied p vol m) (b .ans .outcome) _ _ (λ _. last-copied b s) (λ _ _. refusal (s .size) (s .medium)))
+        (λ _ _. refusal zs zm)

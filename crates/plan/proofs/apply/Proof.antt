@@ -1,0 +1,94 @@
+use borrow.Author.Needs.{needs}
+use mathlib.Core.Path.{_≡_, refl, sym, ap, _∙_}
+use borrow.Author.Tests.{eq-eqb, ne-eqb, le-leb, lt-leb}
+use native.Mathlib.Omega.{arith}
+use Rattle.le.specs.Choice.{pick}
+use Rattle.plan.specs.Edit.{editOf}
+use Rattle.plan.proofs.Laws.{create-fits, extend-fits, remove-fits, zeroed}
+use Rattle.plan.proofs.apply.Statement.{statement}
+use Rattle.plan.proofs.apply.Tie as tie
+
+enum-told : tie.Need-enum-told
+enum-told c = search needs
+
+put-zeros-requires : tie.Need-put-zeros-requires
+put-zeros-requires c κs = search needs
+
+enum-known-edit : tie.Need-enum-known-edit
+enum-known-edit c = search needs
+
+put-file-requires : tie.Need-put-file-requires
+put-file-requires c κs = search needs
+
+put-link-requires : tie.Need-put-link-requires
+put-link-requires c κs = let f = create-fits (c .before .before .before .before .before .before .before .before .before .before .args .chunks) (c .before .before .before .before .before .before .edit .given .1) (c .before .before .before .before .before .before .before .before .before .before .pre .2) in (omega (arith, c .before .before .before .put-file .kept, c .before .before .before .before .before .before .before .before .before .before .pre), f .0, search needs, search needs)
+
+enum-known-edit-2 : tie.Need-enum-known-edit-2
+enum-known-edit-2 c = search needs
+
+add-t27 : tie.Need-add-t27
+add-t27 c = omega (arith, extend-fits (c .before .before .before .before .before .args .chunks) (c .before .edit2 .given .1) (c .before .before .before .before .before .pre .2))
+
+put-link-requires-2 : tie.Need-put-link-requires-2
+put-link-requires-2 c κs = let f = extend-fits (c .before .before .before .before .before .before .args .chunks) (c .before .before .edit2 .given .1) (c .before .before .before .before .before .before .pre .2) in (omega (arith, c .before .before .before .before .before .before .pre), f .0, f .1, search needs)
+
+mark-requires : tie.Need-mark-requires
+mark-requires c κs = let f = extend-fits (c .before .before .before .before .before .before .before .before .before .before .args .chunks) (c .before .before .before .before .before .before .edit2 .given .1) (c .before .before .before .before .before .before .before .before .before .before .pre .2) in (omega (arith, c .before .before .before .put-link2 .kept, c .before .before .before .before .before .before .before .before .before .before .pre), f .0, omega (arith, f .1), f .4)
+
+enum-known-edit-3 : tie.Need-enum-known-edit-3
+enum-known-edit-3 c = search needs
+
+clear-slot-requires : tie.Need-clear-slot-requires
+clear-slot-requires c κs = (omega (arith, c .before .before .before .before .before .before .pre), remove-fits (c .before .before .before .before .before .before .args .chunks) (c .before .before .edit3 .given .1) (c .before .before .before .before .before .before .pre .2))
+
+same-length : tie.Need-same-length
+same-length c = search needs
+
+returns : tie.Need-returns
+unfolding editOf
+returns c = rw (c .before .before .before .before .enum-told .given .1) (c .before .before .put-zeros .ensures ∙ zeroed (c .before .before .before .before .before .before .before .before .args .sector .now) (c .before .before .before .before .before .before .before .before .pre .0))
+
+same-length-2 : tie.Need-same-length-2
+same-length-2 c = search needs
+
+returns-2 : tie.Need-returns-2
+unfolding editOf
+returns-2 c = rw (c .before .before .before .before .before .before .before .before .before .edit .given .1, ← (c .before .before .before .before .before .before .put-file .ensures)) (c .before .before .put-link .ensures)
+
+same-length-3 : tie.Need-same-length-3
+same-length-3 c = search needs
+
+returns-3 : tie.Need-returns-3
+unfolding editOf
+returns-3 c = rw (c .before .before .before .before .before .before .before .before .before .edit2 .given .1, ← (c .before .before .before .before .before .before .put-link2 .ensures)) (c .before .before .mark .ensures)
+
+same-length-4 : tie.Need-same-length-4
+same-length-4 c = search needs
+
+returns-4 : tie.Need-returns-4
+unfolding editOf
+returns-4 c = rw (c .before .before .before .before .before .edit3 .given .1) (c .before .before .clear-slot .ensures)
+
+pub apply-spec : {M : Type 1} → statement M
+apply-spec =
+    tie.close
+    (tie.spec
+    enum-told
+    put-zeros-requires
+    enum-known-edit
+    put-file-requires
+    put-link-requires
+    enum-known-edit-2
+    add-t27
+    put-link-requires-2
+    mark-requires
+    enum-known-edit-3
+    clear-slot-requires
+    same-length
+    returns
+    same-length-2
+    returns-2
+    same-length-3
+    returns-3
+    same-length-4
+    returns-4)

@@ -1,0 +1,160 @@
+-- 01, "Commit" and "Header" (format): a copy written anew. A commit and a format differ in the first image of the header and in what is decided of
+-- each body sector. Writes left falls inside, so this settles the volume after every stop. Assumes nothing.
+use Prim.Native.Nat.{ℕ, zero, suc, _+_}
+use mathlib.Core.Bool.{Bool, true, false, not, _&&_}
+use mathlib.Core.List.{List, [], _∷_}
+use lib.Dec.{eqb}
+use lib.ListN.{getD, set}
+use Rattle.le.specs.Choice.{pick}
+use Rattle.le.specs.Part.{zeros}
+use Rattle.checksum.specs.Crc.{crc32Of}
+use Rattle.medium.specs.declared.Error.{Error}
+use Rattle.medium.specs.declared.Medium.{Medium}
+use Rattle.medium.specs.declared.Outcome.the-variants.{Done, No}
+use Rattle.medium.specs.Refusal.{onDone}
+use Rattle.medium.specs.Sector.{sectorAt, WriteOut, writeOf}
+use Rattle.handles.specs.declared.Header.{Header}
+use Rattle.handles.specs.declared.Store.{Store}
+use Rattle.handles.specs.Body.{bodyAt, checkOf}
+use Rattle.handles.specs.Handles.{bodyOf, baseOf}
+use Rattle.header.specs.Header.{encodeOf}
+use Rattle.plan.specs.declared.Committed.{Committed}
+use Rattle.plan.specs.declared.Edit.{Edit}
+use Rattle.plan.specs.declared.Edit.the-variants.{Format, Create, Extend, Remove}
+use Rattle.plan.specs.declared.Stepped.{Stepped}
+use Rattle.plan.specs.Edit.{changesOf, editOf}
+
+-- what is settled before the first write: the store value given (none for a format), the copy to write, its header with the checksums still to be
+-- made, the header's first image, the edit with its name, and the checksums that the other header lists, where it is known to be of this store
+pub record Plan : Type 0 where
+  pub store : Store
+  pub copy : ℕ
+  pub head : Header
+  pub first : List ℕ
+  pub edit : Edit
+  pub name : List ℕ
+  pub known : Bool
+  pub held : List ℕ
+
+-- the decision for a body sector: left unread; left after its checksum, which matched; written with its checksum; refused
+pub data Move : Type 0 where
+  unread : Move
+  held : ℕ → Move
+  put : ℕ → List ℕ → Move
+  bad : Error → Move
+
+-- the bytes due in body sector k of the copy
+unfoldable pub dueBytes : Plan → List ℕ → ℕ → List ℕ
+dueBytes p vol k =
+    let s : List ℕ = sectorAt vol (bodyAt (p .store) k) in
+    pick (changesOf (p .edit) k) (editOf (p .edit) (p .name) k s) s
+
+-- the other header lists this checksum for sector k
+unfoldable pub listed : Plan → ℕ → ℕ → Bool
+listed p k c = p .known && eqb (getD (p .held) k 0) c
+
+-- a sector that was read and passed: the checksum decides, not the bytes
+unfoldable pub dueMove : Plan → ℕ → List ℕ → Move
+dueMove p k bytes = pick (listed p k (crc32Of bytes)) (held (crc32Of bytes)) (put (crc32Of bytes) bytes)
+
+unfoldable pub isFormat : Edit → Bool
+isFormat Format = true
+isFormat (Create slot id chunk) = false
+isFormat (Extend slot position next last partial records) = false
+isFormat (Remove slot) = false
+
+unfoldable pub moveOf : Plan → List ℕ → Medium → ℕ → Move
+moveOf p vol m k =
+    pick (isFormat (p .edit)) (put (crc32Of (zeros 512)) (zeros 512))
+    (pick (not (changesOf (p .edit) k) && listed p k (getD (p .store .head .crcs) k 0)) unread
+    (onDone (checkOf vol m (p .store) k) (dueMove p k (dueBytes p vol k)) bad))
+
+-- one body sector: h is the header so far
+pub record StepOut : Type 0 where
+  pub vol : List ℕ
+  pub ans : Stepped
+
+abbrev pub withCrc : Header → ℕ → ℕ → Header
+withCrc h k c =
+    record {
+      id = h .id;
+      generation = h .generation;
+      «next_id» = h .«next_id»;
+      cursor = h .cursor;
+      chunks = h .chunks;
+      chunk = h .chunk;
+      crcs = set (h .crcs) k c;
+    }
+
+unfoldable pub actOf : Plan → Move → List ℕ → Medium → Header → ℕ → StepOut
+actOf p unread vol m h k = record { vol = vol; ans = record { outcome = Done; medium = m; head = h } }
+actOf p (held c) vol m h k = record { vol = vol; ans = record { outcome = Done; medium = m; head = withCrc h k c } }
+actOf p (bad e) vol m h k = record { vol = vol; ans = record { outcome = No e; medium = m; head = h } }
+actOf p (put c bytes) vol m h k =
+    let w : WriteOut = writeOf vol m (baseOf (p .copy) + 1 + k) bytes in
+    record { vol = w .vol; ans = record { outcome = w .ans .outcome; medium = w .ans .medium; head = withCrc h k c } }
+
+unfoldable pub stepOf : Plan → List ℕ → Medium → Header → ℕ → StepOut
+stepOf p vol m h k = actOf p (moveOf p vol m k) vol m h k
+
+-- n body sectors from k on; a refusal keeps the writes made so far
+unfoldable pub bodyFrom : Plan → ℕ → ℕ → List ℕ → Medium → Header → StepOut
+bodyFrom p zero k vol m h = record { vol = vol; ans = record { outcome = Done; medium = m; head = h } }
+bodyFrom p (suc n) k vol m h =
+    let s : StepOut = stepOf p vol m h k in
+    onDone (s .ans .outcome) (bodyFrom p n (k + 1) (s .vol) (s .ans .medium) (s .ans .head)) (λ e. s)
+
+-- the kinds of steps of 01's book: a commit's last write, or a record's
+pub data Kind : Type 0 where
+  formatted : Kind
+  rolledOver : Kind
+  deleted : Kind
+  deletedOldest : Kind
+  created : Kind
+  extended : Kind
+  recorded : Kind
+
+-- what writing a copy gives: the volume and the answer
+pub record Out : Type 0 where
+  pub vol : List ℕ
+  pub ans : Committed
+
+-- for the book: accepted, it made one step of its kind, and refused none
+unfoldable pub stepsOf : Kind → Out → List Kind
+stepsOf kind o = onDone (o .ans .outcome) (kind ∷ []) (λ e. [])
+
+-- refused: the store value as given
+abbrev pub refusedOut : Store → List ℕ → Medium → Error → Out
+refusedOut st vol m e = record { vol = vol; ans = record { outcome = No e; medium = m; store = st } }
+
+-- the last write makes the copy current: the store is the new one
+unfoldable pub lastOf : Plan → List ℕ → Medium → Header → Out
+lastOf p vol m h =
+    let w : WriteOut = writeOf vol m (baseOf (p .copy)) (encodeOf h) in
+    onDone (w .ans .outcome)
+    (record {
+      vol = w .vol;
+      ans = record { outcome = Done; medium = w .ans .medium; store = record { copy = p .copy; head = h; writer = p .store .writer } };
+    })
+    (refusedOut (p .store) (w .vol) (w .ans .medium))
+
+-- the first image of the header, the body, the whole header
+unfoldable pub copyOut : Plan → List ℕ → Medium → Out
+copyOut p vol m =
+    let z : WriteOut = writeOf vol m (baseOf (p .copy)) (p .first) in
+    let b : StepOut = bodyFrom p (bodyOf (p .head .chunks)) 0 (z .vol) (z .ans .medium) (p .head) in
+    onDone (z .ans .outcome)
+    (onDone (b .ans .outcome)
+    (lastOf p (b .vol) (b .ans .medium) (b .ans .head))
+    (refusedOut (p .store) (b .vol) (b .ans .medium)))
+    (refusedOut (p .store) (z .vol) (z .ans .medium))
+
+-- for demand 3: body sector k is left unwritten. It is a question to the volume before the commit
+unfoldable pub unwritten : Plan → List ℕ → Medium → ℕ → Bool
+unwritten p vol m k = leaves (moveOf p vol m k)
+  where
+    leaves : Move → Bool
+    leaves unread = true
+    leaves (held c) = true
+    leaves (put c bytes) = false
+    leaves (bad e) = false

@@ -1,0 +1,103 @@
+-- The copy that stands on a volume is the one that mount takes, and the other way round. Assumes nothing.
+use mathlib.Core.Path.{_≡_, refl}
+use mathlib.Core.Bool.{Bool, true, false, not, _&&_, _||_}
+use mathlib.Core.List.{List}
+use Prim.Native.Nat.{ℕ, zero, suc, _+_, _-_, _≤_}
+use native.Mathlib.Omega.{arith}
+use borrow.Author.Tests.{le-ltb, lt-ltb, ltb-true, ltb-false}
+use lib.Dec.{ltb, lit<}
+use Rattle.le.specs.Choice.{pick}
+use Rattle.le.proofs.Choices.{pick-keeps, pick-keeps-by}
+use Rattle.medium.specs.declared.Medium.{Medium}
+use Rattle.medium.specs.declared.Outcome.the-variants.{Done}
+use Rattle.medium.specs.Refusal.{onDone}
+use Rattle.medium.specs.Sector.{sectorsOf, readOf}
+use Rattle.medium.proofs.Laws.{onDone-keeps}
+use Rattle.handles.specs.declared.Header.{Header}
+use Rattle.handles.specs.declared.Writer.the-variants.{Nobody}
+use Rattle.handles.specs.Handles.{baseOf}
+use Rattle.handles.proofs.Laws.{and-true}
+use Rattle.header.specs.declared.answers.Copies.{Copies}
+use Rattle.header.specs.declared.answers.Current.{Current}
+use Rattle.header.specs.Header.{ours}
+use Rattle.header.specs.Copies.{isOurs, isForeign, isDamaged, copyOf, bothOf, headersOf, takesB, takenOf, noCurrent, choiceOf, currentOf, mountOf}
+use Rattle.header.proofs.Accepted.{headers-both, copy-valid, mount-current}
+use Rattle.header.proofs.Edges.{headers-read}
+use Rattle.safe.specs.Mounts.{Stands}
+use Rattle.safe.proofs.Frame.{clash}
+
+-- ---- what stands is what mount takes
+
+module _ (vol : List ℕ) (m : Medium) (h : Header) (a : readOf m 0 ≡ Done) (b : readOf m 32 ≡ Done) where
+  -- B is not taken beside an A that stands
+  not-b : Stands vol 0 h → takesB (bothOf (copyOf vol 0) (copyOf vol 32)) ≡ false
+  unfolding takesB baseOf pick
+  not-b s = rw (s .found) (go (isOurs (copyOf vol 32 .kind)) refl)
+    where
+      go : (t : Bool) → isOurs (copyOf vol 32 .kind) ≡ t → (t && ltb (h .generation) (copyOf vol 32 .head .generation)) ≡ false
+      go true q = le-ltb (h .generation) (copyOf vol 32 .head .generation) (omega (arith, s .older (copyOf vol 32 .head) (copy-valid vol 32 q)))
+      go false q = refl
+
+  yes-b : Stands vol 1 h → takesB (bothOf (copyOf vol 0) (copyOf vol 32)) ≡ true
+  unfolding takesB baseOf pick
+  yes-b s = rw (s .found) (go (isOurs (copyOf vol 0 .kind)) refl)
+    where
+      go : (t : Bool) → isOurs (copyOf vol 0 .kind) ≡ t → (not t || ltb (copyOf vol 0 .head .generation) (h .generation)) ≡ true
+      go true q = lt-ltb (copyOf vol 0 .head .generation) (h .generation) (omega (arith, s .older (copyOf vol 0 .head) (copy-valid vol 0 q)))
+      go false q = refl
+
+  -- beside it the other copy's checksums, and whether that is valid
+  pub stands-current : (c : ℕ) → Stands vol c h → currentOf vol m ≡ takenOf c h (copyOf vol (baseOf (1 - c)) .head) (isOurs (copyOf vol (baseOf (1 - c)) .kind))
+  unfolding currentOf choiceOf baseOf pick onDone
+  stands-current zero s =
+      let t = headers-read vol m (s .enough) a b (rw (s .found) refl) (s .known) in
+      rw (t, not-b s, s .found)
+  stands-current (suc zero) s =
+      let t = headers-read vol m (s .enough) a b (s .known) (rw (s .found) refl) in
+      rw (t, yes-b s, s .found)
+  stands-current (suc (suc c)) s = absurd (let f : ⊥ = omega (arith, s .number) in f)
+
+  pub stands-mount : (c : ℕ) → Stands vol c h → mountOf vol m ≡ record { outcome = Done; store = record { copy = c; head = h; writer = Nobody } }
+  unfolding mountOf takenOf onDone
+  stands-mount c s = rw (stands-current c s)
+
+-- ---- and what mount takes stands
+
+module _ (vol : List ℕ) where
+  abbrev both : Copies
+  both = bothOf (copyOf vol 0) (copyOf vol 32)
+
+  valid-b : takesB both ≡ true → isOurs (copyOf vol 32 .kind) ≡ true
+  unfolding takesB
+  valid-b t = and-true (isOurs (copyOf vol 32 .kind)) _ t .0
+
+  b-newer : takesB both ≡ true → (g : Header) → copyOf vol 0 ≡ ours g → g .generation + 1 ≤ copyOf vol 32 .head .generation
+  unfolding takesB
+  b-newer t g e = omega (arith, ltb-true (g .generation) (copyOf vol 32 .head .generation) (and-true (isOurs (copyOf vol 32 .kind)) _ (rw e at t) .1))
+
+  b-older : takesB both ≡ false → isOurs (copyOf vol 0 .kind) ≡ true → (g : Header) → copyOf vol 32 ≡ ours g → g .generation + 0 ≤ copyOf vol 0 .head .generation
+  unfolding takesB
+  b-older t o g e = omega (arith, ltb-false (copyOf vol 0 .head .generation) (g .generation) (rw (e, o) at t))
+
+  abbrev Found : Current → Type 0
+  Found r = r .outcome ≡ Done → Stands vol (r .copy) (r .head)
+
+  choice-stands : 64 ≤ sectorsOf vol → isForeign (copyOf vol 0 .kind) ≡ false → isForeign (copyOf vol 32 .kind) ≡ false → Found (choiceOf both)
+  unfolding choiceOf takenOf noCurrent baseOf pick
+  choice-stands enough fa fb =
+      pick-keeps-by Found (takesB both) _ _
+      (λ t _. record { enough = enough; number = lit< tt; found = copy-valid vol 32 (valid-b t); known = fa; older = b-newer t })
+      (λ t. pick-keeps-by Found (isOurs (copyOf vol 0 .kind)) _ _
+      (λ o _. record { enough = enough; number = lit< tt; found = copy-valid vol 0 o; known = fb; older = b-older t o })
+      (λ _. pick-keeps Found (isDamaged (copyOf vol 0 .kind) || isDamaged (copyOf vol 32 .kind)) _ _ (clash refl) (clash refl)))
+
+  module _ (m : Medium) where
+    pub current-stands : currentOf vol m .outcome ≡ Done → Stands vol (currentOf vol m .copy) (currentOf vol m .head)
+    unfolding currentOf noCurrent
+    current-stands =
+        onDone-keeps Found (headersOf vol m .outcome) _ _
+        (λ o. let b = headers-both vol m o in rw (b .same) (choice-stands (b .enough) (b .not-a) (b .not-b)))
+        (λ e _. clash refl)
+
+    pub mount-stands : mountOf vol m .outcome ≡ Done → Stands vol (mountOf vol m .store .copy) (mountOf vol m .store .head)
+    mount-stands o = let t = mount-current vol m o in rw (t .1) (current-stands (t .0))

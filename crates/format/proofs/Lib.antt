@@ -1,0 +1,9 @@
+pub mod Crcs
+pub mod Ids
+pub mod Writes
+pub mod Ways
+pub mod Numbers
+pub mod Kept
+pub mod Accepted
+pub mod Enough
+pub mod Edges

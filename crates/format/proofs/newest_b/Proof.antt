@@ -1,0 +1,30 @@
+use borrow.Author.Needs.{needs}
+use Rattle.format.specs.Format.{newestB}
+use Rattle.format.proofs.newest_b.Statement.{statement}
+use Rattle.format.proofs.newest_b.Tie as tie
+
+element-copy-out-x : tie.Need-element-copy-out-x
+element-copy-out-x c = search needs
+
+element-copy-out-y : tie.Need-element-copy-out-y
+element-copy-out-y c = search needs
+
+is-ours-requires : tie.Need-is-ours-requires
+is-ours-requires c κs = search needs
+
+is-ours-requires-2 : tie.Need-is-ours-requires-2
+is-ours-requires-2 c κs = search needs
+
+returns : tie.Need-returns
+unfolding newestB
+returns c = rw (c .before .before .is-ours2 .ensures, c .before .before .before .is-ours .ensures)
+
+pub newest-b-spec : {M : Type 1} → statement M
+newest-b-spec =
+    tie.close
+    (tie.spec
+    element-copy-out-x
+    element-copy-out-y
+    is-ours-requires
+    is-ours-requires-2
+    returns)

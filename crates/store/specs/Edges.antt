@@ -1,5 +1,5 @@
 -- 01, "Edges": the starred rows, made of the definitions. One statement has them all; proofs/Starred proves it. Assumes nothing.
-use Prim.Native.Nat.{ℕ, _/_, _≤_}
+use Prim.Native.Nat.{ℕ, _-_, _/_, _^_, _≤_}
 use mathlib.Core.Path.{_≡_}
 use mathlib.Core.Bool.{true, false}
 use mathlib.Core.List.{List, [], _∷_, _++_}
@@ -8,14 +8,16 @@ use Rattle.le.specs.Part.{zeros}
 use Rattle.names.specs.Names.{nameOk, dirOk}
 use Rattle.medium.specs.declared.Medium.{Medium}
 use Rattle.medium.specs.declared.Outcome.the-variants.{Done}
-use Rattle.medium.specs.Refusal.{refused}
+use Rattle.medium.specs.Refusal.{ok, refused}
 use Rattle.medium.specs.Sector.{sectorsOf, readOf}
 use Rattle.handles.specs.declared.Header.{Header}
 use Rattle.header.specs.Header.{ours}
-use Rattle.header.specs.Copies.{copyOf}
+use Rattle.header.specs.Copies.{copyOf, headersOf}
 use Rattle.table.specs.declared.Link.{Link}
 use Rattle.table.specs.Link.{linkBytes}
+use Rattle.format.specs.Format.{newestOf}
 use Rattle.store.specs.Reading.{mountCall}
+use Rattle.store.specs.Writing.{formatCall}
 
 -- n bytes `a`
 abbrev pub letters : ℕ → List ℕ
@@ -34,6 +36,11 @@ pub record Starred : Type 0 where
   pub forty-one : nameOk (letters 41) ≡ false
   pub forty-dir : dirOk (letters 39 ++ (47 ∷ [])) ≡ true
   pub forty-one-dir : dirOk (letters 40 ++ (47 ∷ [])) ≡ false
+  -- size 512, S 575: 2; 576: one chunk
+  pub small : (vol : List ℕ) (m : Medium) (seed : ℕ) → headersOf vol m .outcome ≡ Done → sectorsOf vol ≡ 575
+      → formatCall vol m 512 seed .call .answer ≡ refused 2
+  pub enough : (vol : List ℕ) (m : Medium) (seed : ℕ) → headersOf vol m .outcome ≡ Done → sectorsOf vol ≡ 576 → (newestOf (headersOf vol m) ≡ 2 ^ 64 - 1 → ⊥) → 11 ≤ m .left
+      → (formatCall vol m 512 seed .call .answer ≡ ok tt) × (formatCall vol m 512 seed .call .store .head .chunks ≡ 1)
   -- slot 2, position 3, 5 records partial: bytes 83 02 03 80 hexadecimal
   pub link : linkBytes (record { slot = 2; position = 3; partial = true; records = 5 }) ≡ 0x83 ∷ 0x02 ∷ 0x03 ∷ 0x80 ∷ []
   -- zeroed volume: mount 5

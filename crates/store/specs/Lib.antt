@@ -1,3 +1,4 @@
 pub mod Asked
 pub mod Reading
+pub mod Writing
 pub mod Edges

@@ -11,6 +11,7 @@ ghost use Prim.Native.Nat.{_≤_};
 ghost use lib.ListN.{length};
 ghost use Rattle.le.specs.Part.{over, zeros};
 ghost use Rattle.store.specs.Asked.{askedOf};
+ghost use Rattle.store.specs.Writing.{formatCall};
 ghost use Rattle.store.specs.Reading.{mountAnswer, mountCall, findAnswer, findCall, listAnswer, listCall, noReaderAnswer, readerAnswer, readerCall};
 
 // Refusals 3 and 1 of a call that takes a store value and a name or directory; `fine`: that one passes its rule.
@@ -39,6 +40,21 @@ pub fn mount(volume: &[u8], medium: Medium) -> MountAnswer
     let m = header::mount(volume, medium);
     let outcome = m.outcome;
     let store = m.store;
+    MountAnswer {
+        outcome,
+        store,
+        medium,
+    }
+}
+
+// A new, empty store with chunks of `size` sectors, superseding any store there.
+pub fn format(volume: &mut [u8], medium: Medium, size: u32, seed: u64) -> MountAnswer
+    ensures { λ r. ⌜ (now (volume .exit) ≡ formatCall (now (volume .entry)) medium size seed .vol) × (mountAnswer r ≡ formatCall (now (volume .entry)) medium size seed .call) ⌝ }
+{
+    let c = format::format(volume, medium, size, seed);
+    let outcome = c.outcome;
+    let store = c.store;
+    let medium = c.medium;
     MountAnswer {
         outcome,
         store,

@@ -2,6 +2,7 @@
 //! says what 01 is.
 pub mod book;
 pub mod rig;
+pub mod script;
 pub use services::checksum::crc32;
 pub use services::store::{Appender, Dir, Entry, Error, MAGIC, Name, Next, PAYLOAD, Reader, Sector, Store, mount};
 use device_api::bulk::{Error as MediaError, OwnedInfo, ReadWrite, SECTOR_SIZE};

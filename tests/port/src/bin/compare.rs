@@ -1,0 +1,63 @@
+//! Makes random scripts and compares the port with the Rust on them:
+//!   compare SEED SECONDS              as long as that; stops at the first difference
+//!   compare write KIND SEED CALLS     prints rounds with at least so many calls
+//!   compare write fields              prints a script that changes each field alone
+//! Round k of a seed is always the same one. KIND: whole, damaged or random.
+use port::make::{Kind, fields, round};
+use port::{Tally, play, smallest};
+use std::time::{Duration, Instant};
+
+const KINDS: [(&str, Kind); 3] = [("whole", Kind::Whole), ("damaged", Kind::Damaged), ("random", Kind::Random)];
+
+fn seed_of(seed: u64, k: u64) -> u64 {
+    seed.wrapping_mul(1_000_003).wrapping_add(k)
+}
+
+fn write(kind: Kind, seed: u64, calls: u64) {
+    let (mut tally, mut k) = (Tally::default(), 0);
+    while tally.calls() < calls {
+        let lines = round(kind, seed_of(seed, k));
+        let _ = play(lines.iter().map(String::as_str), &mut tally);
+        println!("# round {k}\n{}", lines.join("\n"));
+        k += 1;
+    }
+}
+
+fn compare(seed: u64, until: Instant) -> Result<(), String> {
+    let (mut tally, mut k, mut shown) = (Tally::default(), 0, Instant::now());
+    while Instant::now() < until {
+        let (name, kind) = KINDS[(k % 3) as usize];
+        let lines = round(kind, seed_of(seed, k));
+        if let Err(stop) = play(lines.iter().map(String::as_str), &mut tally) {
+            println!("DIFFERENCE: seed {seed}, round {k} ({name}), line {}: {}\n{}", stop.line, lines[stop.line - 1], stop.why);
+            let small = smallest(lines);
+            let stop = play(small.iter().map(String::as_str), &mut Tally::default()).err().unwrap();
+            return Err(format!("smallest script:\nrule3 on\n{}\n# {}", small.join("\n"), stop.why.replace('\n', "\n# ")));
+        }
+        k += 1;
+        if shown.elapsed() > Duration::from_secs(5) {
+            shown = Instant::now();
+            eprintln!("{k} rounds, {} calls", tally.calls());
+        }
+    }
+    println!("seed {seed}, {k} rounds\n{}", tally.show());
+    Ok(())
+}
+
+fn main() {
+    let a: Vec<String> = std::env::args().skip(1).collect();
+    let n = |i: usize| a.get(i).and_then(|t| t.parse::<u64>().ok()).expect("a number");
+    if a == ["write", "fields"] {
+        return println!("{}", fields().join("\n"));
+    }
+    if a.first().is_some_and(|w| w == "write") {
+        let kind = KINDS.iter().find(|k| Some(k.0) == a.get(1).map(String::as_str)).expect("whole, damaged or random").1;
+        return write(kind, n(2), n(3));
+    }
+    let (seed, until) = (n(0), Instant::now() + Duration::from_secs(n(1)));
+    port::quiet();
+    if let Err(why) = compare(seed, until) {
+        println!("{why}");
+        std::process::exit(1);
+    }
+}

@@ -1,0 +1,144 @@
+//! The port beside the Rust: a script runs on the Rust, and each call that the
+//! port has is put to both with the same bytes, handles and buffers.
+pub mod bridge;
+pub mod make;
+use bridge::Told;
+use driver::script::{Session, words};
+use std::collections::{BTreeMap, VecDeque};
+use std::panic::{AssertUnwindSafe, catch_unwind};
+
+/// The calls that are put to both, with every refusal that each can give.
+pub const CALLS: &[(&str, &[u32])] = &[
+    ("mount", &[2, 4, 5, 6, 7]),
+    ("find", &[1, 3, 4, 7, 9]),
+    ("list", &[1, 2, 3, 4, 7]),
+    ("reader", &[1, 3, 4, 7, 9]),
+    ("next", &[2, 3, 4, 7, 11]),
+    ("seek", &[3, 4, 7, 11]),
+    ("record", &[3]),
+];
+
+/// A panic of the Rust in a call is an answer and prints nothing; any other prints where.
+pub fn quiet() {
+    std::panic::set_hook(Box::new(|p| {
+        if p.location().is_none_or(|l| !l.file().contains("services")) {
+            eprintln!("{p}");
+        }
+    }));
+}
+
+/// How often each call was accepted (0) or refused with each number.
+#[derive(Default)]
+pub struct Tally(pub BTreeMap<(&'static str, u32), u64>);
+
+impl Tally {
+    pub fn calls(&self) -> u64 {
+        self.of(|_| true, |_| true)
+    }
+    fn count(&mut self, call: &str, text: &str) {
+        let call = CALLS.iter().find(|c| c.0 == call).unwrap().0;
+        let refusal = text.strip_prefix("no ").map_or(0, |t| t.split(' ').next().unwrap().parse().unwrap());
+        *self.0.entry((call, refusal)).or_default() += 1;
+    }
+    /// The calls with these names, and those of them with these answers.
+    fn of(&self, call: impl Fn(&str) -> bool, answer: impl Fn(u32) -> bool) -> u64 {
+        self.0.iter().filter(|((c, r), _)| call(c) && answer(*r)).map(|(_, n)| n).sum()
+    }
+    /// A line for each call, and one for all: accepted, and refused as NUMBER:COUNT.
+    pub fn show(&self) -> String {
+        let line = |name: &str, call: &dyn Fn(&str) -> bool| {
+            let refused: Vec<_> = (1..13).map(|r| (r, self.of(call, |x| x == r))).filter(|(_, n)| *n > 0).collect();
+            let refused: Vec<_> = refused.iter().map(|(r, n)| format!("{r}:{n}")).collect();
+            let (all, accepted) = (self.of(call, |_| true), self.of(call, |x| x == 0));
+            format!("{name}: {all} calls, {accepted} accepted, refused {}", refused.join(" "))
+        };
+        let mut text: Vec<_> = CALLS.iter().map(|(call, _)| line(call, &|c| c == *call)).collect();
+        text.push(line("no difference", &|_| true));
+        text.join("\n")
+    }
+    /// Each call's refusals that were not seen.
+    pub fn missing(&self) -> Vec<String> {
+        let mut none = vec![];
+        for (call, refusals) in CALLS {
+            for r in [0].iter().chain(*refusals) {
+                if !self.0.contains_key(&(*call, *r)) {
+                    none.push(format!("{call} {r}"));
+                }
+            }
+        }
+        none
+    }
+}
+
+/// Why a script stopped, and at which line (from 1).
+pub struct Stop {
+    pub line: usize,
+    pub why: String,
+}
+
+/// Runs a script. A line `= TEXT` is the answer to the lines before it.
+pub fn play<'a>(lines: impl Iterator<Item = &'a str>, tally: &mut Tally) -> Result<(), Stop> {
+    let mut session = Session::new(true);
+    let mut printed: VecDeque<String> = VecDeque::new();
+    let (mut answers, mut last) = (false, 0);
+    for (k, line) in lines.enumerate() {
+        last = k + 1;
+        let stop = |why: String| Err(Stop { line: k + 1, why });
+        if let Some(want) = line.strip_prefix("= ") {
+            answers = true;
+            match printed.pop_front() {
+                Some(got) if got == want => continue,
+                got => return stop(format!("expected {want}\nthe Rust {}", got.unwrap_or("says nothing".into()))),
+            }
+        }
+        let w = words(line);
+        if answers && !w.is_empty() && !printed.is_empty() {
+            return stop(format!("an answer is not in the script: {}", printed[0]));
+        }
+        let port = w.first().and_then(|_| bridge::ask(&session, &w));
+        let text = session.line(line).unwrap_or_default();
+        if !session.rule3 {
+            return stop("a script for both keeps rule3 on".into());
+        }
+        if let Some(port) = port {
+            tally.count(w[0], &text);
+            let rust = Told::rust(&session, w[0], &text);
+            if let Some(why) = rust.differs(&port) {
+                return stop(why);
+            }
+        }
+        printed.extend(text.lines().map(String::from));
+    }
+    match printed.pop_front() {
+        Some(more) if answers => Err(Stop { line: last, why: format!("an answer is not in the script: {more}") }),
+        _ => Ok(()),
+    }
+}
+
+/// Whether two sides differ somewhere in a script; one that breaks off counts as no difference.
+pub fn differs(lines: &[String]) -> bool {
+    let run = || play(lines.iter().map(String::as_str), &mut Tally::default()).is_err();
+    catch_unwind(AssertUnwindSafe(run)).unwrap_or(false)
+}
+
+/// Lines taken out, the longest runs first, as long as the difference stays.
+pub fn smallest(mut lines: Vec<String>) -> Vec<String> {
+    std::panic::set_hook(Box::new(|_| {}));
+    let mut run = lines.len() / 2;
+    while run > 0 {
+        let (mut at, mut less) = (0, false);
+        while at < lines.len() {
+            let mut fewer = lines.clone();
+            fewer.drain(at..(at + run).min(lines.len()));
+            if differs(&fewer) {
+                (lines, less) = (fewer, true);
+            } else {
+                at += run;
+            }
+        }
+        if !less || run > 1 {
+            run /= 2;
+        }
+    }
+    lines
+}

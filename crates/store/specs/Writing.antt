@@ -1,24 +1,95 @@
 -- The calls on offer that write, as 01 has them. The steps are for 01's book. Assumes nothing.
 use Prim.Native.Nat.{ℕ}
-use mathlib.Core.List.{List}
+use mathlib.Core.Bool.{Bool, false}
+use mathlib.Core.List.{List, [], _∷_}
+use Rattle.le.specs.Choice.{pick}
+use Rattle.le.specs.Part.{part, zeros}
+use Rattle.medium.specs.declared.Error.{Error}
 use Rattle.medium.specs.declared.Medium.{Medium}
-use Rattle.medium.specs.Refusal.{outcomeOf}
-use Rattle.plan.specs.Copy.{Kind, formatted, Out, stepsOf}
+use Rattle.medium.specs.declared.Outcome.the-variants.{No}
+use Rattle.medium.specs.Refusal.{Answer, ok, refused, numberOf, onDone}
+use Rattle.handles.specs.declared.Store.{Store}
+use Rattle.handles.specs.declared.Writer.{Writer}
+use Rattle.directory.specs.declared.Found.{Found}
+use Rattle.directory.specs.declared.Found.the-variants as found
+use Rattle.directory.specs.Scan.{findOf}
+use Rattle.plan.specs.declared.Committed.{Committed}
+use Rattle.plan.specs.Copy.{Kind, formatted, deleted, deletedOldest, Out, stepsOf}
 use Rattle.format.specs.Format.{formatOf}
-use Rattle.store.specs.Reading.{MountCall}
+use Rattle.remove.specs.declared.Gone.{Gone}
+use Rattle.remove.specs.Remove.{GoneOut, removeOf, removeOldestOf, isOpen, openId}
+use Rattle.store.specs.declared.MountAnswer.{MountAnswer}
+use Rattle.store.specs.declared.Spared.{Spared}
+use Rattle.store.specs.Asked.{askedName, askedDir}
+use Rattle.store.specs.Reading.{MountCall, mountAnswer}
 
--- ---- format: the store; refused, one that no call accepts
-
-pub record FormatCall : Type 0 where
+-- what a call gives whose answer is a store: the volume, the call as 01 has it, and the steps that it made
+pub record WriteCall : Type 0 where
   pub vol : List ℕ
   pub call : MountCall
   pub steps : List Kind
 
-unfoldable pub formatCall : List ℕ → Medium → ℕ → ℕ → FormatCall
-formatCall vol m size seed =
-    let o : Out = formatOf size seed vol m in
-    record {
-      vol = o .vol;
-      call = record { answer = outcomeOf (o .ans .outcome); store = o .ans .store; medium = o .ans .medium };
-      steps = stepsOf formatted o;
-    }
+abbrev pub answerOf : Committed → MountAnswer
+answerOf c = record { outcome = c .outcome; store = c .store; medium = c .medium }
+
+abbrev pub asGiven : Error → Store → Medium → MountAnswer
+asGiven e st m = record { outcome = No e; store = st; medium = m }
+
+abbrev pub written : Kind → Out → WriteCall
+written kind o = record { vol = o .vol; call = mountAnswer (answerOf (o .ans)); steps = stepsOf kind o }
+
+abbrev pub unwritten : List ℕ → Medium → Store → Error → WriteCall
+unwritten vol m st e = record { vol = vol; call = mountAnswer (asGiven e st m); steps = [] }
+
+-- ---- format: the store; refused, one that no call accepts
+
+unfoldable pub formatCall : List ℕ → Medium → ℕ → ℕ → WriteCall
+formatCall vol m size seed = written formatted (formatOf size seed vol m)
+
+-- ---- delete: the file named
+
+unfoldable pub onNamed : List ℕ → Medium → Store → Found → WriteCall
+onNamed vol m st (found.Refused e) = unwritten vol m st e
+onNamed vol m st (found.At slot id) = written deleted (removeOf vol m st slot id)
+
+unfoldable pub deleteCall : List ℕ → Medium → Store → List ℕ → WriteCall
+deleteCall vol m st name = onDone (askedName vol st name) (onNamed vol m st (findOf vol m st name)) (unwritten vol m st)
+
+-- ---- delete_oldest: the name that went, or none
+
+abbrev pub sparedOf : Writer → Spared
+sparedOf w = record { keeping = isOpen w; keep = openId w }
+
+abbrev pub noneOf : Error → Store → Medium → Gone
+noneOf e st m = record { outcome = No e; medium = m; store = st; any = false; name = zeros 40; length = 0 }
+
+-- the answer as 01 has it: a name's bytes, or none
+pub data Went : Type 0 where
+  none : Went
+  went : List ℕ → Went
+
+unfoldable pub wentOf : Gone → Went
+wentOf g = pick (g .any) (went (part 0 (g .length) (g .name))) none
+
+pub record GoneCall : Type 0 where
+  pub answer : Answer Went
+  pub store : Store
+  pub medium : Medium
+
+abbrev pub goneAnswer : Gone → GoneCall
+goneAnswer g = record { answer = onDone (g .outcome) (ok (wentOf g)) (λ e. refused (numberOf e)); store = g .store; medium = g .medium }
+
+pub record OldestCall : Type 0 where
+  pub vol : List ℕ
+  pub call : GoneCall
+  pub steps : List Kind
+
+-- the open file is spared; where no file goes, no step is made
+unfoldable pub oldestGone : GoneOut → OldestCall
+oldestGone g = record { vol = g .vol; call = goneAnswer (g .ans); steps = pick (g .ans .any) (deletedOldest ∷ []) [] }
+
+unfoldable pub oldestCall : List ℕ → Medium → Store → List ℕ → OldestCall
+oldestCall vol m st dir =
+    onDone (askedDir vol st dir)
+    (oldestGone (removeOldestOf vol m st dir (isOpen (st .writer)) (openId (st .writer))))
+    (λ e. oldestGone (record { vol = vol; ans = noneOf e st m }))

@@ -1,17 +1,20 @@
 // The calls on offer. Each takes any bytes, names and handles: bad input gets its number.
 use directory::Found;
 use handles::Store;
+use handles::Writer;
 use medium::Error;
 use medium::Medium;
 use medium::Outcome;
+use plan::Committed;
 use reader::Reader;
+use remove::Gone;
 use table::Chained;
 ghost use mathlib.Core.Path.{_≡_};
 ghost use Prim.Native.Nat.{_≤_};
 ghost use lib.ListN.{length};
 ghost use Rattle.le.specs.Part.{over, zeros};
 ghost use Rattle.store.specs.Asked.{askedOf};
-ghost use Rattle.store.specs.Writing.{formatCall};
+ghost use Rattle.store.specs.Writing.{formatCall, asGiven, answerOf, deleteCall, sparedOf, noneOf, goneAnswer, oldestCall};
 ghost use Rattle.store.specs.Reading.{mountAnswer, mountCall, findAnswer, findCall, listAnswer, listCall, noReaderAnswer, readerAnswer, readerCall};
 
 // Refusals 3 and 1 of a call that takes a store value and a name or directory; `fine`: that one passes its rule.
@@ -186,6 +189,94 @@ pub fn reader(volume: &[u8], medium: Medium, store: Store, name: &[u8]) -> Reade
             }
         }
     }
+}
+
+// A refused call hands its store value and medium record back.
+fn as_given(e: Error, store: Store, medium: Medium) -> MountAnswer
+    ensures { λ r. ⌜ r ≡ asGiven e store medium ⌝ }
+{
+    MountAnswer {
+        outcome: Outcome::No(e),
+        store,
+        medium,
+    }
+}
+
+fn committed(c: Committed) -> MountAnswer
+    ensures { λ r. ⌜ r ≡ answerOf c ⌝ }
+{
+    let outcome = c.outcome;
+    let store = c.store;
+    let medium = c.medium;
+    MountAnswer {
+        outcome,
+        store,
+        medium,
+    }
+}
+
+// Deletes a file; an appender that writes it is stale from now on.
+pub fn delete(volume: &mut [u8], medium: Medium, store: Store, name: &[u8]) -> MountAnswer
+    ensures { λ r. ⌜ (now (volume .exit) ≡ deleteCall (now (volume .entry)) medium store (now (name .entry)) .vol) × (mountAnswer r ≡ deleteCall (now (volume .entry)) medium store (now (name .entry)) .call) ⌝ }
+{
+    let o = asked(&volume[..], store, names::name_ok(name));
+    if let Outcome::No(e) = o {
+        return as_given(e, store, medium);
+    }
+    let f = directory::find(&volume[..], medium, store, name);
+    match f {
+        Found::Refused(e) => as_given(e, store, medium),
+        Found::At { slot, id } => committed(remove::remove(volume, medium, store, slot, id)),
+    }
+}
+
+// Whether the store has an open appender, and the id of its file.
+fn open_of(writer: Writer) -> Spared
+    ensures { λ r. ⌜ r ≡ sparedOf writer ⌝ }
+{
+    match writer {
+        Writer::Nobody => Spared {
+            keeping: false,
+            keep: 0,
+        },
+        Writer::Open { token: _, id } => Spared {
+            keeping: true,
+            keep: id,
+        },
+    }
+}
+
+// The file of the open appender, which delete_oldest spares.
+pub struct Spared {
+    pub keeping: bool,
+    pub keep: u32,
+}
+
+// Nothing went: the call was refused.
+fn none_gone(e: Error, store: Store, medium: Medium) -> Gone
+    ensures { λ r. ⌜ r ≡ noneOf e store medium ⌝ }
+{
+    Gone {
+        outcome: Outcome::No(e),
+        medium,
+        store,
+        any: false,
+        name: [0u8; 40],
+        length: 0,
+    }
+}
+
+// Deletes the oldest file in a directory other than the open appender's, and tells its name, or that there is none.
+pub fn delete_oldest(volume: &mut [u8], medium: Medium, store: Store, dir: &[u8]) -> Gone
+    ensures { λ r. ⌜ (now (volume .exit) ≡ oldestCall (now (volume .entry)) medium store (now (dir .entry)) .vol) × (goneAnswer r ≡ oldestCall (now (volume .entry)) medium store (now (dir .entry)) .call) ⌝ }
+{
+    let o = asked(&volume[..], store, names::dir_ok(dir));
+    if let Outcome::No(e) = o {
+        return none_gone(e, store, medium);
+    }
+    let w = store.writer;
+    let spared = open_of(w);
+    remove::remove_oldest(volume, medium, store, dir, spared.keeping, spared.keep)
 }
 
 // Changes with every commit and format.

@@ -1,11 +1,11 @@
 -- What each call gives back in numbers: 0 or the refusal, then the handles, buffers and answer, then the medium record. Assumes nothing.
 use Prim.Native.Nat.{ℕ}
 use mathlib.Core.List.{List, [], _∷_}
-use Rattle.store.specs.Reading.{MountCall, mountCall, FindCall, findCall, ListCall, listCall, ReaderCall, readerCall}
+use Rattle.store.specs.Reading.{StoreCall, mountCall, FindCall, findCall, ListCall, listCall, ReaderCall, readerCall}
 use Rattle.reader.specs.Calls.{NextCall, nextCall, SeekCall, seekCall, recordCall}
 use Rattle.bridge.specs.Numbers.{codeOf, mediumOf, mediumWords, storeOf, storeWords, readerOf, readerWords, foundWords, itemWords, numberWords}
 
-abbrev pub mountWords : MountCall → ℕ × List ℕ × List ℕ × List ℕ
+abbrev pub mountWords : StoreCall → ℕ × List ℕ × List ℕ × List ℕ
 mountWords r = (codeOf (r .answer), storeWords (r .store), r .store .head .crcs, mediumWords (r .medium))
 
 unfoldable pub mountAt : List ℕ → List ℕ → ℕ × List ℕ × List ℕ × List ℕ

@@ -21,6 +21,7 @@ use Rattle.store.specs.Asked.{askedOf}
 
 -- a call whose input was accepted has a store value that passes, and a name that does
 pub record Accepted (vol : List ℕ) (st : Store) (fine : Bool) : Type 0 where
+  pub ok : storeOk st (sectorsOf vol) ≡ true
   pub held : Held st (sectorsOf vol)
   pub named : fine ≡ true
 
@@ -29,7 +30,7 @@ unfolding askedOf pick
 asked-done vol st fine e d = go (storeOk st (sectorsOf vol)) refl fine refl (sym e ∙ d)
   where
     go : (a : Bool) → storeOk st (sectorsOf vol) ≡ a → (b : Bool) → fine ≡ b → pick a (pick b Done (No Name)) (No Handle) ≡ Done → Accepted vol st fine
-    go true p true q r = record { held = store-facts st (sectorsOf vol) p; named = q }
+    go true p true q r = record { ok = p; held = store-facts st (sectorsOf vol) p; named = q }
     go true p false q r = absurd (let z : _≡_ {A = ℕ} 0 1 = cc in omega arith)
     go false p b q r = absurd (let z : _≡_ {A = ℕ} 0 1 = cc in omega arith)
 

@@ -1,4 +1,5 @@
 pub mod Laws
 pub mod Lists
 pub mod Starts
+pub mod Deletes
 pub mod Starred

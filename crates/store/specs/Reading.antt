@@ -27,20 +27,20 @@ use Rattle.reader.specs.Reader.{startOf, noReader}
 use Rattle.store.specs.Asked.{askedName, askedDir}
 use Rattle.store.specs.declared.FindAnswer.{FindAnswer}
 use Rattle.store.specs.declared.ListAnswer.{ListAnswer}
-use Rattle.store.specs.declared.MountAnswer.{MountAnswer}
+use Rattle.store.specs.declared.StoreAnswer.{StoreAnswer}
 use Rattle.store.specs.declared.ReaderAnswer.{ReaderAnswer}
 
 -- ---- mount: the store
 
-pub record MountCall : Type 0 where
+pub record StoreCall : Type 0 where
   pub answer : Answer Unit
   pub store : Store
   pub medium : Medium
 
-abbrev pub mountAnswer : MountAnswer → MountCall
-mountAnswer r = record { answer = outcomeOf (r .outcome); store = r .store; medium = r .medium }
+abbrev pub storeAnswer : StoreAnswer → StoreCall
+storeAnswer r = record { answer = outcomeOf (r .outcome); store = r .store; medium = r .medium }
 
-unfoldable pub mountCall : List ℕ → Medium → MountCall
+unfoldable pub mountCall : List ℕ → Medium → StoreCall
 mountCall vol m = record { answer = outcomeOf (mountOf vol m .outcome); store = mountOf vol m .store; medium = m }
 
 -- ---- find: slot and id

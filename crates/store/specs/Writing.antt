@@ -18,28 +18,28 @@ use Rattle.plan.specs.Copy.{Kind, formatted, deleted, deletedOldest, Out, steps
 use Rattle.format.specs.Format.{formatOf}
 use Rattle.remove.specs.declared.Gone.{Gone}
 use Rattle.remove.specs.Remove.{GoneOut, removeOf, removeOldestOf, isOpen, openId}
-use Rattle.store.specs.declared.MountAnswer.{MountAnswer}
+use Rattle.store.specs.declared.StoreAnswer.{StoreAnswer}
 use Rattle.store.specs.declared.Spared.{Spared}
 use Rattle.store.specs.Asked.{askedName, askedDir}
-use Rattle.store.specs.Reading.{MountCall, mountAnswer}
+use Rattle.store.specs.Reading.{StoreCall, storeAnswer}
 
 -- what a call gives whose answer is a store: the volume, the call as 01 has it, and the steps that it made
 pub record WriteCall : Type 0 where
   pub vol : List ℕ
-  pub call : MountCall
+  pub call : StoreCall
   pub steps : List Kind
 
-abbrev pub answerOf : Committed → MountAnswer
+abbrev pub answerOf : Committed → StoreAnswer
 answerOf c = record { outcome = c .outcome; store = c .store; medium = c .medium }
 
-abbrev pub asGiven : Error → Store → Medium → MountAnswer
+abbrev pub asGiven : Error → Store → Medium → StoreAnswer
 asGiven e st m = record { outcome = No e; store = st; medium = m }
 
 abbrev pub written : Kind → Out → WriteCall
-written kind o = record { vol = o .vol; call = mountAnswer (answerOf (o .ans)); steps = stepsOf kind o }
+written kind o = record { vol = o .vol; call = storeAnswer (answerOf (o .ans)); steps = stepsOf kind o }
 
 abbrev pub unwritten : List ℕ → Medium → Store → Error → WriteCall
-unwritten vol m st e = record { vol = vol; call = mountAnswer (asGiven e st m); steps = [] }
+unwritten vol m st e = record { vol = vol; call = storeAnswer (asGiven e st m); steps = [] }
 
 -- ---- format: the store; refused, one that no call accepts
 

@@ -15,7 +15,7 @@ ghost use lib.ListN.{length};
 ghost use Rattle.le.specs.Part.{over, zeros};
 ghost use Rattle.store.specs.Asked.{askedOf};
 ghost use Rattle.store.specs.Writing.{formatCall, asGiven, answerOf, deleteCall, sparedOf, noneOf, goneAnswer, oldestCall};
-ghost use Rattle.store.specs.Reading.{mountAnswer, mountCall, findAnswer, findCall, listAnswer, listCall, noReaderAnswer, readerAnswer, readerCall};
+ghost use Rattle.store.specs.Reading.{storeAnswer, mountCall, findAnswer, findCall, listAnswer, listCall, noReaderAnswer, readerAnswer, readerCall};
 
 // Refusals 3 and 1 of a call that takes a store value and a name or directory; `fine`: that one passes its rule.
 fn asked(volume: &[u8], store: Store, fine: bool) -> Outcome
@@ -30,20 +30,20 @@ fn asked(volume: &[u8], store: Store, fine: bool) -> Outcome
     Outcome::Done
 }
 
-pub struct MountAnswer {
+pub struct StoreAnswer {
     pub outcome: Outcome,
     pub store: Store,
     pub medium: Medium,
 }
 
 // The current metadata of the store in the volume.
-pub fn mount(volume: &[u8], medium: Medium) -> MountAnswer
-    ensures { λ r. ⌜ mountAnswer r ≡ mountCall (now (volume .entry)) medium ⌝ }
+pub fn mount(volume: &[u8], medium: Medium) -> StoreAnswer
+    ensures { λ r. ⌜ storeAnswer r ≡ mountCall (now (volume .entry)) medium ⌝ }
 {
     let m = header::mount(volume, medium);
     let outcome = m.outcome;
     let store = m.store;
-    MountAnswer {
+    StoreAnswer {
         outcome,
         store,
         medium,
@@ -51,14 +51,14 @@ pub fn mount(volume: &[u8], medium: Medium) -> MountAnswer
 }
 
 // A new, empty store with chunks of `size` sectors, superseding any store there.
-pub fn format(volume: &mut [u8], medium: Medium, size: u32, seed: u64) -> MountAnswer
-    ensures { λ r. ⌜ (now (volume .exit) ≡ formatCall (now (volume .entry)) medium size seed .vol) × (mountAnswer r ≡ formatCall (now (volume .entry)) medium size seed .call) ⌝ }
+pub fn format(volume: &mut [u8], medium: Medium, size: u32, seed: u64) -> StoreAnswer
+    ensures { λ r. ⌜ (now (volume .exit) ≡ formatCall (now (volume .entry)) medium size seed .vol) × (storeAnswer r ≡ formatCall (now (volume .entry)) medium size seed .call) ⌝ }
 {
     let c = format::format(volume, medium, size, seed);
     let outcome = c.outcome;
     let store = c.store;
     let medium = c.medium;
-    MountAnswer {
+    StoreAnswer {
         outcome,
         store,
         medium,
@@ -192,23 +192,23 @@ pub fn reader(volume: &[u8], medium: Medium, store: Store, name: &[u8]) -> Reade
 }
 
 // A refused call hands its store value and medium record back.
-fn as_given(e: Error, store: Store, medium: Medium) -> MountAnswer
+fn as_given(e: Error, store: Store, medium: Medium) -> StoreAnswer
     ensures { λ r. ⌜ r ≡ asGiven e store medium ⌝ }
 {
-    MountAnswer {
+    StoreAnswer {
         outcome: Outcome::No(e),
         store,
         medium,
     }
 }
 
-fn committed(c: Committed) -> MountAnswer
+fn committed(c: Committed) -> StoreAnswer
     ensures { λ r. ⌜ r ≡ answerOf c ⌝ }
 {
     let outcome = c.outcome;
     let store = c.store;
     let medium = c.medium;
-    MountAnswer {
+    StoreAnswer {
         outcome,
         store,
         medium,
@@ -216,8 +216,8 @@ fn committed(c: Committed) -> MountAnswer
 }
 
 // Deletes a file; an appender that writes it is stale from now on.
-pub fn delete(volume: &mut [u8], medium: Medium, store: Store, name: &[u8]) -> MountAnswer
-    ensures { λ r. ⌜ (now (volume .exit) ≡ deleteCall (now (volume .entry)) medium store (now (name .entry)) .vol) × (mountAnswer r ≡ deleteCall (now (volume .entry)) medium store (now (name .entry)) .call) ⌝ }
+pub fn delete(volume: &mut [u8], medium: Medium, store: Store, name: &[u8]) -> StoreAnswer
+    ensures { λ r. ⌜ (now (volume .exit) ≡ deleteCall (now (volume .entry)) medium store (now (name .entry)) .vol) × (storeAnswer r ≡ deleteCall (now (volume .entry)) medium store (now (name .entry)) .call) ⌝ }
 {
     let o = asked(&volume[..], store, names::name_ok(name));
     if let Outcome::No(e) = o {

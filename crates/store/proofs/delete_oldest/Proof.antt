@@ -1,0 +1,56 @@
+use borrow.Author.Needs.{needs}
+use mathlib.Core.Path.{ap}
+use Rattle.store.specs.declared.Spared.{Spared}
+use Rattle.store.proofs.Laws.{asked-done}
+use Rattle.store.proofs.Deletes.{dir-refused, oldest-told}
+use Rattle.store.proofs.delete_oldest.Statement.{statement}
+use Rattle.store.proofs.delete_oldest.Tie as tie
+
+dir-ok-requires : tie.Need-dir-ok-requires
+dir-ok-requires c κs = search needs
+
+asked-requires : tie.Need-asked-requires
+asked-requires c κs = search needs
+
+enum-known-o : tie.Need-enum-known-o
+enum-known-o c = search needs
+
+none-gone-requires : tie.Need-none-gone-requires
+none-gone-requires c κs = search needs
+
+same-length : tie.Need-same-length
+same-length c = search needs
+
+returns : tie.Need-returns
+returns c = let a = c .before .before .before .before .before .before .before .before .before .args in dir-refused (a .volume .now) (a .medium) (a .store) (a .dir .now) (c .before .before .before .before .before .dir-ok .ensures) (c .before .before .before .before .asked .ensures) (c .before .before .o .given .1) (c .none-gone .ensures)
+
+enum-told : tie.Need-enum-told
+enum-told c = search needs
+
+open-of-requires : tie.Need-open-of-requires
+open-of-requires c κs = search needs
+
+remove-oldest-requires : tie.Need-remove-oldest-requires
+remove-oldest-requires c κs = asked-done (c .before .before .before .before .before .before .before .before .before .args .volume .now) (c .before .before .before .before .before .before .before .before .before .args .store) _ (c .before .before .before .before .asked .ensures) (c .before .before .enum-told .given .1) .ok
+
+same-length-2 : tie.Need-same-length-2
+same-length-2 c = search needs
+
+returns-2 : tie.Need-returns-2
+returns-2 c = let a = c .before .before .before .before .before .before .before .before .before .before .before .before .args in oldest-told (a .volume .now) (a .medium) (a .store) (a .dir .now) (c .before .before .before .before .before .before .before .before .dir-ok .ensures) (c .before .before .before .before .before .before .before .asked .ensures) (c .before .before .before .before .before .enum-told .given .1) (ap (λ (s : Spared). s .keeping) (c .before .before .before .before .open-of .ensures)) (ap (λ (s : Spared). s .keep) (c .before .before .before .before .open-of .ensures)) (c .before .before .remove-oldest .ensures)
+
+pub delete-oldest-spec : {M : Type 1} → statement M
+delete-oldest-spec =
+    tie.close
+    (tie.spec
+    dir-ok-requires
+    asked-requires
+    enum-known-o
+    none-gone-requires
+    same-length
+    returns
+    enum-told
+    open-of-requires
+    remove-oldest-requires
+    same-length-2
+    returns-2)

@@ -1,0 +1,7 @@
+pub mod Then
+pub mod Ways
+pub mod Facts
+pub mod Keeps
+pub mod Rolls
+pub mod Runs
+pub mod Offers

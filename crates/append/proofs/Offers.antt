@@ -1,0 +1,53 @@
+-- The calls on offer: each way out of its function, over plain values. Assumes nothing.
+use mathlib.Core.Path.{_≡_, refl, sym, ap, _∙_}
+use mathlib.Core.List.{List}
+use Prim.Native.Nat.{ℕ}
+use borrow.Author.Tests.{eq-eqb, ne-eqb}
+use Rattle.le.proofs.Choices.{pick-true, pick-false}
+use Rattle.medium.specs.declared.Error.{Error}
+use Rattle.medium.specs.declared.Medium.{Medium}
+use Rattle.medium.specs.declared.Outcome.{Outcome}
+use Rattle.medium.specs.declared.Outcome.the-variants.{Done, No}
+use Rattle.medium.specs.Refusal.{outcomeOf}
+use Rattle.handles.specs.declared.Store.{Store}
+use Rattle.remove.proofs.Ways.{onDone-no}
+use Rattle.append.specs.declared.Appender.{Appender}
+use Rattle.append.specs.declared.Flushed.{Flushed}
+use Rattle.append.specs.Flush.{AppOut, done, appendOf, flushOf, syncOf}
+use Rattle.append.specs.Calls.{mayWrite, AppCall, callOf, offered, appendCall, syncCall}
+use Rattle.append.proofs.Then.{GivesA, along, onDone-done}
+
+-- a call's volume, answer, medium record and handles are what a definition gives
+abbrev pub Offers : List ℕ → Flushed → AppCall → Type 0
+Offers v r c = (v ≡ c .vol) × (outcomeOf (r .outcome) ≡ c .answer) × (r .medium ≡ c .medium) × (r .store ≡ c .store) × (r .appender ≡ c .appender)
+
+offers-of : {v : List ℕ} {r : Flushed} (o : AppOut) (c : AppCall) → GivesA v r o → callOf o ≡ c → Offers v r c
+offers-of o c g e = (
+  g .0 ∙ ap (λ (x : AppCall). x .vol) e,
+  ap (λ (f : Flushed). outcomeOf (f .outcome)) (g .1) ∙ ap (λ (x : AppCall). x .answer) e,
+  ap (λ (f : Flushed). f .medium) (g .1) ∙ ap (λ (x : AppCall). x .medium) e,
+  ap (λ (f : Flushed). f .store) (g .1) ∙ ap (λ (x : AppCall). x .store) e,
+  ap (λ (f : Flushed). f .appender) (g .1) ∙ ap (λ (x : AppCall). x .appender) e,
+)
+
+module _ (vol : List ℕ) (m : Medium) (st : Store) (a : Appender) (o : AppOut) {c : Outcome} (asked : c ≡ mayWrite vol st a) where
+  pub offer-refused : {e : Error} {r : Flushed} → c ≡ No e → r ≡ record { outcome = No e; medium = m; store = st; appender = a } → Offers vol r (offered vol m st a o)
+  unfolding offered
+  offer-refused {e} {r} d h =
+      let q : offered vol m st a o ≡ _ = onDone-no _ _ (sym asked ∙ d) in
+      rw (h, q) (refl, refl, refl, refl, refl)
+
+  pub offer-done : {v : List ℕ} {r : Flushed} → c ≡ Done → GivesA v r o → Offers v r (offered vol m st a o)
+  unfolding offered
+  offer-done d g = offers-of o _ g (sym (onDone-done _ _ (sym asked ∙ d)))
+
+-- ---- sync
+
+module _ (vol : List ℕ) (m : Medium) (st : Store) (a : Appender) where
+  pub sync-nothing : {r : Flushed} → a .fill ≡ 0 → r ≡ record { outcome = Done; medium = m; store = st; appender = a } → GivesA vol r (syncOf vol m st a)
+  unfolding syncOf
+  sync-nothing h g = along (refl, g) (sym (pick-true _ _ (eq-eqb _ _ h)))
+
+  pub sync-flushed : {v : List ℕ} {r : Flushed} → (a .fill ≡ 0 → ⊥) → GivesA v r (flushOf vol m st a) → GivesA v r (syncOf vol m st a)
+  unfolding syncOf
+  sync-flushed h g = along g (sym (pick-false _ _ (ne-eqb _ _ h)))

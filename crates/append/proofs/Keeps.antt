@@ -60,7 +60,7 @@ fit-still {a} {st} {s} p q f = record { slot = f .slot; chunk = rw p (f .chunk);
 abbrev pub Goes : List ℕ → Medium → Store → AppOut → Type 0
 Goes vol m st o = (Stands vol m st (o .vol) (o .ans .medium) (o .ans .store)) × (Fit (o .ans .appender) (o .ans .store))
 
-goes-more : {vol v : List ℕ} {m n : Medium} {st s : Store} (o : AppOut) → Stands vol m st v n s → Goes v n s o → Goes vol m st o
+pub goes-more : {vol v : List ℕ} {m n : Medium} {st s : Store} (o : AppOut) → Stands vol m st v n s → Goes v n s o → Goes vol m st o
 goes-more o p q = (stands-more p (q .0), q .1)
 
 pub then-goes : (vol : List ℕ) (m : Medium) (st : Store) (o : AppOut) (next : Next) → Goes vol m st o

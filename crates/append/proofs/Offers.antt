@@ -2,20 +2,29 @@
 use mathlib.Core.Path.{_≡_, refl, sym, ap, _∙_}
 use mathlib.Core.List.{List}
 use Prim.Native.Nat.{ℕ}
+use mathlib.Core.Bool.{true}
 use borrow.Author.Tests.{eq-eqb, ne-eqb}
+use lib.ListN.{length}
 use Rattle.le.proofs.Choices.{pick-true, pick-false}
 use Rattle.medium.specs.declared.Error.{Error}
 use Rattle.medium.specs.declared.Medium.{Medium}
 use Rattle.medium.specs.declared.Outcome.{Outcome}
 use Rattle.medium.specs.declared.Outcome.the-variants.{Done, No}
 use Rattle.medium.specs.Refusal.{outcomeOf}
+use Rattle.medium.specs.Sector.{sectorsOf}
+use Rattle.medium.proofs.Laws.{onDone-keeps}
 use Rattle.handles.specs.declared.Store.{Store}
+use Rattle.handles.specs.Handles.{storeOk}
+use Rattle.plan.proofs.Keeps.{Spends, spends-none}
 use Rattle.remove.proofs.Ways.{onDone-no}
+use Rattle.remove.proofs.Keeps.{Good, Stands}
 use Rattle.append.specs.declared.Appender.{Appender}
 use Rattle.append.specs.declared.Flushed.{Flushed}
 use Rattle.append.specs.Flush.{AppOut, done, appendOf, flushOf, syncOf}
 use Rattle.append.specs.Calls.{mayWrite, AppCall, callOf, offered, appendCall, syncCall}
 use Rattle.append.proofs.Then.{GivesA, along, onDone-done}
+use Rattle.append.proofs.Facts.{May, may-facts}
+use Rattle.append.proofs.Runs.{Puts, append-puts, sync-puts}
 
 -- a call's volume, answer, medium record and handles are what a definition gives
 abbrev pub Offers : List ℕ → Flushed → AppCall → Type 0
@@ -51,3 +60,31 @@ module _ (vol : List ℕ) (m : Medium) (st : Store) (a : Appender) where
   pub sync-flushed : {v : List ℕ} {r : Flushed} → (a .fill ≡ 0 → ⊥) → GivesA v r (flushOf vol m st a) → GivesA v r (syncOf vol m st a)
   unfolding syncOf
   sync-flushed h g = along g (sym (pick-false _ _ (ne-eqb _ _ h)))
+
+-- ---- what a call hands back: a volume of the same length, the medium record but for writes left, and a store value that passes refusal 3 again
+
+pub record Hands (vol : List ℕ) (m : Medium) (st : Store) (c : AppCall) : Type 0 where
+  pub size : length (c .vol) ≡ length vol
+  pub medium : Spends m (c .medium)
+  pub ok : storeOk (c .store) (sectorsOf (c .vol)) ≡ true
+  pub id : c .store .head .id ≡ st .head .id
+  pub chunks : c .store .head .chunks ≡ st .head .chunks
+  pub chunk : c .store .head .chunk ≡ st .head .chunk
+
+module _ (vol : List ℕ) (m : Medium) (st : Store) (a : Appender) (good : Good vol st) (full : length (a .buffer) ≡ 486) where
+  hands : (o : AppOut) → (May vol st a → Puts vol m st o) → Hands vol m st (offered vol m st a o)
+  unfolding offered
+  hands o f =
+      onDone-keeps (Hands vol m st) (mayWrite vol st a) _ _
+      (λ q.
+      let k : Stands vol m st (o .vol) (o .ans .medium) (o .ans .store) = f (may-facts vol st a full q) .goes .0 in
+      record { size = k .size; medium = k .medium; ok = k .good .ok; id = k .id; chunks = k .chunks; chunk = k .chunk })
+      (λ _ _. record { size = refl; medium = spends-none m; ok = good .ok; id = refl; chunks = refl; chunk = refl })
+
+  pub append-hands : (bytes : List ℕ) → Hands vol m st (appendCall vol m st a bytes)
+  unfolding appendCall
+  append-hands bytes = hands _ (λ y. append-puts bytes vol m st a good (y .fit) (y .room))
+
+  pub sync-hands : Hands vol m st (syncCall vol m st a)
+  unfolding syncCall
+  sync-hands = hands _ (λ y. sync-puts vol m st a good (y .fit) (y .room))

@@ -12,18 +12,19 @@ use lib.Seq.{sets, sets-eq, drop-drop}
 use Rattle.le.specs.Choice.{pick}
 use Rattle.le.specs.Part.{over}
 use Rattle.le.proofs.Parts.{length-over}
-use Rattle.le.proofs.Choices.{pick-true, pick-false, pick-keeps-by}
+use Rattle.le.proofs.Choices.{pick-true, pick-false, pick-keeps, pick-keeps-by}
 use Rattle.medium.specs.declared.Error.{Error}
 use Rattle.medium.specs.declared.Medium.{Medium}
 use Rattle.medium.specs.declared.Outcome.the-variants.{Done, No}
+use Rattle.medium.proofs.Laws.{onDone-keeps}
 use Rattle.handles.specs.declared.Store.{Store}
 use Rattle.remove.proofs.Keeps.{Good, Stands, stands-none}
 use Rattle.append.specs.declared.Appender.{Appender}
 use Rattle.append.specs.declared.Flushed.{Flushed}
 use Rattle.append.specs.Appender.{Fit}
-use Rattle.append.specs.Flush.{AppOut, done, after, andThen, flushOf, pushed, putByte, appendOf, withRun, runOf}
+use Rattle.append.specs.Flush.{AppOut, done, after, andThen, flushOf, pushed, putByte, appendOf, syncOf, withRun, runOf}
 use Rattle.append.proofs.Then.{GivesA, Same, along, along-same, then-done, then-no, then-nothing, append-parts}
-use Rattle.append.proofs.Keeps.{Goes, flush-goes, flush-empties}
+use Rattle.append.proofs.Keeps.{Goes, goes-more, flush-goes, flush-empties}
 
 -- ---- the buffer
 
@@ -142,6 +143,50 @@ module _ (bs vol : List ℕ) (m : Medium) (st : Store) (a : Appender) (good : Go
           let n : a .fill + length bs ≡ 486 → ⊥ = eqb-false _ _ q in
           let e : appendOf bs vol m st a ≡ done vol m st (withRun bs a) = run-short bs vol m st a (fit .full) (omega arith) in
           rw e (record { goes = (stands-none vol m st good, run-fit bs a st fit h); room = λ d. omega arith })
+
+-- ---- what append and sync keep
+
+pushed-fit : (b : ℕ) (a : Appender) (st : Store) → Fit a st → a .fill < 486 → Fit (pushed b a) st
+pushed-fit b a st f h =
+    record {
+      slot = f .slot;
+      chunk = f .chunk;
+      position = f .position;
+      fill = omega arith;
+      full = length-set (a .buffer) (a .fill) b ∙ f .full;
+      tail = f .tail;
+      dir = f .dir;
+    }
+
+module _ (vol : List ℕ) (m : Medium) (st : Store) (a : Appender) (good : Good vol st) (fit : Fit a st) (h : a .fill < 486) where
+  byte-puts : (b : ℕ) → Puts vol m st (putByte b vol m st a)
+  unfolding putByte
+  byte-puts b =
+      let x : Appender = pushed b a in
+      let f : Fit x st = pushed-fit b a st fit h in
+      pick-keeps-by (Puts vol m st) (eqb (a .fill + 1) 486) _ _
+      (λ _. record { goes = flush-goes vol m st x good f; room = λ d. let z = flush-empties vol m st x d in omega (arith, z) })
+      (λ t. let n : a .fill + 1 ≡ 486 → ⊥ = eqb-false _ _ t in record { goes = (stands-none vol m st good, f); room = λ _. omega arith })
+
+  pub sync-puts : Puts vol m st (syncOf vol m st a)
+  unfolding syncOf
+  sync-puts =
+      pick-keeps (Puts vol m st) (eqb (a .fill) 0) _ _
+      (record { goes = (stands-none vol m st good, fit); room = λ _. h })
+      (record { goes = flush-goes vol m st a good fit; room = λ d. let z = flush-empties vol m st a d in omega (arith, z) })
+
+pub append-puts : (bytes vol : List ℕ) (m : Medium) (st : Store) (a : Appender) → Good vol st → Fit a st → a .fill < 486 → Puts vol m st (appendOf bytes vol m st a)
+unfolding appendOf andThen
+append-puts [] vol m st a good fit h = record { goes = (stands-none vol m st good, fit); room = λ _. h }
+append-puts (b ∷ bs) vol m st a good fit h =
+    let o : AppOut = putByte b vol m st a in
+    let p : Puts vol m st o = byte-puts vol m st a good fit h b in
+    let x : AppOut = appendOf bs (o .vol) (o .ans .medium) (o .ans .store) (o .ans .appender) in
+    onDone-keeps (Puts vol m st) (o .ans .outcome) _ _
+    (λ q.
+    let n : Puts (o .vol) (o .ans .medium) (o .ans .store) x = append-puts bs (o .vol) (o .ans .medium) (o .ans .store) (o .ans .appender) (p .goes .0 .good) (p .goes .1) (p .room q) in
+    record { goes = goes-more x (p .goes .0) (n .goes); room = n .room })
+    (λ _ _. p)
 
 -- ---- the loop over the bytes
 

@@ -1,17 +1,15 @@
 -- What an appender that passes refusals 3 and 11 tells. Assumes nothing.
-use mathlib.Core.Path.{_≡_, refl, sym, ap, _∙_}
+use mathlib.Core.Path.{_≡_, refl, sym, _∙_}
 use mathlib.Core.Bool.{Bool, true, false, not, _&&_, _||_, false≢true}
 use mathlib.Core.List.{List}
 use Prim.Native.Nat.{ℕ, _+_, _*_, _^_, _≤_, _<_}
 use native.Mathlib.Nat.{mul-le-mul}
 use native.Mathlib.Omega.{arith}
-use borrow.Author.Tests.{ltb-true, leb-true, eqb-true, not-true, le-leb, lt-leb}
+use borrow.Author.Tests.{ltb-true, leb-true, eqb-true, not-true}
 use lib.Dec.{eqb, leb, ltb}
 use lib.ListN.{length}
-use Rattle.le.specs.Choice.{pick}
 use Rattle.le.proofs.Choices.{pick-true, pick-false}
 use Rattle.medium.specs.declared.Error.the-variants.{Handle, Stale}
-use Rattle.medium.specs.declared.Outcome.{Outcome}
 use Rattle.medium.specs.declared.Outcome.the-variants.{Done, No}
 use Rattle.medium.specs.Sector.{sectorsOf}
 use Rattle.names.specs.Names.{dirOk}
@@ -20,9 +18,6 @@ use Rattle.handles.specs.Handles.{storeOk}
 use Rattle.handles.proofs.Laws.{and-true}
 use Rattle.plan.proofs.Keeps.{not-done}
 use Rattle.append.specs.declared.Appender.{Appender}
-use Rattle.append.specs.declared.Dir.{Dir}
-use Rattle.append.specs.declared.Tail.{Tail}
-use Rattle.append.specs.declared.Tail.the-variants.{At, Reopened, Closed}
 use Rattle.append.specs.Appender.{dirBytes, tailOk, isClosed, fillOk, appenderOk, writes, live, Fit}
 use Rattle.append.specs.Calls.{mayWrite}
 

@@ -1,25 +1,22 @@
 -- What writing keeps, accepted or refused: the store value passes refusal 3 still, and the appender fits it. Assumes nothing.
-use mathlib.Core.Path.{_≡_, refl, sym, ap, _∙_}
-use mathlib.Core.Bool.{Bool, true, false, _&&_}
-use mathlib.Core.List.{List, [], _∷_}
+use mathlib.Core.Path.{_≡_, refl, sym, _∙_}
+use mathlib.Core.Bool.{Bool, true, false}
+use mathlib.Core.List.{List, []}
 use Prim.Native.Nat.{ℕ, _+_, _≤_, _<_, zero-le}
 use native.Mathlib.Omega.{arith}
-use borrow.Author.Tests.{ltb-true, leb-false, le-leb, eqb-false}
-use lib.Dec.{eqb, leb, ltb, lit≤}
+use borrow.Author.Tests.{ltb-true, leb-false, le-leb}
+use lib.Dec.{leb, ltb, lit≤}
 use lib.ListN.{length, length-take, drop}
-use Rattle.le.specs.Choice.{pick}
 use Rattle.le.specs.Part.{part}
 use Rattle.le.proofs.Choices.{pick-keeps, pick-keeps-by}
 use Rattle.medium.specs.declared.Error.{Error}
-use Rattle.medium.specs.declared.Error.the-variants.{Corrupt, Full, Stale}
+use Rattle.medium.specs.declared.Error.the-variants.{Corrupt, Full}
 use Rattle.medium.specs.declared.Medium.{Medium}
-use Rattle.medium.specs.declared.Outcome.{Outcome}
-use Rattle.medium.specs.declared.Outcome.the-variants.{Done, No}
+use Rattle.medium.specs.declared.Outcome.the-variants.{Done}
 use Rattle.medium.specs.Sector.{sectorsOf, WriteOut}
 use Rattle.medium.proofs.Laws.{onDone-keeps}
 use Rattle.handles.specs.declared.Store.{Store}
-use Rattle.handles.specs.Handles.{storeOk}
-use Rattle.handles.proofs.Laws.{Held, store-facts, and-true}
+use Rattle.handles.proofs.Laws.{Held, store-facts}
 use Rattle.table.specs.declared.Pick.{Pick}
 use Rattle.table.specs.declared.Pick.the-variants as free
 use Rattle.table.specs.Table.{freeOf}
@@ -29,16 +26,15 @@ use Rattle.record.proofs.Laws.{data-inside}
 use Rattle.record.proofs.RoundTrip.{length-record}
 use Rattle.plan.specs.declared.Edit.the-variants.{Extend}
 use Rattle.plan.specs.Copy.{Out}
-use Rattle.plan.proofs.Keeps.{Spends, write-spends, write-length, not-done}
+use Rattle.plan.proofs.Keeps.{write-spends, write-length, not-done}
 use Rattle.commit.specs.Commit.{commitOf}
 use Rattle.remove.specs.Remove.{GoneOut, removeOldestOf, isOpen, openId}
 use Rattle.remove.proofs.Keeps.{Good, Stands, stands-none, stands-more, commit-stands, OutStands, GoneStands, oldest-stands}
 use Rattle.append.specs.declared.Appender.{Appender}
-use Rattle.append.specs.declared.Flushed.{Flushed}
 use Rattle.append.specs.declared.Tail.{Tail}
 use Rattle.append.specs.declared.Tail.the-variants.{At, Reopened, Closed}
 use Rattle.append.specs.Appender.{dirBytes, tailOk, Fit}
-use Rattle.append.specs.Flush.{AppOut, stopped, andThen, movedTo, linkOut, onPick, rolledOut, extendOf, filed, recordOut, onTail, writeOut, closedOf, flushOf}
+use Rattle.append.specs.Flush.{AppOut, stopped, andThen, linkOut, onPick, rolledOut, extendOf, recordOut, onTail, writeOut, flushOf}
 use Rattle.append.proofs.Then.{Next}
 
 pub onPick-keeps : {A : Type 0} (P : A → Type 0) (p : Pick) (f : Error → A) (a : A) (g : ℕ → A) → ((e : Error) → P (f e)) → P a → ((c : ℕ) → p ≡ free.At c → P (g c)) → P (onPick p f a g)

@@ -4,4 +4,5 @@ pub mod Facts
 pub mod Keeps
 pub mod Rolls
 pub mod Runs
+pub mod Owns
 pub mod Offers

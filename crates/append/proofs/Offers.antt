@@ -20,11 +20,12 @@ use Rattle.remove.proofs.Ways.{onDone-no}
 use Rattle.remove.proofs.Keeps.{Good, Stands}
 use Rattle.append.specs.declared.Appender.{Appender}
 use Rattle.append.specs.declared.Flushed.{Flushed}
-use Rattle.append.specs.Flush.{AppOut, done, appendOf, flushOf, syncOf}
+use Rattle.append.specs.Flush.{AppOut, appendOf, flushOf, syncOf}
 use Rattle.append.specs.Calls.{mayWrite, AppCall, callOf, offered, appendCall, syncCall}
 use Rattle.append.proofs.Then.{GivesA, along, onDone-done}
 use Rattle.append.proofs.Facts.{May, may-facts}
 use Rattle.append.proofs.Runs.{Puts, append-puts, sync-puts}
+use Rattle.append.proofs.Owns.{Bound, bound, Owned, append-owned, sync-owned}
 
 -- a call's volume, answer, medium record and handles are what a definition gives
 abbrev pub Offers : List ℕ → Flushed → AppCall → Type 0
@@ -61,30 +62,34 @@ module _ (vol : List ℕ) (m : Medium) (st : Store) (a : Appender) where
   unfolding syncOf
   sync-flushed h g = along g (sym (pick-false _ _ (ne-eqb _ _ h)))
 
--- ---- what a call hands back: a volume of the same length, the medium record but for writes left, and a store value that passes refusal 3 again
+-- ---- what a call hands back: a volume of the same length, the medium record but for writes left, a store value that passes refusal 3 again and has
+-- the same appender open, and that appender
 
-pub record Hands (vol : List ℕ) (m : Medium) (st : Store) (c : AppCall) : Type 0 where
+pub record Hands (vol : List ℕ) (m : Medium) (st : Store) (a : Appender) (c : AppCall) : Type 0 where
   pub size : length (c .vol) ≡ length vol
   pub medium : Spends m (c .medium)
   pub ok : storeOk (c .store) (sectorsOf (c .vol)) ≡ true
   pub id : c .store .head .id ≡ st .head .id
   pub chunks : c .store .head .chunks ≡ st .head .chunks
   pub chunk : c .store .head .chunk ≡ st .head .chunk
+  pub writer : c .store .writer ≡ st .writer
+  pub appender : Bound a (c .appender)
 
 module _ (vol : List ℕ) (m : Medium) (st : Store) (a : Appender) (good : Good vol st) (full : length (a .buffer) ≡ 486) where
-  hands : (o : AppOut) → (May vol st a → Puts vol m st o) → Hands vol m st (offered vol m st a o)
+  hands : (o : AppOut) → (May vol st a → (Puts vol m st o) × (Owned st a o)) → Hands vol m st a (offered vol m st a o)
   unfolding offered
   hands o f =
-      onDone-keeps (Hands vol m st) (mayWrite vol st a) _ _
+      onDone-keeps (Hands vol m st a) (mayWrite vol st a) _ _
       (λ q.
-      let k : Stands vol m st (o .vol) (o .ans .medium) (o .ans .store) = f (may-facts vol st a full q) .goes .0 in
-      record { size = k .size; medium = k .medium; ok = k .good .ok; id = k .id; chunks = k .chunks; chunk = k .chunk })
-      (λ _ _. record { size = refl; medium = spends-none m; ok = good .ok; id = refl; chunks = refl; chunk = refl })
+      let p : (Puts vol m st o) × (Owned st a o) = f (may-facts vol st a full q) in
+      let k : Stands vol m st (o .vol) (o .ans .medium) (o .ans .store) = p .0 .goes .0 in
+      record { size = k .size; medium = k .medium; ok = k .good .ok; id = k .id; chunks = k .chunks; chunk = k .chunk; writer = p .1 .0; appender = p .1 .1 })
+      (λ _ _. record { size = refl; medium = spends-none m; ok = good .ok; id = refl; chunks = refl; chunk = refl; writer = refl; appender = bound })
 
-  pub append-hands : (bytes : List ℕ) → Hands vol m st (appendCall vol m st a bytes)
+  pub append-hands : (bytes : List ℕ) → Hands vol m st a (appendCall vol m st a bytes)
   unfolding appendCall
-  append-hands bytes = hands _ (λ y. append-puts bytes vol m st a good (y .fit) (y .room))
+  append-hands bytes = hands (appendOf bytes vol m st a) (λ y. (append-puts bytes vol m st a good (y .fit) (y .room), append-owned bytes vol m st a good (y .fit) (y .room)))
 
-  pub sync-hands : Hands vol m st (syncCall vol m st a)
+  pub sync-hands : Hands vol m st a (syncCall vol m st a)
   unfolding syncCall
-  sync-hands = hands _ (λ y. sync-puts vol m st a good (y .fit) (y .room))
+  sync-hands = hands (syncOf vol m st a) (λ y. (sync-puts vol m st a good (y .fit) (y .room), sync-owned vol m st a good))

@@ -1,5 +1,5 @@
 -- What stands after a rollover and after an extension, as the functions that go on ask for it; and the slices that they take. Assumes nothing.
-use mathlib.Core.Path.{_≡_, refl, sym, ap, _∙_}
+use mathlib.Core.Path.{_≡_, sym, ap, _∙_}
 use mathlib.Core.Bool.{Bool, true}
 use mathlib.Core.List.{List}
 use Prim.Native.Nat.{ℕ, _-_, _≤_, _<_}
@@ -16,7 +16,7 @@ use Rattle.handles.proofs.Laws.{store-facts, and-true}
 use Rattle.remove.specs.declared.Gone.{Gone}
 use Rattle.remove.specs.Remove.{removeOldestOf}
 use Rattle.remove.proofs.Ways.{GivesG}
-use Rattle.remove.proofs.Keeps.{Good, Stands, GoneStands, oldest-stands}
+use Rattle.remove.proofs.Keeps.{GoneStands, oldest-stands}
 use Rattle.append.specs.declared.Appender.{Appender}
 use Rattle.append.specs.declared.Dir.{Dir}
 use Rattle.append.specs.declared.Flushed.{Flushed}

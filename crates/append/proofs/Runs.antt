@@ -8,8 +8,7 @@ use native.Mathlib.Omega.{arith}
 use borrow.Author.Tests.{eq-eqb, ne-eqb, eqb-true, eqb-false, ltb-true, ltb-false}
 use lib.Dec.{eqb, ltb}
 use lib.ListN.{length, set, take, drop, length-set, length-take, length-drop, take-append-drop, drop-of-length-le}
-use lib.Seq.{sets, sets-eq, drop-drop}
-use Rattle.le.specs.Choice.{pick}
+use lib.Seq.{sets-eq, drop-drop}
 use Rattle.le.specs.Part.{over}
 use Rattle.le.proofs.Parts.{length-over}
 use Rattle.le.proofs.Choices.{pick-true, pick-false, pick-keeps, pick-keeps-by}
@@ -18,12 +17,12 @@ use Rattle.medium.specs.declared.Medium.{Medium}
 use Rattle.medium.specs.declared.Outcome.the-variants.{Done, No}
 use Rattle.medium.proofs.Laws.{onDone-keeps}
 use Rattle.handles.specs.declared.Store.{Store}
-use Rattle.remove.proofs.Keeps.{Good, Stands, stands-none}
+use Rattle.remove.proofs.Keeps.{Good, stands-none}
 use Rattle.append.specs.declared.Appender.{Appender}
 use Rattle.append.specs.declared.Flushed.{Flushed}
 use Rattle.append.specs.Appender.{Fit}
 use Rattle.append.specs.Flush.{AppOut, done, after, andThen, flushOf, pushed, putByte, appendOf, syncOf, withRun, runOf}
-use Rattle.append.proofs.Then.{GivesA, Same, along, along-same, then-done, then-no, then-nothing, append-parts}
+use Rattle.append.proofs.Then.{GivesA, Same, along, then-done, then-no, then-nothing, append-parts}
 use Rattle.append.proofs.Keeps.{Goes, goes-more, flush-goes, flush-empties}
 
 -- ---- the buffer
@@ -159,7 +158,7 @@ pushed-fit b a st f h =
     }
 
 module _ (vol : List ℕ) (m : Medium) (st : Store) (a : Appender) (good : Good vol st) (fit : Fit a st) (h : a .fill < 486) where
-  byte-puts : (b : ℕ) → Puts vol m st (putByte b vol m st a)
+  pub byte-puts : (b : ℕ) → Puts vol m st (putByte b vol m st a)
   unfolding putByte
   byte-puts b =
       let x : Appender = pushed b a in

@@ -2,7 +2,7 @@
 use mathlib.Core.Path.{_≡_, refl, sym, ap, _∙_}
 use mathlib.Core.Bool.{Bool, true, false}
 use mathlib.Core.List.{List, []}
-use Prim.Native.Nat.{ℕ, _+_, _≤_, _<_}
+use Prim.Native.Nat.{ℕ, _≤_, _<_}
 use borrow.Author.Tests.{le-leb, lt-leb, lt-ltb, le-ltb}
 use Rattle.le.specs.Choice.{pick}
 use Rattle.le.specs.Part.{part}
@@ -13,7 +13,6 @@ use Rattle.medium.specs.declared.Medium.{Medium}
 use Rattle.medium.specs.declared.Outcome.the-variants.{Done, No}
 use Rattle.medium.specs.declared.Written.{Written}
 use Rattle.medium.specs.Refusal.{onDone}
-use Rattle.medium.specs.Sector.{WriteOut}
 use Rattle.handles.specs.declared.Store.{Store}
 use Rattle.table.specs.declared.Pick.{Pick}
 use Rattle.table.specs.declared.Pick.the-variants as free

@@ -4,7 +4,6 @@ use Prim.Native.Nat.{ℕ}
 use mathlib.Core.Bool.{_&&_}
 use mathlib.Core.List.{List, []}
 use Rattle.le.specs.Choice.{pick}
-use Rattle.medium.specs.declared.Error.{Error}
 use Rattle.medium.specs.declared.Error.the-variants.{Handle, Stale}
 use Rattle.medium.specs.declared.Medium.{Medium}
 use Rattle.medium.specs.declared.Outcome.{Outcome}

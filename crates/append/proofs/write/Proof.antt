@@ -1,5 +1,4 @@
 use borrow.Author.Needs.{needs}
-use Rattle.handles.proofs.Laws.{store-facts}
 use Rattle.commit.proofs.Steps.{made-of}
 use lib.Dec.{lit≤}
 use Rattle.append.proofs.Rolls.{reopened-few}

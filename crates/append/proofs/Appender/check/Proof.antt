@@ -1,8 +1,5 @@
 use borrow.Author.Needs.{needs}
-use mathlib.Core.Path.{_≡_, ap, _∙_}
-use mathlib.Core.Bool.{Bool}
 use borrow.Author.Tests.{not-true, not-false}
-use Rattle.handles.specs.Handles.{storeOk}
 use Rattle.append.proofs.Facts.{may-handle, may-stale, may-done}
 use Rattle.append.proofs.Appender.check.Statement.{statement}
 use Rattle.append.proofs.Appender.check.Tie as tie

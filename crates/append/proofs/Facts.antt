@@ -18,7 +18,7 @@ use Rattle.handles.specs.Handles.{storeOk}
 use Rattle.handles.proofs.Laws.{and-true}
 use Rattle.plan.proofs.Keeps.{not-done}
 use Rattle.append.specs.declared.Appender.{Appender}
-use Rattle.append.specs.Appender.{dirBytes, tailOk, isClosed, fillOk, appenderOk, writes, live, Fit}
+use Rattle.append.specs.Appender.{dirBytes, tailOk, isClosed, fillOk, appenderOk, writes, live, noAppender, Fit}
 use Rattle.append.specs.Calls.{mayWrite}
 
 pub number-small : (position size index : ℕ) → position ≤ 32767 → size ≤ 512 → index ≤ 512 → position * size + index < 2 ^ 32
@@ -83,6 +83,11 @@ module _ (a : Appender) (st : Store) (e : appenderOk a st ≡ true) where
   pub appender-room : isClosed (a .tail) ≡ false → a .fill < 486
   unfolding fillOk
   appender-room n = room (a .fill) (isClosed (a .tail)) (filled .0) .1 n
+
+-- what a refused call holds never passes
+pub none-fails : (st : Store) → appenderOk noAppender st ≡ false
+unfolding appenderOk noAppender
+none-fails st = refl
 
 -- ---- the tests before the work
 

@@ -140,7 +140,7 @@ fn dir_ok(dir: Dir) -> bool
 }
 
 fn writes(writer: Writer, token: u32) -> bool
-    ensures { λ r. ⌜ r ≡ Rattle.append.specs.Appender.writes writer token ⌝ }
+    ensures { λ r. ⌜ r ≡ writes writer token ⌝ }
 {
     match writer {
         Writer::Nobody => false,
@@ -231,7 +231,7 @@ impl Appender {
     // With record `index` of its chunk written.
     fn filed(self, index: u32) -> Appender
         requires { ⌜ index < 512 ⌝ }
-        ensures { λ r. ⌜ r ≡ Rattle.append.specs.Flush.filed index self ⌝ }
+        ensures { λ r. ⌜ r ≡ filed index self ⌝ }
     {
         let buffer = self.buffer;
         let dir = self.dir;

@@ -1,20 +1,17 @@
 -- 01, "Record": the appender, and which appenders refusal 3 takes. Assumes nothing.
-use Prim.Native.Nat.{ℕ, _-_}
+use Prim.Native.Nat.{ℕ, _≤_, _<_}
 use mathlib.Core.Path.{_≡_}
 use mathlib.Core.Bool.{Bool, true, false, not, _&&_, _||_}
 use mathlib.Core.List.{List}
 use lib.Dec.{eqb, leb, ltb}
+use lib.ListN.{length}
 use Rattle.le.specs.Part.{part, zeros}
-use Rattle.le.specs.Choice.{pick}
 use Rattle.names.specs.Names.{dirOk}
-use Rattle.medium.specs.Refusal.{Answer, ok, refused, numberOf}
 use Rattle.handles.specs.declared.Store.{Store}
 use Rattle.handles.specs.declared.Writer.{Writer}
 use Rattle.handles.specs.declared.Writer.the-variants.{Nobody, Open}
 use Rattle.append.specs.declared.Appender.{Appender}
 use Rattle.append.specs.declared.Dir.{Dir}
-use Rattle.append.specs.declared.Room.{Room}
-use Rattle.append.specs.declared.Room.the-variants as room
 use Rattle.append.specs.declared.Tail.{Tail}
 use Rattle.append.specs.declared.Tail.the-variants.{At, Reopened, Closed}
 
@@ -68,11 +65,12 @@ noAppender =
       dir = record { bytes = zeros 40; length = 0 };
     }
 
--- ---- room: bytes until a record is written. A fill past 486 is none that a call gave
-
-abbrev pub roomAnswer : Room → Answer ℕ
-roomAnswer (room.Refused e) = refused (numberOf e)
-roomAnswer (room.Is n) = ok n
-
-unfoldable pub roomCall : Appender → Answer ℕ
-roomCall ap = pick (leb (ap .fill) 486) (ok (486 - ap .fill)) (refused 3)
+-- what of an appender stays while bytes are written, for the functions inside: its position may pass 2,047 where a call was given a forged one
+pub record Fit (ap : Appender) (st : Store) : Type 0 where
+  pub slot : ap .slot < 64
+  pub chunk : ap .chunk < st .head .chunks
+  pub position : ap .position ≤ 32767
+  pub fill : ap .fill ≤ 486
+  pub full : length (ap .buffer) ≡ 486
+  pub tail : tailOk (ap .tail) (st .head .chunk) ≡ true
+  pub dir : ap .rolls ≡ true → ap .dir .length ≤ 40

@@ -1,1 +1,3 @@
 pub mod Appender
+pub mod Flush
+pub mod Calls

@@ -3,12 +3,11 @@ use mathlib.Core.Path.{_≡_, refl, sym, ap, _∙_}
 use mathlib.Core.Bool.{Bool, true, false, _&&_}
 use mathlib.Core.List.{List, []}
 use Prim.Native.Nat.{ℕ, _≤_}
-use native.Mathlib.Omega.{arith}
+use borrow.Author.Tests.{eqb-false, ne-eqb}
 use lib.Dec.{eqb, lit≤}
 use lib.ListN.{length}
-use Rattle.le.specs.Choice.{pick}
 use Rattle.le.specs.Part.{part}
-use Rattle.le.proofs.Choices.{pick-keeps, pick-keeps-by}
+use Rattle.le.proofs.Choices.{pick-keeps, pick-keeps-by, pick-false}
 use Rattle.medium.specs.declared.Medium.{Medium}
 use Rattle.medium.specs.Sector.{sectorsOf}
 use Rattle.medium.proofs.Laws.{onDone-keeps}
@@ -19,7 +18,6 @@ use Rattle.handles.specs.Handles.{storeOk}
 use Rattle.directory.specs.declared.Old.{Old}
 use Rattle.directory.specs.declared.OldestFile.{OldestFile}
 use Rattle.directory.specs.declared.OldestFile.the-variants as oldest
-use Rattle.directory.specs.Entry.{entryAt}
 use Rattle.directory.specs.Scan.{oldestOf}
 use Rattle.directory.proofs.Ranges.{oldest-file}
 use Rattle.plan.specs.declared.Edit.{Edit}
@@ -100,3 +98,42 @@ pub oldest-stands : (vol : List ℕ) (m : Medium) (st : Store) (dir : List ℕ) 
     → GoneStands vol m st (removeOldestOf vol m st dir keeping keep)
 unfolding removeOldestOf
 oldest-stands vol m st dir keeping keep g = found-stands vol m st (oldestOf vol m st dir keeping keep) g
+
+-- ---- the open file is spared, and stays open
+
+without-spared : (w : Writer) (id : ℕ) → (isOpen w && eqb id (openId w)) ≡ false → writerWithout id w ≡ w
+unfolding writerWithout
+without-spared Nobody id e = refl
+without-spared (Open token held) id e = pick-false _ _ (ne-eqb held id (λ q. eqb-false id held e (sym q)))
+
+abbrev SameWriter : Store → GoneOut → Type 0
+SameWriter st o = o .ans .store .writer ≡ st .writer
+
+module _ (vol : List ℕ) (m : Medium) (st : Store) (good : Good vol st) where
+  remove-spared : (slot id : ℕ) → (isOpen (st .writer) && eqb id (openId (st .writer))) ≡ false → removeOf vol m st slot id .ans .store .writer ≡ st .writer
+  unfolding removeOf
+  remove-spared slot id e =
+      let o : Out = commitOf (Remove slot) [] vol m st in
+      let w : o .ans .store .writer ≡ st .writer = commit-keeps (Remove slot) [] vol m st (good .ok) (good .count) (lit≤ tt) .writer in
+      onDone-keeps (λ (x : Out). x .ans .store .writer ≡ st .writer) (o .ans .outcome) _ _
+      (λ _. ap (writerWithout id) w ∙ without-spared (st .writer) id e)
+      (λ _ _. w)
+
+  gone-writer : (name : List ℕ) (len : ℕ) (o : Out) → o .ans .store .writer ≡ st .writer → SameWriter st (goneOf name len o)
+  unfolding goneOf
+  gone-writer name len o w = onDone-keeps (SameWriter st) (o .ans .outcome) _ _ (λ _. w) (λ _ _. w)
+
+  found-writer : (f : OldestFile) → ((old : Old) → f ≡ oldest.Done old → old .any ≡ true → (isOpen (st .writer) && eqb (old .id) (openId (st .writer))) ≡ false)
+      → SameWriter st (oldestGone vol m st f)
+  unfolding oldestGone
+  found-writer (oldest.Refused e) h = refl
+  found-writer (oldest.Done old) h =
+      pick-keeps-by (SameWriter st) (old .any) _ _
+      (λ t. gone-writer _ (old .len) (removeOf vol m st (old .slot) (old .id)) (remove-spared (old .slot) (old .id) (h old refl t)))
+      (λ _. refl)
+
+  pub spared-writer : (dir : List ℕ) → SameWriter st (removeOldestOf vol m st dir (isOpen (st .writer)) (openId (st .writer)))
+  unfolding removeOldestOf
+  spared-writer dir =
+      found-writer (oldestOf vol m st dir (isOpen (st .writer)) (openId (st .writer)))
+      (λ old q t. oldest-file vol m st dir (isOpen (st .writer)) (openId (st .writer)) q t .goes)

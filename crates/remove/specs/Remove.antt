@@ -12,7 +12,6 @@ use Rattle.medium.specs.Refusal.{onDone}
 use Rattle.handles.specs.declared.Store.{Store}
 use Rattle.handles.specs.declared.Writer.{Writer}
 use Rattle.handles.specs.declared.Writer.the-variants.{Nobody, Open}
-use Rattle.directory.specs.declared.Old.{Old}
 use Rattle.directory.specs.declared.OldestFile.{OldestFile}
 use Rattle.directory.specs.declared.OldestFile.the-variants as oldest
 use Rattle.directory.specs.Entry.{entryAt}

@@ -1,11 +1,9 @@
 use borrow.Author.Needs.{needs}
-use mathlib.Core.Path.{_≡_, refl, ap, _∙_}
-use native.Mathlib.Omega.{arith}
-use native.Mathlib.Nat.{sub-zero}
-use borrow.Author.Tests.{le-leb, lt-leb}
+use mathlib.Core.Path.{_≡_, ap, _∙_}
 use lib.ListN.{length}
-use Rattle.le.specs.Part.{part}
-use Rattle.append.specs.Appender.{dirBytes}
+use Rattle.names.specs.Names.{dirOk}
+use Rattle.append.proofs.Rolls.{dir-slice}
+use borrow.Author.Tests.{le-leb, lt-leb}
 use Rattle.append.proofs.dir_ok.Statement.{statement}
 use Rattle.append.proofs.dir_ok.Tie as tie
 
@@ -19,14 +17,13 @@ part-dir-ok-start : tie.Need-part-dir-ok-start
 part-dir-ok-start c = search needs
 
 part-dir-ok-end : tie.Need-part-dir-ok-end
-part-dir-ok-end c = let e : length (c .before .before .before .args .dir .bytes) ≡ 40 = search (needs, c .before .before .before .good .0) in omega (arith, c .before .before .if1 .left)
+part-dir-ok-end c = let n : length (c .before .before .before .args .dir .bytes) ≡ 40 = search (needs, c .before .before .before .good) in search (needs, n)
 
 dir-ok-requires : tie.Need-dir-ok-requires
 dir-ok-requires c κs = search needs
 
 returns-2 : tie.Need-returns-2
-unfolding dirBytes part
-returns-2 c = rw (le-leb _ _ (c .before .before .before .before .if1 .left)) (simp sub-zero at (c .dir-ok .ensures))
+returns-2 c = rw (le-leb _ _ (c .before .before .before .before .if1 .left)) (c .dir-ok .ensures ∙ ap dirOk (dir-slice (c .before .before .before .before .before .args .dir)))
 
 pub dir-ok-spec : {M : Type 1} → statement M
 dir-ok-spec =

@@ -1,4 +1,3 @@
-use borrow.Author.Needs.{needs}
 use mathlib.Core.Path.{refl}
 use Rattle.le.specs.Part.{zeros}
 use Rattle.append.specs.Appender.{noAppender}

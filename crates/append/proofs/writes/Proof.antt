@@ -1,5 +1,5 @@
 use borrow.Author.Needs.{needs}
-use Rattle.append.specs.Appender as appender
+use Rattle.append.specs.Appender.{writes}
 use Rattle.append.proofs.writes.Statement.{statement}
 use Rattle.append.proofs.writes.Tie as tie
 
@@ -10,11 +10,11 @@ enum-known-writer : tie.Need-enum-known-writer
 enum-known-writer c = search needs
 
 returns : tie.Need-returns
-unfolding appender.writes
+unfolding writes
 returns c = rw (c .enum-told .given .1)
 
 returns-2 : tie.Need-returns-2
-unfolding appender.writes
+unfolding writes
 returns-2 c = rw (c .before .writer .given .1)
 
 pub writes-spec : {M : Type 1} → statement M

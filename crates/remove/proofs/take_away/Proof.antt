@@ -1,8 +1,5 @@
 use borrow.Author.Needs.{needs}
 use native.Mathlib.Omega.{arith}
-use mathlib.Core.Path.{_≡_}
-use Prim.Native.Nat.{_+_, _≤_}
-use lib.ListN.{length}
 use Rattle.le.specs.Part.{part, zeros}
 use Rattle.directory.specs.Entry.{entryAt}
 use Rattle.handles.proofs.Laws.{store-facts}

@@ -2,7 +2,7 @@ use borrow.Author.Needs.{needs}
 use mathlib.Core.Path.{refl}
 use borrow.Author.Tests.{le-leb, lt-leb}
 use Rattle.le.specs.Choice.{pick}
-use Rattle.append.specs.Appender.{roomCall}
+use Rattle.append.specs.Calls.{roomCall}
 use Rattle.append.proofs.Appender.room.Statement.{statement}
 use Rattle.append.proofs.Appender.room.Tie as tie
 

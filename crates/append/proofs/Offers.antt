@@ -1,0 +1,95 @@
+-- The calls on offer: each way out of its function, over plain values. Assumes nothing.
+use mathlib.Core.Path.{_≡_, refl, sym, ap, _∙_}
+use mathlib.Core.List.{List}
+use Prim.Native.Nat.{ℕ}
+use mathlib.Core.Bool.{true}
+use borrow.Author.Tests.{eq-eqb, ne-eqb}
+use lib.ListN.{length}
+use Rattle.le.proofs.Choices.{pick-true, pick-false}
+use Rattle.medium.specs.declared.Error.{Error}
+use Rattle.medium.specs.declared.Medium.{Medium}
+use Rattle.medium.specs.declared.Outcome.{Outcome}
+use Rattle.medium.specs.declared.Outcome.the-variants.{Done, No}
+use Rattle.medium.specs.Refusal.{outcomeOf}
+use Rattle.medium.specs.Sector.{sectorsOf}
+use Rattle.medium.proofs.Laws.{onDone-keeps}
+use Rattle.handles.specs.declared.Store.{Store}
+use Rattle.handles.specs.Handles.{storeOk}
+use Rattle.plan.proofs.Keeps.{Spends, spends-none}
+use Rattle.remove.proofs.Ways.{onDone-no}
+use Rattle.remove.proofs.Keeps.{Good, Stands}
+use Rattle.append.specs.declared.Appender.{Appender}
+use Rattle.append.specs.declared.Flushed.{Flushed}
+use Rattle.append.specs.Flush.{AppOut, appendOf, flushOf, syncOf}
+use Rattle.append.specs.Calls.{mayWrite, AppCall, callOf, offered, appendCall, syncCall}
+use Rattle.append.proofs.Then.{GivesA, along, onDone-done}
+use Rattle.append.proofs.Facts.{May, may-facts}
+use Rattle.append.proofs.Runs.{Puts, append-puts, sync-puts}
+use Rattle.append.proofs.Owns.{Bound, bound, Owned, append-owned, sync-owned}
+
+-- a call's volume, answer, medium record and handles are what a definition gives
+abbrev pub Offers : List ℕ → Flushed → AppCall → Type 0
+Offers v r c = (v ≡ c .vol) × (outcomeOf (r .outcome) ≡ c .answer) × (r .medium ≡ c .medium) × (r .store ≡ c .store) × (r .appender ≡ c .appender)
+
+offers-of : {v : List ℕ} {r : Flushed} (o : AppOut) (c : AppCall) → GivesA v r o → callOf o ≡ c → Offers v r c
+offers-of o c g e = (
+  g .0 ∙ ap (λ (x : AppCall). x .vol) e,
+  ap (λ (f : Flushed). outcomeOf (f .outcome)) (g .1) ∙ ap (λ (x : AppCall). x .answer) e,
+  ap (λ (f : Flushed). f .medium) (g .1) ∙ ap (λ (x : AppCall). x .medium) e,
+  ap (λ (f : Flushed). f .store) (g .1) ∙ ap (λ (x : AppCall). x .store) e,
+  ap (λ (f : Flushed). f .appender) (g .1) ∙ ap (λ (x : AppCall). x .appender) e,
+)
+
+module _ (vol : List ℕ) (m : Medium) (st : Store) (a : Appender) (o : AppOut) {c : Outcome} (asked : c ≡ mayWrite vol st a) where
+  pub offer-refused : {e : Error} {r : Flushed} → c ≡ No e → r ≡ record { outcome = No e; medium = m; store = st; appender = a } → Offers vol r (offered vol m st a o)
+  unfolding offered
+  offer-refused {e} {r} d h =
+      let q : offered vol m st a o ≡ _ = onDone-no _ _ (sym asked ∙ d) in
+      rw (h, q) (refl, refl, refl, refl, refl)
+
+  pub offer-done : {v : List ℕ} {r : Flushed} → c ≡ Done → GivesA v r o → Offers v r (offered vol m st a o)
+  unfolding offered
+  offer-done d g = offers-of o _ g (sym (onDone-done _ _ (sym asked ∙ d)))
+
+-- ---- sync
+
+module _ (vol : List ℕ) (m : Medium) (st : Store) (a : Appender) where
+  pub sync-nothing : {r : Flushed} → a .fill ≡ 0 → r ≡ record { outcome = Done; medium = m; store = st; appender = a } → GivesA vol r (syncOf vol m st a)
+  unfolding syncOf
+  sync-nothing h g = along (refl, g) (sym (pick-true _ _ (eq-eqb _ _ h)))
+
+  pub sync-flushed : {v : List ℕ} {r : Flushed} → (a .fill ≡ 0 → ⊥) → GivesA v r (flushOf vol m st a) → GivesA v r (syncOf vol m st a)
+  unfolding syncOf
+  sync-flushed h g = along g (sym (pick-false _ _ (ne-eqb _ _ h)))
+
+-- ---- what a call hands back: a volume of the same length, the medium record but for writes left, a store value that passes refusal 3 again and has
+-- the same appender open, and that appender
+
+pub record Hands (vol : List ℕ) (m : Medium) (st : Store) (a : Appender) (c : AppCall) : Type 0 where
+  pub size : length (c .vol) ≡ length vol
+  pub medium : Spends m (c .medium)
+  pub ok : storeOk (c .store) (sectorsOf (c .vol)) ≡ true
+  pub id : c .store .head .id ≡ st .head .id
+  pub chunks : c .store .head .chunks ≡ st .head .chunks
+  pub chunk : c .store .head .chunk ≡ st .head .chunk
+  pub writer : c .store .writer ≡ st .writer
+  pub appender : Bound a (c .appender)
+
+module _ (vol : List ℕ) (m : Medium) (st : Store) (a : Appender) (good : Good vol st) (full : length (a .buffer) ≡ 486) where
+  hands : (o : AppOut) → (May vol st a → (Puts vol m st o) × (Owned st a o)) → Hands vol m st a (offered vol m st a o)
+  unfolding offered
+  hands o f =
+      onDone-keeps (Hands vol m st a) (mayWrite vol st a) _ _
+      (λ q.
+      let p : (Puts vol m st o) × (Owned st a o) = f (may-facts vol st a full q) in
+      let k : Stands vol m st (o .vol) (o .ans .medium) (o .ans .store) = p .0 .goes .0 in
+      record { size = k .size; medium = k .medium; ok = k .good .ok; id = k .id; chunks = k .chunks; chunk = k .chunk; writer = p .1 .0; appender = p .1 .1 })
+      (λ _ _. record { size = refl; medium = spends-none m; ok = good .ok; id = refl; chunks = refl; chunk = refl; writer = refl; appender = bound })
+
+  pub append-hands : (bytes : List ℕ) → Hands vol m st a (appendCall vol m st a bytes)
+  unfolding appendCall
+  append-hands bytes = hands (appendOf bytes vol m st a) (λ y. (append-puts bytes vol m st a good (y .fit) (y .room), append-owned bytes vol m st a good (y .fit) (y .room)))
+
+  pub sync-hands : Hands vol m st a (syncCall vol m st a)
+  unfolding syncCall
+  sync-hands = hands (syncOf vol m st a) (λ y. (sync-puts vol m st a good (y .fit) (y .room), sync-owned vol m st a good))

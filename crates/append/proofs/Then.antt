@@ -8,7 +8,7 @@ use Rattle.medium.specs.declared.Outcome.{Outcome}
 use Rattle.medium.specs.declared.Outcome.the-variants.{Done, No}
 use Rattle.medium.specs.Refusal.{onDone}
 use Rattle.handles.specs.declared.Store.{Store}
-use Rattle.plan.specs.Copy.{Kind}
+use Rattle.plan.specs.Copy.{Step}
 use Rattle.remove.proofs.Ways.{onDone-no}
 use Rattle.append.specs.declared.Appender.{Appender}
 use Rattle.append.specs.declared.Flushed.{Flushed}
@@ -42,7 +42,7 @@ pub then-no : (o : AppOut) (next : Next) {e : Error} → o .ans .outcome ≡ No 
 unfolding andThen
 then-no o next q = onDone-no _ (λ _. o) q
 
-after-then : (steps : List Kind) (x : AppOut) (g : Next) → andThen (after steps x) g ≡ after steps (andThen x g)
+after-then : (steps : List Step) (x : AppOut) (g : Next) → andThen (after steps x) g ≡ after steps (andThen x g)
 after-then steps x g = go (x .ans .outcome) refl
   where
     go : (r : Outcome) → x .ans .outcome ≡ r → andThen (after steps x) g ≡ after steps (andThen x g)
@@ -50,7 +50,7 @@ after-then steps x g = go (x .ans .outcome) refl
     go Done q =
         let y : AppOut = g (x .vol) (x .ans .medium) (x .ans .store) (x .ans .appender) in
         then-done (after steps x) g q
-        ∙ ap (λ (s : List Kind). record { vol = y .vol; ans = y .ans; steps = s }) (append-assoc steps (x .steps) (y .steps))
+        ∙ ap (λ (s : List Step). record { vol = y .vol; ans = y .ans; steps = s }) (append-assoc steps (x .steps) (y .steps))
         ∙ sym (ap (after steps) (then-done x g q))
 
 pub then-assoc : (o : AppOut) (f g : Next) → andThen (andThen o f) g ≡ andThen o (λ v m s a. andThen (f v m s a) g)

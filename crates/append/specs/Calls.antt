@@ -13,7 +13,7 @@ use Rattle.medium.specs.Refusal.{numberOf, Answer, ok, refused, onDone, outcome
 use Rattle.medium.specs.Sector.{sectorsOf}
 use Rattle.handles.specs.declared.Store.{Store}
 use Rattle.handles.specs.Handles.{storeOk}
-use Rattle.plan.specs.Copy.{Kind}
+use Rattle.plan.specs.Copy.{Step}
 use Rattle.append.specs.declared.Appender.{Appender}
 use Rattle.append.specs.declared.Room.{Room}
 use Rattle.append.specs.declared.Room.the-variants as room
@@ -31,7 +31,7 @@ pub record AppCall : Type 0 where
   pub medium : Medium
   pub store : Store
   pub appender : Appender
-  pub steps : List Kind
+  pub steps : List Step
 
 abbrev pub callOf : AppOut → AppCall
 callOf o =

@@ -18,7 +18,7 @@ use Rattle.table.specs.declared.Pick.the-variants as free
 use Rattle.table.specs.Table.{freeOf}
 use Rattle.record.specs.Record.{numberAt, writeRecordOf}
 use Rattle.plan.specs.declared.Edit.the-variants.{Extend}
-use Rattle.plan.specs.Copy.{Kind, rolledOver, extended, recorded, Out, stepsOf}
+use Rattle.plan.specs.Copy.{Step, rolledOver, extended, recorded, Out, stepsOf}
 use Rattle.commit.specs.Commit.{commitOf}
 use Rattle.remove.specs.Remove.{GoneOut, removeOldestOf, isOpen, openId}
 use Rattle.append.specs.declared.Appender.{Appender}
@@ -30,7 +30,7 @@ use Rattle.append.specs.Appender.{dirBytes}
 pub record AppOut : Type 0 where
   pub vol : List ℕ
   pub ans : Flushed
-  pub steps : List Kind
+  pub steps : List Step
 
 abbrev pub done : List ℕ → Medium → Store → Appender → AppOut
 done vol m st ap = record { vol = vol; ans = record { outcome = Done; medium = m; store = st; appender = ap }; steps = [] }
@@ -39,7 +39,7 @@ abbrev pub stopped : List ℕ → Medium → Store → Appender → Error → Ap
 stopped vol m st ap e = record { vol = vol; ans = record { outcome = No e; medium = m; store = st; appender = ap }; steps = [] }
 
 -- the steps made before come first
-abbrev pub after : List Kind → AppOut → AppOut
+abbrev pub after : List Step → AppOut → AppOut
 after steps o = record { vol = o .vol; ans = o .ans; steps = steps ++ o .steps }
 
 -- one after the other: a refusal ends it with what stands
@@ -87,7 +87,7 @@ rolledOut vol m st ap partial records =
     let v : List ℕ = g .vol in
     onDone (g .ans .outcome)
     (pick (g .ans .any)
-    (after (rolledOver ∷ [])
+    (after ((record { kind = rolledOver; skipped = g .skipped }) ∷ [])
     (onPick (freeOf v (g .ans .medium) (g .ans .store)) (stopped v (g .ans .medium) (g .ans .store) ap)
     (stopped v (g .ans .medium) (g .ans .store) ap Corrupt) (linkOut v (g .ans .medium) (g .ans .store) ap partial records)))
     (stopped v (g .ans .medium) (g .ans .store) ap Full))
@@ -123,7 +123,7 @@ unfoldable pub recordOut : ℕ → List ℕ → Medium → Store → Appender �
 recordOut index vol m st ap =
     let w : WriteOut = writeRecordOf vol m st (ap .id) (ap .chunk) index (numberAt (ap .position) (st .head .chunk) index) (part 0 (ap .fill) (ap .buffer)) in
     onDone (w .ans .outcome)
-    (after (recorded ∷ []) (done (w .vol) (w .ans .medium) st (filed index ap)))
+    (after ((record { kind = recorded; skipped = [] }) ∷ []) (done (w .vol) (w .ans .medium) st (filed index ap)))
     (stopped (w .vol) (w .ans .medium) st ap)
 
 unfoldable pub onTail : {A : Type 0} → Tail → (ℕ → A) → (ℕ → A) → A → A

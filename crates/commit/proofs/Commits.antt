@@ -25,7 +25,7 @@ use Rattle.header.specs.Copies.{currentOf}
 use Rattle.plan.specs.declared.Committed.{Committed}
 use Rattle.plan.specs.declared.Edit.{Edit}
 use Rattle.plan.specs.declared.Stepped.{Stepped}
-use Rattle.plan.specs.Copy.{Plan, StepOut, stepOf, bodyFrom, Out, lastOf, copyOut}
+use Rattle.plan.specs.Copy.{skippedFrom, Plan, StepOut, stepOf, bodyFrom, Out, lastOf, copyOut}
 use Rattle.plan.proofs.Keeps.{Ready, body-stays}
 use Rattle.commit.specs.Commit.{isCurrent, commitPlan, commitOf}
 use Rattle.commit.proofs.Steps.{Gives, GivesW}
@@ -85,7 +85,7 @@ module _ (p : Plan) (vol : List ℕ) (m : Medium) {at : ℕ} {vz : List ℕ} {z 
     body-refused d = rw (← ha, ← (gz .0), ← (gz .1), dz, ← (gb .0), ← (gb .1), d) (refl, refl)
 
     module _ (db : b .outcome ≡ Done) {vw : List ℕ} {w : Written} (gw : GivesW vw w (writeOf vb (b .medium) (baseOf (p .copy)) (encodeOf (b .head)))) where
-      last : copyOut p vol m ≡ lastOf p vb (b .medium) (b .head)
+      last : copyOut p vol m ≡ lastOf p (skippedFrom p vol m (bodyOf (p .head .chunks)) 0) vb (b .medium) (b .head)
       unfolding copyOut onDone
       last = rw (← ha, ← (gz .0), ← (gz .1), dz, ← (gb .0), ← (gb .1), db)
 

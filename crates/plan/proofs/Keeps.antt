@@ -31,7 +31,7 @@ use Rattle.table.proofs.Numbers.{length-link}
 use Rattle.plan.specs.declared.Edit.{Edit}
 use Rattle.plan.specs.declared.Edit.the-variants.{Format, Create, Extend, Remove}
 use Rattle.plan.specs.Edit.{entryPut, linkPut, slotCleared, editOf}
-use Rattle.plan.specs.Copy.{Plan, Move, unread, held, put, bad, dueBytes, dueMove, moveOf, StepOut, actOf, stepOf, bodyFrom, Out, lastOf, copyOut}
+use Rattle.plan.specs.Copy.{Skipped, refusedOut, Plan, Move, unread, held, put, bad, dueBytes, dueMove, moveOf, StepOut, actOf, stepOf, bodyFrom, Out, lastOf, copyOut}
 
 -- ---- the medium record, of which writes take only from writes left
 
@@ -179,13 +179,13 @@ not-done q = let z : _≡_ {A = ℕ} 0 1 = cc in absurd (let f : ⊥ = omega ari
 
 module _ (p : Plan) (vol : List ℕ) (m : Medium) where
   refusal : {v : List ℕ} {n : Medium} {e : Error} → length v ≡ length vol → Spends m n
-      → Copied p vol m (record { vol = v; ans = record { outcome = No e; medium = n; store = p .store } })
+      → Copied p vol m (refusedOut (p .store) v n e)
   refusal s t = record { size = s; medium = t; writer = refl; refused = λ _ _. refl; copy = not-done; numbers = not-done; count = not-done }
 
   module _ (r : Ready p vol) (most : p .head .chunks ≤ 2048) (listed : length (p .head .crcs) ≡ 24) where
-    last-copied : (b : StepOut) → Stays vol m (p .head) b → Copied p vol m (lastOf p (b .vol) (b .ans .medium) (b .ans .head))
+    last-copied : (skipped : List Skipped) (b : StepOut) → Stays vol m (p .head) b → Copied p vol m (lastOf p skipped (b .vol) (b .ans .medium) (b .ans .head))
     unfolding lastOf
-    last-copied b s =
+    last-copied skipped b s =
         let h : Header = b .ans .head in
         let at : ℕ = baseOf (p .copy) in
         let n : length (h .crcs) ≡ 24 = s .count ∙ listed in
@@ -209,5 +209,5 @@ module _ (p : Plan) (vol : List ℕ) (m : Medium) where
         let q : Stays (z .vol) (z .ans .medium) (p .head) b = body-stays p (bodyOf (p .head .chunks)) 0 (z .vol) (z .ans .medium) (p .head) (ready-still p vol (z .vol) zs r) (omega arith) in
         let s : Stays vol m (p .head) b = record { size = q .size ∙ zs; medium = spends-more zm (q .medium); numbers = q .numbers; count = q .count } in
         onDone-keeps (Copied p vol m) (z .ans .outcome) _ _
-        (λ _. onDone-keeps (Copied p vol m) (b .ans .outcome) _ _ (λ _. last-copied b s) (λ _ _. refusal (s .size) (s .medium)))
+        (λ _. onDone-keeps (Copied p vol m) (b .ans .outcome) _ _ (λ _. last-copied _ b s) (λ _ _. refusal (s .size) (s .medium)))
         (λ _ _. refusal zs zm)

@@ -114,27 +114,57 @@ pub data Kind : Type 0 where
   extended : Kind
   recorded : Kind
 
--- what writing a copy gives: the volume and the answer
+-- a body sector left unwritten: the bytes that it holds, and the bytes that are due there
+pub record Skipped : Type 0 where
+  pub held : List ℕ
+  pub due : List ℕ
+
+-- what writing a copy gives: the volume, the answer and, for the premise of demand 3, the body sectors that it left unwritten
 pub record Out : Type 0 where
   pub vol : List ℕ
   pub ans : Committed
+  pub skipped : List Skipped
+
+-- a step of 01's book, with the body sectors that its commit left unwritten
+pub record Step : Type 0 where
+  pub kind : Kind
+  pub skipped : List Skipped
 
 -- for the book: accepted, it made one step of its kind, and refused none
-unfoldable pub stepsOf : Kind → Out → List Kind
-stepsOf kind o = onDone (o .ans .outcome) (kind ∷ []) (λ e. [])
+unfoldable pub stepsOf : Kind → Out → List Step
+stepsOf kind o = onDone (o .ans .outcome) ((record { kind = kind; skipped = o .skipped }) ∷ []) (λ e. [])
 
 -- refused: the store value as given
 abbrev pub refusedOut : Store → List ℕ → Medium → Error → Out
-refusedOut st vol m e = record { vol = vol; ans = record { outcome = No e; medium = m; store = st } }
+refusedOut st vol m e = record { vol = vol; ans = record { outcome = No e; medium = m; store = st }; skipped = [] }
+
+-- body sector k is left unwritten. It is a question to the volume before the commit
+unfoldable pub unwritten : Plan → List ℕ → Medium → ℕ → Bool
+unwritten p vol m k = leaves (moveOf p vol m k)
+  where
+    leaves : Move → Bool
+    leaves unread = true
+    leaves (held c) = true
+    leaves (put c bytes) = false
+    leaves (bad e) = false
+
+-- those of n body sectors from k on
+unfoldable pub skippedFrom : Plan → List ℕ → Medium → ℕ → ℕ → List Skipped
+skippedFrom p vol m zero k = []
+skippedFrom p vol m (suc n) k =
+    pick (unwritten p vol m k)
+    ((record { held = sectorAt vol (baseOf (p .copy) + 1 + k); due = dueBytes p vol k }) ∷ skippedFrom p vol m n (k + 1))
+    (skippedFrom p vol m n (k + 1))
 
 -- the last write makes the copy current: the store is the new one
-unfoldable pub lastOf : Plan → List ℕ → Medium → Header → Out
-lastOf p vol m h =
+unfoldable pub lastOf : Plan → List Skipped → List ℕ → Medium → Header → Out
+lastOf p skipped vol m h =
     let w : WriteOut = writeOf vol m (baseOf (p .copy)) (encodeOf h) in
     onDone (w .ans .outcome)
     (record {
       vol = w .vol;
       ans = record { outcome = Done; medium = w .ans .medium; store = record { copy = p .copy; head = h; writer = p .store .writer } };
+      skipped = skipped;
     })
     (refusedOut (p .store) (w .vol) (w .ans .medium))
 
@@ -145,16 +175,6 @@ copyOut p vol m =
     let b : StepOut = bodyFrom p (bodyOf (p .head .chunks)) 0 (z .vol) (z .ans .medium) (p .head) in
     onDone (z .ans .outcome)
     (onDone (b .ans .outcome)
-    (lastOf p (b .vol) (b .ans .medium) (b .ans .head))
+    (lastOf p (skippedFrom p vol m (bodyOf (p .head .chunks)) 0) (b .vol) (b .ans .medium) (b .ans .head))
     (refusedOut (p .store) (b .vol) (b .ans .medium)))
     (refusedOut (p .store) (z .vol) (z .ans .medium))
-
--- for demand 3: body sector k is left unwritten. It is a question to the volume before the commit
-unfoldable pub unwritten : Plan → List ℕ → Medium → ℕ → Bool
-unwritten p vol m k = leaves (moveOf p vol m k)
-  where
-    leaves : Move → Bool
-    leaves unread = true
-    leaves (held c) = true
-    leaves (put c bytes) = false
-    leaves (bad e) = false

@@ -17,7 +17,7 @@ use Rattle.directory.specs.declared.OldestFile.the-variants as oldest
 use Rattle.directory.specs.Entry.{entryAt}
 use Rattle.directory.specs.Scan.{oldestOf}
 use Rattle.plan.specs.declared.Edit.the-variants.{Remove}
-use Rattle.plan.specs.Copy.{Out}
+use Rattle.plan.specs.Copy.{Out, Skipped}
 use Rattle.commit.specs.Commit.{commitOf}
 use Rattle.remove.specs.declared.Gone.{Gone}
 
@@ -34,13 +34,14 @@ unfoldable pub removeOf : List ℕ → Medium → Store → ℕ → ℕ → Out
 removeOf vol m st slot id =
     let o : Out = commitOf (Remove slot) [] vol m st in
     onDone (o .ans .outcome)
-    (record { vol = o .vol; ans = record { outcome = Done; medium = o .ans .medium; store = closedFor id (o .ans .store) } })
+    (record { vol = o .vol; ans = record { outcome = Done; medium = o .ans .medium; store = closedFor id (o .ans .store) }; skipped = o .skipped })
     (λ e. o)
 
 -- what removing the oldest gives: the volume and the answer, with the name that went
 pub record GoneOut : Type 0 where
   pub vol : List ℕ
   pub ans : Gone
+  pub skipped : List Skipped
 
 -- no file went
 abbrev pub noneGone : Out → GoneOut
@@ -48,24 +49,25 @@ noneGone o =
     record {
       vol = o .vol;
       ans = record { outcome = o .ans .outcome; medium = o .ans .medium; store = o .ans .store; any = false; name = zeros 40; length = 0 };
+      skipped = [];
     }
 
 -- the file went, unless its removal was refused; its name stands in the entry with zeros to 40
 unfoldable pub goneOf : List ℕ → ℕ → Out → GoneOut
 goneOf name len o =
     onDone (o .ans .outcome)
-    (record { vol = o .vol; ans = record { outcome = Done; medium = o .ans .medium; store = o .ans .store; any = true; name = name; length = len } })
+    (record { vol = o .vol; ans = record { outcome = Done; medium = o .ans .medium; store = o .ans .store; any = true; name = name; length = len }; skipped = o .skipped })
     (λ e. noneGone o)
 
 abbrev pub stands : Error → List ℕ → Medium → Store → Out
-stands e vol m st = record { vol = vol; ans = record { outcome = No e; medium = m; store = st } }
+stands e vol m st = record { vol = vol; ans = record { outcome = No e; medium = m; store = st }; skipped = [] }
 
 -- smallest id goes first, of equal ids the lowest slot; where `keeping`, files of the id `keep` are spared. None is no refusal here
 unfoldable pub oldestGone : List ℕ → Medium → Store → OldestFile → GoneOut
 oldestGone vol m st (oldest.Refused e) = noneGone (stands e vol m st)
 oldestGone vol m st (oldest.Done old) =
     pick (old .any) (goneOf (part 0 40 (entryAt vol st (old .slot))) (old .len) (removeOf vol m st (old .slot) (old .id)))
-    (noneGone (record { vol = vol; ans = record { outcome = Done; medium = m; store = st } }))
+    (noneGone (record { vol = vol; ans = record { outcome = Done; medium = m; store = st }; skipped = [] }))
 
 unfoldable pub removeOldestOf : List ℕ → Medium → Store → List ℕ → Bool → ℕ → GoneOut
 removeOldestOf vol m st dir keeping keep = oldestGone vol m st (oldestOf vol m st dir keeping keep)

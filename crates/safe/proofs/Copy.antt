@@ -13,7 +13,7 @@ use Rattle.medium.proofs.Laws.{onDone-keeps}
 use Rattle.handles.specs.declared.Header.{Header}
 use Rattle.header.specs.Header.{encodeOf}
 use Rattle.header.proofs.Fill.{length-encode}
-use Rattle.plan.specs.Copy.{Plan, StepOut, Out, moveOf, bodyFrom, refusedOut, lastOf, copyOut}
+use Rattle.plan.specs.Copy.{Skipped, Plan, StepOut, Out, moveOf, bodyFrom, refusedOut, lastOf, copyOut}
 use Rattle.safe.specs.Frame.{Kept, Used}
 use Rattle.safe.specs.Copy.{target, targetAt, bodyCount, Good, withCrcs, Made, Finished}
 use Rattle.safe.proofs.Frame.{clash, kept-none, kept-more, kept-wide, kept-sectors, used-more, write-used, write-none, write-kept, write-there, base-le}
@@ -52,9 +52,10 @@ module _ (p : Plan) (vol : List ℕ) (m : Medium) (good : Good p vol) where
   whole k = kept-wide (omega arith) (omega arith) k
 
   -- the last write
-  last-all : (v : List ℕ) (u : Medium) (h : Header) → Begun p vol m v u → Ended p vol m v h → Result p vol m (lastOf p v u h)
+  last-all : (skipped : List Skipped) (v : List ℕ) (u : Medium) (h : Header) → Begun p vol m v u → Ended p vol m v h
+      → Result p vol m (lastOf p skipped v u h)
   unfolding lastOf
-  last-all v u h b e =
+  last-all skipped v u h b e =
       let most : h .chunks ≤ 2048 = rw (ap (λ (x : Header). x .chunks) (e .head)) (omega (arith, good .chunks)) in
       let size : length (encodeOf h) ≡ 512 = length-encode h (e .count) most in
       let w : WriteOut = writeOf v u (target p) (encodeOf h) in
@@ -103,7 +104,7 @@ module _ (p : Plan) (vol : List ℕ) (m : Medium) (good : Good p vol) where
       } in
       onDone-keeps (Result p vol m) _ _ _
       (λ q. onDone-keeps (Result p vol m) _ _ _
-      (λ d. last-all (b .vol) (b .ans .medium) (b .ans .head) (begun q) (ended d))
+      (λ d. last-all _ (b .vol) (b .ans .medium) (b .ans .head) (begun q) (ended d))
       (λ e _. refused e (begun q .frame) (begun q .used) (inr (begun q .first))))
       (λ e q. refused e (whole one) used (inl (write-none vol m (target p) (p .first) q)))
 

@@ -14,7 +14,7 @@ use Rattle.directory.specs.declared.Found.{Found}
 use Rattle.directory.specs.declared.Found.the-variants as found
 use Rattle.directory.specs.Scan.{findOf}
 use Rattle.plan.specs.declared.Committed.{Committed}
-use Rattle.plan.specs.Copy.{Kind, formatted, deleted, deletedOldest, Out, stepsOf}
+use Rattle.plan.specs.Copy.{Kind, Step, formatted, deleted, deletedOldest, Out, stepsOf}
 use Rattle.format.specs.Format.{formatOf}
 use Rattle.remove.specs.declared.Gone.{Gone}
 use Rattle.remove.specs.Remove.{GoneOut, removeOf, removeOldestOf, isOpen, openId}
@@ -27,7 +27,7 @@ use Rattle.store.specs.Reading.{StoreCall, storeAnswer}
 pub record WriteCall : Type 0 where
   pub vol : List ℕ
   pub call : StoreCall
-  pub steps : List Kind
+  pub steps : List Step
 
 abbrev pub answerOf : Committed → StoreAnswer
 answerOf c = record { outcome = c .outcome; store = c .store; medium = c .medium }
@@ -82,14 +82,14 @@ goneAnswer g = record { answer = onDone (g .outcome) (ok (wentOf g)) (λ e. refu
 pub record OldestCall : Type 0 where
   pub vol : List ℕ
   pub call : GoneCall
-  pub steps : List Kind
+  pub steps : List Step
 
 -- the open file is spared; where no file goes, no step is made
 unfoldable pub oldestGone : GoneOut → OldestCall
-oldestGone g = record { vol = g .vol; call = goneAnswer (g .ans); steps = pick (g .ans .any) (deletedOldest ∷ []) [] }
+oldestGone g = record { vol = g .vol; call = goneAnswer (g .ans); steps = pick (g .ans .any) ((record { kind = deletedOldest; skipped = g .skipped }) ∷ []) [] }
 
 unfoldable pub oldestCall : List ℕ → Medium → Store → List ℕ → OldestCall
 oldestCall vol m st dir =
     onDone (askedDir vol st dir)
     (oldestGone (removeOldestOf vol m st dir (isOpen (st .writer)) (openId (st .writer))))
-    (λ e. oldestGone (record { vol = vol; ans = noneOf e st m }))
+    (λ e. oldestGone (record { vol = vol; ans = noneOf e st m; skipped = [] }))

@@ -27,7 +27,8 @@ use Rattle.plan.specs.declared.Edit.{Edit}
 use Rattle.plan.specs.declared.Edit.the-variants.{Format, Create, Extend, Remove}
 use Rattle.plan.specs.Edit.{nextAfter, cursorAfter, headAfter}
 use Rattle.plan.specs.Copy.{Out}
-use Rattle.plan.proofs.Keeps.{Spends, spends-none, Copied, copy-copied, not-done}
+use Rattle.plan.proofs.Keeps.{Spends, spends-none, not-done}
+use Rattle.plan.proofs.Whole.{Copied, copy-copied}
 use Rattle.commit.specs.Commit.{isCurrent, commitPlan, commitOf}
 
 -- ---- the header after an edit is no foreign one

@@ -1,3 +1,4 @@
+pub mod Absent
 pub mod Crcs
 pub mod Ids
 pub mod Writes

@@ -1,8 +1,8 @@
--- What writing a copy keeps, whatever the writes left: the volume's length, the medium record but for writes left, and the header's numbers. Of a
--- refused one the store value is the given one. Assumes nothing.
-use mathlib.Core.Path.{_≡_, refl, sym, ap, _∙_}
+-- What writing a body keeps, whatever the writes left: the volume's length, the medium record but for writes left, and the header's numbers. Assumes
+-- nothing.
+use mathlib.Core.Path.{_≡_, refl, ap, _∙_}
 use mathlib.Core.List.{List}
-use Prim.Native.Nat.{ℕ, zero, suc, _+_, _-_, _*_, _%_, _≤_, _<_}
+use Prim.Native.Nat.{ℕ, zero, suc, _+_, _*_, _%_, _≤_, _<_}
 use native.Mathlib.Nat.{le-refl, le-trans}
 use native.Mathlib.Omega.{arith}
 use lib.Dec.{eqb, leb, lit≤}
@@ -14,13 +14,11 @@ use Rattle.medium.specs.declared.Error.{Error}
 use Rattle.medium.specs.declared.Medium.{Medium}
 use Rattle.medium.specs.declared.Outcome.the-variants.{Done, No}
 use Rattle.medium.specs.declared.Written.{Written}
-use Rattle.medium.specs.Sector.{sectorsOf, sectorAt, spendOf, WriteOut, writeOf}
+use Rattle.medium.specs.Sector.{sectorsOf, sectorAt, spendOf, writeOf}
 use Rattle.medium.proofs.Laws.{length-sector, length-write, onDone-keeps}
 use Rattle.handles.specs.declared.Header.{Header}
 use Rattle.handles.specs.Body.{bodyAt}
-use Rattle.handles.specs.Handles.{bodyOf, baseOf}
-use Rattle.header.specs.Header.{encodeOf}
-use Rattle.header.proofs.Fill.{length-encode}
+use Rattle.handles.specs.Handles.{baseOf}
 use Rattle.header.proofs.Ways.{listing}
 use Rattle.directory.specs.Entry.{entryBytes}
 use Rattle.directory.proofs.Entries.{length-entry}
@@ -31,7 +29,7 @@ use Rattle.table.proofs.Numbers.{length-link}
 use Rattle.plan.specs.declared.Edit.{Edit}
 use Rattle.plan.specs.declared.Edit.the-variants.{Format, Create, Extend, Remove}
 use Rattle.plan.specs.Edit.{entryPut, linkPut, slotCleared, editOf}
-use Rattle.plan.specs.Copy.{Skipped, refusedOut, Plan, Move, unread, held, put, bad, dueBytes, dueMove, moveOf, StepOut, actOf, stepOf, bodyFrom, Out, lastOf, copyOut}
+use Rattle.plan.specs.Copy.{Plan, Move, unread, held, put, bad, dueBytes, dueMove, moveOf, StepOut, actOf, stepOf, bodyFrom}
 
 -- ---- the medium record, of which writes take only from writes left
 
@@ -111,13 +109,13 @@ due-whole p vol k r l =
     pick-keeps Whole _ _ _ (edit-whole (p .edit) (p .name) k (sectorAt vol at) (r .short) n) n
 
 -- what a move writes is a sector
-abbrev Fills : Move → Type 0
+abbrev pub Fills : Move → Type 0
 Fills unread = Unit
 Fills (held c) = Unit
 Fills (put c bytes) = Whole bytes
 Fills (bad e) = Unit
 
-move-fills : (p : Plan) (vol : List ℕ) (m : Medium) (k : ℕ) → Ready p vol → k < 24 → Fills (moveOf p vol m k)
+pub move-fills : (p : Plan) (vol : List ℕ) (m : Medium) (k : ℕ) → Ready p vol → k < 24 → Fills (moveOf p vol m k)
 unfolding moveOf dueMove
 move-fills p vol m k r l =
     pick-keeps Fills _ _ _ (length-zeros 512)
@@ -163,51 +161,7 @@ body-stays p (suc n) k vol m h r l =
     (λ _. stays-more s _ one (body-stays p n (k + 1) (s .vol) (s .ans .medium) (s .ans .head) (ready-still p vol (s .vol) (one .size) r) (omega arith)))
     (λ _ _. one)
 
--- ---- the whole copy
-
-pub record Copied (p : Plan) (vol : List ℕ) (m : Medium) (o : Out) : Type 0 where
-  pub size : length (o .vol) ≡ length vol
-  pub medium : Spends m (o .ans .medium)
-  pub writer : o .ans .store .writer ≡ p .store .writer
-  pub refused : (e : Error) → o .ans .outcome ≡ No e → o .ans .store ≡ p .store
-  pub copy : o .ans .outcome ≡ Done → o .ans .store .copy ≡ p .copy
-  pub numbers : o .ans .outcome ≡ Done → o .ans .store .head ≡ listing (p .head) (o .ans .store .head .crcs)
-  pub count : o .ans .outcome ≡ Done → length (o .ans .store .head .crcs) ≡ 24
+-- ---- an outcome is not both
 
 pub not-done : {A : Type 0} {e : Error} → No e ≡ Done → A
 not-done q = let z : _≡_ {A = ℕ} 0 1 = cc in absurd (let f : ⊥ = omega arith in f)
-
-module _ (p : Plan) (vol : List ℕ) (m : Medium) where
-  refusal : {v : List ℕ} {n : Medium} {e : Error} → length v ≡ length vol → Spends m n
-      → Copied p vol m (refusedOut (p .store) v n e)
-  refusal s t = record { size = s; medium = t; writer = refl; refused = λ _ _. refl; copy = not-done; numbers = not-done; count = not-done }
-
-  module _ (r : Ready p vol) (most : p .head .chunks ≤ 2048) (listed : length (p .head .crcs) ≡ 24) where
-    last-copied : (skipped : List Skipped) (b : StepOut) → Stays vol m (p .head) b → Copied p vol m (lastOf p skipped (b .vol) (b .ans .medium) (b .ans .head))
-    unfolding lastOf
-    last-copied skipped b s =
-        let h : Header = b .ans .head in
-        let at : ℕ = baseOf (p .copy) in
-        let n : length (h .crcs) ≡ 24 = s .count ∙ listed in
-        let c : h .chunks ≡ p .head .chunks = ap (λ (x : Header). x .chunks) (s .numbers) in
-        let f : at < sectorsOf (b .vol) = omega (arith, base-most (p .copy), r .enough, s .size) in
-        let w : length (writeOf (b .vol) (b .ans .medium) at (encodeOf h) .vol) ≡ length vol = write-length _ _ at (encodeOf h) (length-encode h n (rw c most)) f ∙ s .size in
-        let t : Spends m (writeOf (b .vol) (b .ans .medium) at (encodeOf h) .ans .medium) = spends-more (s .medium) (write-spends _ _ at (encodeOf h)) in
-        onDone-keeps (Copied p vol m) _ _ _
-        (λ _. record { size = w; medium = t; writer = refl; refused = λ _ q. not-done (sym q); copy = λ _. refl; numbers = λ _. s .numbers; count = λ _. n })
-        (λ _ _. refusal w t)
-
-    pub copy-copied : length (p .first) ≡ 512 → Copied p vol m (copyOut p vol m)
-    unfolding copyOut
-    copy-copied first =
-        let at : ℕ = baseOf (p .copy) in
-        let f : at < sectorsOf vol = omega (arith, base-most (p .copy), r .enough) in
-        let z : WriteOut = writeOf vol m at (p .first) in
-        let zs : length (z .vol) ≡ length vol = write-length vol m at (p .first) first f in
-        let zm : Spends m (z .ans .medium) = write-spends vol m at (p .first) in
-        let b : StepOut = bodyFrom p (bodyOf (p .head .chunks)) 0 (z .vol) (z .ans .medium) (p .head) in
-        let q : Stays (z .vol) (z .ans .medium) (p .head) b = body-stays p (bodyOf (p .head .chunks)) 0 (z .vol) (z .ans .medium) (p .head) (ready-still p vol (z .vol) zs r) (omega arith) in
-        let s : Stays vol m (p .head) b = record { size = q .size ∙ zs; medium = spends-more zm (q .medium); numbers = q .numbers; count = q .count } in
-        onDone-keeps (Copied p vol m) (z .ans .outcome) _ _
-        (λ _. onDone-keeps (Copied p vol m) (b .ans .outcome) _ _ (λ _. last-copied _ b s) (λ _ _. refusal (s .size) (s .medium)))
-        (λ _ _. refusal zs zm)

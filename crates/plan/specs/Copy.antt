@@ -168,10 +168,14 @@ lastOf p skipped vol m h =
     })
     (refusedOut (p .store) (w .vol) (w .ans .medium))
 
+-- the first write: from here to the last one the copy is none
+abbrev pub firstOf : Plan → List ℕ → Medium → WriteOut
+firstOf p vol m = writeOf vol m (baseOf (p .copy)) (p .first)
+
 -- the first image of the header, the body, the whole header
 unfoldable pub copyOut : Plan → List ℕ → Medium → Out
 copyOut p vol m =
-    let z : WriteOut = writeOf vol m (baseOf (p .copy)) (p .first) in
+    let z : WriteOut = firstOf p vol m in
     let b : StepOut = bodyFrom p (bodyOf (p .head .chunks)) 0 (z .vol) (z .ans .medium) (p .head) in
     onDone (z .ans .outcome)
     (onDone (b .ans .outcome)

@@ -62,7 +62,7 @@ lists-beside : {vol v : List ℕ} (c b : ℕ) (h : Header) → h .chunks ≤ 204
 lists-beside c b h most two kept own k l = rw (body-beside c b two kept k (omega arith)) (own k l)
 
 -- a valid copy has at most so many chunks
-copy-most : (vol : List ℕ) (k : ℕ) (h : Header) → copyOf vol k ≡ ours h → h .chunks ≤ 2048
+pub copy-most : (vol : List ℕ) (k : ℕ) (h : Header) → copyOf vol k ≡ ours h → h .chunks ≤ 2048
 copy-most vol k h e = sane-facts h (sectorsOf vol) (copy-sane vol k h e) .chunks-most
 
 module _ (p : Plan) (vol : List ℕ) (m : Medium) (good : Good p vol) where

@@ -17,9 +17,10 @@ use Rattle.medium.specs.Sector.{sectorsOf, sectorAt}
 use Rattle.medium.proofs.Laws.{onDone-keeps}
 use Rattle.handles.specs.declared.Header.{Header}
 use Rattle.plan.specs.Copy.{Plan, Move, unread, held, put, bad, StepOut, moveOf, actOf, stepOf, bodyFrom}
+use Rattle.plan.proofs.Order.{write-there}
 use Rattle.safe.specs.Frame.{Kept, Used}
 use Rattle.safe.specs.Copy.{target, targetAt, Good, withCrcs, Made}
-use Rattle.safe.proofs.Frame.{clash, kept-none, kept-more, kept-wide, kept-sectors, used-none, used-more, write-used, write-kept, write-there, base-le}
+use Rattle.safe.proofs.Frame.{clash, kept-none, kept-more, kept-wide, kept-sectors, used-none, used-more, write-used, write-kept, base-le}
 use Rattle.safe.proofs.Moves.{move-before, Sized, move-sized}
 
 -- what n body sectors from k on leave of the volume v, the medium u and the header h, where the move at i is f i

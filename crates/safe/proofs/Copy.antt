@@ -1,7 +1,7 @@
 -- A copy written anew, with any number of writes left: what it leaves stopped, and what it leaves finished. Assumes nothing.
 use mathlib.Core.Path.{_≡_, refl, sym, ap, _∙_}
 use mathlib.Core.List.{List}
-use mathlib.Core.Logic.{_⊎_, inl, inr}
+use mathlib.Core.Logic.{_⊎_, inr}
 use Prim.Native.Nat.{ℕ, _<_, _≤_}
 use native.Mathlib.Omega.{arith}
 use lib.ListN.{length, getD}
@@ -14,27 +14,27 @@ use Rattle.handles.specs.declared.Header.{Header}
 use Rattle.header.specs.Header.{encodeOf}
 use Rattle.header.proofs.Fill.{length-encode}
 use Rattle.plan.specs.Copy.{Skipped, Plan, StepOut, Out, moveOf, bodyFrom, refusedOut, lastOf, copyOut}
+use Rattle.plan.proofs.Order.{write-there, copy-order}
 use Rattle.safe.specs.Frame.{Kept, Used}
 use Rattle.safe.specs.Copy.{target, targetAt, bodyCount, Good, withCrcs, Made, Finished}
-use Rattle.safe.proofs.Frame.{clash, kept-none, kept-more, kept-wide, kept-sectors, used-more, write-used, write-none, write-kept, write-there, base-le}
+use Rattle.safe.proofs.Frame.{clash, kept-none, kept-more, kept-wide, kept-sectors, used-more, write-used, write-kept, base-le}
 use Rattle.safe.proofs.Body.{Left, made-same, body-left}
 
 -- all of it, for each ending
 record Result (p : Plan) (vol : List ℕ) (m : Medium) (o : Out) : Type 0 where
   frame : Kept (target p) 25 vol (o .vol)
   used : Used m (o .ans .medium)
-  stopped : {e : Error} → o .ans .outcome ≡ No e → (o .ans .store ≡ p .store) × ((o .vol ≡ vol) ⊎ (sectorAt (o .vol) (target p) ≡ p .first))
+  stopped : {e : Error} → o .ans .outcome ≡ No e → o .ans .store ≡ p .store
   finished : o .ans .outcome ≡ Done → Finished p vol m (o .vol) (o .ans .store)
 
-refused : {p : Plan} {vol v : List ℕ} {m u : Medium} (e : Error) → Kept (target p) 25 vol v → Used m u → (v ≡ vol) ⊎ (sectorAt v (target p) ≡ p .first)
+refused : {p : Plan} {vol v : List ℕ} {m u : Medium} (e : Error) → Kept (target p) 25 vol v → Used m u
     → Result p vol m (refusedOut (p .store) v u e)
-refused e kept used first = record { frame = kept; used = used; stopped = λ q. (refl, first); finished = λ q. clash refl q }
+refused e kept used = record { frame = kept; used = used; stopped = λ q. refl; finished = λ q. clash refl q }
 
--- the body was begun: the header sector holds the first image
+-- the body was begun
 record Begun (p : Plan) (vol : List ℕ) (m : Medium) (v : List ℕ) (u : Medium) : Type 0 where
   frame : Kept (target p) 25 vol v
   used : Used m u
-  first : sectorAt v (target p) ≡ p .first
 
 -- and ended with the header h
 record Ended (p : Plan) (vol : List ℕ) (m : Medium) (v : List ℕ) (h : Header) : Type 0 where
@@ -76,7 +76,7 @@ module _ (p : Plan) (vol : List ℕ) (m : Medium) (good : Good p vol) where
           made = λ k l. made-same (moveOf p vol m k) refl refl (sym (f .same (targetAt p k) (inr (omega arith)))) refl (e .made k l);
         };
       })
-      (λ x q. refused x frame used (inr (ap (λ (s : List ℕ). sectorAt s (target p)) (write-none v u (target p) (encodeOf h) q) ∙ b .first)))
+      (λ x q. refused x frame used)
 
   copy-all : Result p vol m (copyOut p vol m)
   unfolding copyOut
@@ -89,11 +89,10 @@ module _ (p : Plan) (vol : List ℕ) (m : Medium) (good : Good p vol) where
       let used : Used m (z .ans .medium) = write-used vol m (target p) (p .first) in
       let l : Left p (moveOf p vol m) 0 n (z .vol) (z .ans .medium) (p .head) b =
       body-left p vol m good n 0 (z .vol) (z .ans .medium) (p .head) (omega (arith, good .chunks)) (whole one) (used .unreadable) (good .count) in
-      let begun : z .ans .outcome ≡ Done → Begun p vol m (b .vol) (b .ans .medium) = λ q.
+      let begun : Begun p vol m (b .vol) (b .ans .medium) =
       record {
         frame = kept-more (whole one) (kept-wide (omega arith) (omega (arith, good .chunks)) (l .frame));
         used = used-more used (l .used);
-        first = l .frame .same (target p) (inl (omega arith)) ∙ write-there vol m (target p) (p .first) (good .first) inside q;
       } in
       let ended : b .ans .outcome ≡ Done → Ended p vol m (b .vol) (b .ans .head) = λ q.
       record {
@@ -104,9 +103,9 @@ module _ (p : Plan) (vol : List ℕ) (m : Medium) (good : Good p vol) where
       } in
       onDone-keeps (Result p vol m) _ _ _
       (λ q. onDone-keeps (Result p vol m) _ _ _
-      (λ d. last-all _ (b .vol) (b .ans .medium) (b .ans .head) (begun q) (ended d))
-      (λ e _. refused e (begun q .frame) (begun q .used) (inr (begun q .first))))
-      (λ e q. refused e (whole one) used (inl (write-none vol m (target p) (p .first) q)))
+      (λ d. last-all _ (b .vol) (b .ans .medium) (b .ans .head) begun (ended d))
+      (λ e _. refused e (begun .frame) (begun .used)))
+      (λ e q. refused e (whole one) used)
 
   -- ---- the laws
 
@@ -121,7 +120,7 @@ module _ (p : Plan) (vol : List ℕ) (m : Medium) (good : Good p vol) where
   -- refused: the store value as given; and nothing is written, or the copy's header sector holds the first image
   pub copy-stopped : {e : Error} → copyOut p vol m .ans .outcome ≡ No e
       → (copyOut p vol m .ans .store ≡ p .store) × ((copyOut p vol m .vol ≡ vol) ⊎ (sectorAt (copyOut p vol m .vol) (target p) ≡ p .first))
-  copy-stopped = copy-all .stopped
+  copy-stopped {e} q = (copy-all .stopped q, copy-order p vol m (record { short = good .name; enough = good .enough }) (good .chunks) (good .first) e q)
 
   -- accepted: every move was made, and the header written
   pub copy-finished : copyOut p vol m .ans .outcome ≡ Done → Finished p vol m (copyOut p vol m .vol) (copyOut p vol m .ans .store)

@@ -1,5 +1,5 @@
 -- The copy that stands on a volume is the one that mount takes, and the other way round. Assumes nothing.
-use mathlib.Core.Path.{_≡_, refl}
+use mathlib.Core.Path.{_≡_, refl, ap}
 use mathlib.Core.Bool.{Bool, true, false, not, _&&_, _||_}
 use mathlib.Core.List.{List}
 use Prim.Native.Nat.{ℕ, zero, suc, _+_, _-_, _≤_}
@@ -28,7 +28,7 @@ use Rattle.safe.proofs.Frame.{clash}
 
 -- ---- what stands is what mount takes
 
-module _ (vol : List ℕ) (m : Medium) (h : Header) (a : readOf m 0 ≡ Done) (b : readOf m 32 ≡ Done) where
+module _ (vol : List ℕ) (h : Header) where
   -- B is not taken beside an A that stands
   not-b : Stands vol 0 h → takesB (bothOf (copyOf vol 0) (copyOf vol 32)) ≡ false
   unfolding takesB baseOf pick
@@ -47,19 +47,36 @@ module _ (vol : List ℕ) (m : Medium) (h : Header) (a : readOf m 0 ≡ Done) (b
       go false q = refl
 
   -- beside it the other copy's checksums, and whether that is valid
-  pub stands-current : (c : ℕ) → Stands vol c h → currentOf vol m ≡ takenOf c h (copyOf vol (baseOf (1 - c)) .head) (isOurs (copyOf vol (baseOf (1 - c)) .kind))
-  unfolding currentOf choiceOf baseOf pick onDone
-  stands-current zero s =
-      let t = headers-read vol m (s .enough) a b (rw (s .found) refl) (s .known) in
-      rw (t, not-b s, s .found)
-  stands-current (suc zero) s =
-      let t = headers-read vol m (s .enough) a b (s .known) (rw (s .found) refl) in
-      rw (t, yes-b s, s .found)
-  stands-current (suc (suc c)) s = absurd (let f : ⊥ = omega (arith, s .number) in f)
+  pub stands-choice : (c : ℕ) → Stands vol c h
+      → choiceOf (bothOf (copyOf vol 0) (copyOf vol 32)) ≡ takenOf c h (copyOf vol (baseOf (1 - c)) .head) (isOurs (copyOf vol (baseOf (1 - c)) .kind))
+  unfolding choiceOf baseOf pick
+  stands-choice zero s = rw (not-b s, s .found)
+  stands-choice (suc zero) s = rw (yes-b s, s .found)
+  stands-choice (suc (suc c)) s = absurd (let f : ⊥ = omega (arith, s .number) in f)
 
-  pub stands-mount : (c : ℕ) → Stands vol c h → mountOf vol m ≡ record { outcome = Done; store = record { copy = c; head = h; writer = Nobody } }
-  unfolding mountOf takenOf onDone
-  stands-mount c s = rw (stands-current c s)
+  -- neither copy is foreign
+  not-foreign : (c : ℕ) → Stands vol c h → (isForeign (copyOf vol 0 .kind) ≡ false) × (isForeign (copyOf vol 32 .kind) ≡ false)
+  unfolding baseOf pick
+  not-foreign zero s = (rw (s .found) refl, s .known)
+  not-foreign (suc zero) s = (s .known, rw (s .found) refl)
+  not-foreign (suc (suc c)) s = absurd (let f : ⊥ = omega (arith, s .number) in f)
+
+  module _ (m : Medium) (a : readOf m 0 ≡ Done) (b : readOf m 32 ≡ Done) where
+    pub stands-current : (c : ℕ) → Stands vol c h → currentOf vol m ≡ takenOf c h (copyOf vol (baseOf (1 - c)) .head) (isOurs (copyOf vol (baseOf (1 - c)) .kind))
+    unfolding currentOf onDone
+    stands-current c s = let n = not-foreign c s in rw (headers-read vol m (s .enough) a b (n .0) (n .1)) (stands-choice c s)
+
+    pub stands-mount : (c : ℕ) → Stands vol c h → mountOf vol m ≡ record { outcome = Done; store = record { copy = c; head = h; writer = Nobody } }
+    unfolding mountOf takenOf onDone
+    stands-mount c s = rw (stands-current c s)
+
+-- where both headers were read, the medium has no further say
+pub current-choice : (vol : List ℕ) (m : Medium) → currentOf vol m .outcome ≡ Done → currentOf vol m ≡ choiceOf (bothOf (copyOf vol 0) (copyOf vol 32))
+unfolding currentOf noCurrent
+current-choice vol m =
+    onDone-keeps (λ (r : Current). r .outcome ≡ Done → r ≡ choiceOf (bothOf (copyOf vol 0) (copyOf vol 32))) (headersOf vol m .outcome) _ _
+    (λ o _. ap choiceOf (headers-both vol m o .same))
+    (λ e _. clash refl)
 
 -- ---- and what mount takes stands
 

@@ -1,5 +1,5 @@
 -- What a sector write, and writes one after another, leave of the volume and of the medium record. Assumes nothing.
-use mathlib.Core.Path.{_≡_, refl, sym, _∙_}
+use mathlib.Core.Path.{_≡_, refl, _∙_}
 use mathlib.Core.List.{List}
 use mathlib.Core.Logic.{_⊎_, inl, inr, ⊎-elim}
 use Prim.Native.Nat.{ℕ, zero, suc, _+_, _<_, _≤_}
@@ -14,8 +14,8 @@ use Rattle.medium.specs.declared.Medium.{Medium}
 use Rattle.medium.specs.declared.Outcome.{Outcome}
 use Rattle.medium.specs.declared.Outcome.the-variants.{Done, No}
 use Rattle.medium.specs.declared.Written.{Written}
-use Rattle.medium.specs.Sector.{sectorsOf, sectorAt, writeAt, spendOf, writeOf}
-use Rattle.medium.proofs.Laws.{length-write, sector-same, sector-other, write-refused, write-done, onDone-keeps}
+use Rattle.medium.specs.Sector.{sectorsOf, sectorAt, spendOf, writeOf}
+use Rattle.medium.proofs.Laws.{length-write, sector-other, onDone-keeps}
 use Rattle.handles.specs.Handles.{baseOf}
 use Rattle.safe.specs.Frame.{Kept, Used}
 
@@ -58,15 +58,6 @@ module _ (vol : List ℕ) (m : Medium) (k : ℕ) (bytes : List ℕ) where
   unfolding writeOf
   write-used = spend-used m
 
-  -- refused it changes nothing
-  pub write-none : {e : Error} → writeOf vol m k bytes .ans .outcome ≡ No e → writeOf vol m k bytes .vol ≡ vol
-  unfolding writeOf
-  write-none q = sym (write-refused vol m k bytes refl q .0)
-
-  pub write-all : writeOf vol m k bytes .ans .outcome ≡ Done → writeOf vol m k bytes .vol ≡ writeAt vol k bytes
-  unfolding writeOf
-  write-all q = sym (write-done vol m k bytes refl q refl .0)
-
   module _ (size : length bytes ≡ 512) (inside : k < sectorsOf vol) where
     pub write-kept : Kept k 1 vol (writeOf vol m k bytes .vol)
     unfolding writeOf
@@ -77,9 +68,6 @@ module _ (vol : List ℕ) (m : Medium) (k : ℕ) (bytes : List ℕ) where
           same = λ j o. sector-other vol k bytes size inside j (⊎-elim (λ (h : j < k). inl h) (λ (h : k + 1 ≤ j). inr (omega arith)) o);
         })
         (λ e _. kept-none k 1 vol)
-
-    pub write-there : writeOf vol m k bytes .ans .outcome ≡ Done → sectorAt (writeOf vol m k bytes .vol) k ≡ bytes
-    write-there q = rw (write-all q) (sector-same vol k bytes size inside)
 
 -- ---- the two copies
 

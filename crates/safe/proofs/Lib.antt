@@ -6,3 +6,7 @@ pub mod Sums
 pub mod Current
 pub mod Mounts
 pub mod Bodies
+pub mod Invs
+pub mod Commit
+pub mod Format
+pub mod Unwritten

@@ -29,7 +29,7 @@ use Rattle.safe.proofs.Current.{stands-mount, current-stands}
 
 -- ---- a copy whose sector is as it was, and one that is gone
 
-copy-same : (vol v : List ℕ) (k : ℕ) → sectorsOf v ≡ sectorsOf vol → sectorAt v k ≡ sectorAt vol k → copyOf v k ≡ copyOf vol k
+pub copy-same : (vol v : List ℕ) (k : ℕ) → sectorsOf v ≡ sectorsOf vol → sectorAt v k ≡ sectorAt vol k → copyOf v k ≡ copyOf vol k
 unfolding copyOf
 copy-same vol v k n e = rw (n, e)
 
@@ -82,7 +82,7 @@ module _ (p : Plan) (vol : List ℕ) (m : Medium) (good : Good p vol) where
   stopped-mount n u none accepted other q a b =
       let t = mount-current vol n accepted in
       let s = stopped-stands none (current-stands vol n (t .0)) (rw (t .1) at other) q in
-      stands-mount _ u _ a b _ s ∙ sym (t .1)
+      stands-mount _ _ u a b _ s ∙ sym (t .1)
 
   -- accepted: the new copy stands
   pub finished-stands : Newest p vol → copyOut p vol m .ans .outcome ≡ Done → Stands (copyOut p vol m .vol) (p .copy) (copyOut p vol m .ans .store .head)
@@ -102,4 +102,4 @@ module _ (p : Plan) (vol : List ℕ) (m : Medium) (good : Good p vol) where
   -- so mount gives it
   pub finished-mount : (u : Medium) → Newest p vol → copyOut p vol m .ans .outcome ≡ Done → readOf u 0 ≡ Done → readOf u 32 ≡ Done
       → mountOf (copyOut p vol m .vol) u ≡ record { outcome = Done; store = record { copy = p .copy; head = copyOut p vol m .ans .store .head; writer = Nobody } }
-  finished-mount u new q a b = stands-mount _ u _ a b (p .copy) (finished-stands new q)
+  finished-mount u new q a b = stands-mount _ _ u a b (p .copy) (finished-stands new q)

@@ -1,3 +1,4 @@
 pub mod Frame
 pub mod Copy
 pub mod Mounts
+pub mod Inv

@@ -8,6 +8,7 @@ use Rattle.table.proofs.Edges.{edge-written}
 use Rattle.store.specs.Edges.{Starred}
 use Rattle.store.specs.Reading.{mountCall}
 use Rattle.store.specs.Writing.{formatCall}
+use Rattle.store.proofs.Appends.{append-485, append-486, append-487}
 
 pub starred : Starred
 unfolding mountCall formatCall
@@ -25,6 +26,9 @@ starred =
       small = λ vol m seed h s. none-575 seed vol m h s .1;
       enough = λ vol m seed h s less left. let d = one-576 seed vol m h s less left in (ap outcomeOf (d .0), d .1);
       link = edge-written;
+      append-485 = append-485;
+      append-486 = append-486;
+      append-487 = append-487;
       zeroed = λ n m enough a b. zeroed-refused n m enough a b .1;
       equal = λ vol m enough a b x y p q e. ap (λ (r : _). r .store .copy) (equal-takes-a vol m enough a b x y p q e);
     }

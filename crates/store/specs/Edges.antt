@@ -1,9 +1,9 @@
 -- 01, "Edges": the starred rows, made of the definitions. One statement has them all; proofs/Starred proves it. Assumes nothing.
-use Prim.Native.Nat.{ℕ, _-_, _/_, _^_, _≤_}
+use Prim.Native.Nat.{ℕ, _-_, _/_, _^_, _≤_, _<_}
 use mathlib.Core.Path.{_≡_}
 use mathlib.Core.Bool.{true, false}
 use mathlib.Core.List.{List, [], _∷_, _++_}
-use lib.ListN.{replicate}
+use lib.ListN.{length, replicate}
 use Rattle.le.specs.Part.{zeros}
 use Rattle.names.specs.Names.{nameOk, dirOk}
 use Rattle.medium.specs.declared.Medium.{Medium}
@@ -11,17 +11,40 @@ use Rattle.medium.specs.declared.Outcome.the-variants.{Done}
 use Rattle.medium.specs.Refusal.{ok, refused}
 use Rattle.medium.specs.Sector.{sectorsOf, readOf}
 use Rattle.handles.specs.declared.Header.{Header}
+use Rattle.handles.specs.declared.Store.{Store}
 use Rattle.header.specs.Header.{ours}
 use Rattle.header.specs.Copies.{copyOf, headersOf}
 use Rattle.table.specs.declared.Link.{Link}
 use Rattle.table.specs.Link.{linkBytes}
+use Rattle.plan.specs.Copy.{Step, recorded}
 use Rattle.format.specs.Format.{newestOf}
+use Rattle.append.specs.declared.Appender.{Appender}
+use Rattle.append.specs.declared.Tail.the-variants.{At}
+use Rattle.append.specs.Calls.{mayWrite, AppCall, appendCall, roomCall}
 use Rattle.store.specs.Reading.{mountCall}
 use Rattle.store.specs.Writing.{formatCall}
 
 -- n bytes `a`
 abbrev pub letters : ℕ → List ℕ
 letters n = replicate n 97
+
+-- the step of a record, which is no commit
+abbrev pub aRecord : Step
+aRecord = record { kind = recorded; skipped = [] }
+
+-- an accepted append that wrote so many records, and the bytes until the next
+abbrev pub Wrote : AppCall → ℕ → ℕ → Type 0
+Wrote c records room = (c .answer ≡ ok tt) × (c .steps ≡ replicate records aRecord) × (roomCall (c .appender) ≡ ok room)
+
+-- an appender that may write, with nothing unwritten in its 486 bytes, room in its chunk, and a write left
+pub record Ready (vol : List ℕ) (m : Medium) (st : Store) (ap : Appender) : Type 0 where
+  pub may : mayWrite vol st ap ≡ Done
+  pub empty : ap .fill ≡ 0
+  pub size : length (ap .buffer) ≡ 486
+  pub index : ℕ
+  pub at : ap .tail ≡ At index
+  pub room : index < st .head .chunk
+  pub left : 1 ≤ m .left
 
 pub record Starred : Type 0 where
   -- empty name: 1; empty directory: root
@@ -43,6 +66,10 @@ pub record Starred : Type 0 where
       → (formatCall vol m 512 seed .call .answer ≡ ok tt) × (formatCall vol m 512 seed .call .store .head .chunks ≡ 1)
   -- slot 2, position 3, 5 records partial: bytes 83 02 03 80 hexadecimal
   pub link : linkBytes (record { slot = 2; position = 3; partial = true; records = 5 }) ≡ 0x83 ∷ 0x02 ∷ 0x03 ∷ 0x80 ∷ []
+  -- appending 485, 486, 487 bytes: 0, 1, 1 records; 1, 486, 485 until the next
+  pub append-485 : (vol : List ℕ) (m : Medium) (st : Store) (ap : Appender) (bytes : List ℕ) → Ready vol m st ap → length bytes ≡ 485 → Wrote (appendCall vol m st ap bytes) 0 1
+  pub append-486 : (vol : List ℕ) (m : Medium) (st : Store) (ap : Appender) (bytes : List ℕ) → Ready vol m st ap → length bytes ≡ 486 → Wrote (appendCall vol m st ap bytes) 1 486
+  pub append-487 : (vol : List ℕ) (m : Medium) (st : Store) (ap : Appender) (bytes : List ℕ) → Ready vol m st ap → length bytes ≡ 487 → Wrote (appendCall vol m st ap bytes) 1 485
   -- zeroed volume: mount 5
   pub zeroed : (n : ℕ) (m : Medium) → 64 ≤ n / 512 → readOf m 0 ≡ Done → readOf m 32 ≡ Done → mountCall (zeros n) m .answer ≡ refused 5
   -- equal generations: mount A

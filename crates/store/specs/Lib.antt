@@ -1,4 +1,5 @@
 pub mod Asked
 pub mod Reading
 pub mod Writing
+pub mod Opening
 pub mod Edges

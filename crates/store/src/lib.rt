@@ -1,10 +1,14 @@
 // The calls on offer. Each takes any bytes, names and handles: bad input gets its number.
+mod opening;
+
 use directory::Found;
 use handles::Store;
 use handles::Writer;
 use medium::Error;
 use medium::Medium;
 use medium::Outcome;
+pub use opening::create;
+pub use opening::open_append;
 use plan::Committed;
 use reader::Reader;
 use remove::Gone;

@@ -1,0 +1,3 @@
+pub mod Counts
+pub mod Ways
+pub mod Opens

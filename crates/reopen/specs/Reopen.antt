@@ -1,0 +1,62 @@
+-- 01, "Record": open_append. Opening counts up to the last valid record of the last chunk: 0 gives at 0, the chunk size gives at that, any other
+-- count reopened. Refused, the appender is one that no call accepts. It reads only. Assumes nothing.
+use Prim.Native.Nat.{ℕ, zero, suc, _-_}
+use mathlib.Core.List.{List}
+use lib.Dec.{eqb}
+use Rattle.le.specs.Choice.{pick}
+use Rattle.medium.specs.declared.Error.{Error}
+use Rattle.medium.specs.declared.Medium.{Medium}
+use Rattle.handles.specs.declared.Store.{Store}
+use Rattle.directory.specs.declared.Found.{Found}
+use Rattle.directory.specs.declared.Found.the-variants as found
+use Rattle.directory.specs.Scan.{findOf}
+use Rattle.table.specs.declared.Chained.{Chained}
+use Rattle.table.specs.declared.Chained.the-variants as chained
+use Rattle.table.specs.Table.{chainOf}
+use Rattle.record.specs.Record.{numberAt, readRecordOf}
+use Rattle.record.specs.declared.Judged.{Judged}
+use Rattle.reader.specs.Next.{onJudged}
+use Rattle.append.specs.declared.Tail.{Tail}
+use Rattle.append.specs.declared.Tail.the-variants.{At, Reopened}
+use Rattle.append.specs.Flush.{AppOut}
+use Rattle.files.specs.declared.Rollover.{Rollover}
+use Rattle.files.specs.Opened.{refusedAt, openedOut}
+use Rattle.reopen.specs.declared.Records.{Records}
+use Rattle.reopen.specs.declared.Records.the-variants as records
+
+-- record n of a chunk of the file, read and judged
+unfoldable pub recordAt : List ℕ → Medium → Store → ℕ → ℕ → ℕ → ℕ → Judged
+recordAt vol m st id chunk position n = readRecordOf vol m st id chunk n (numberAt position (st .head .chunk) n)
+
+-- up to the last valid record of the chunk, from the top down
+unfoldable pub recordsFrom : List ℕ → Medium → Store → ℕ → ℕ → ℕ → ℕ → Records
+recordsFrom vol m st id chunk position zero = records.Are 0
+recordsFrom vol m st id chunk position (suc n) =
+    onJudged (recordAt vol m st id chunk position n) records.Refused (λ length. records.Are (suc n)) (recordsFrom vol m st id chunk position n)
+
+-- 0 gives at 0, the chunk size gives at that, any other count reopened
+unfoldable pub tailFor : ℕ → ℕ → Tail
+tailFor size n = pick (eqb n 0) (At 0) (pick (eqb n size) (At size) (Reopened n))
+
+-- decisions by the count, by the chain and by the file found. They stay shut in proofs
+unfoldable pub onRecords : {A : Type 0} → Records → (Error → A) → (ℕ → A) → A
+onRecords (records.Refused e) f g = f e
+onRecords (records.Are n) f g = g n
+
+unfoldable pub onChain : {A : Type 0} → Chained → (Error → A) → (ℕ → ℕ → A) → A
+onChain (chained.Refused e) f g = f e
+onChain (chained.Whole p) f g = g (p .count - 1) (p .last)
+
+unfoldable pub onFound : {A : Type 0} → Found → (Error → A) → (ℕ → ℕ → A) → A
+onFound (found.Refused e) f g = f e
+onFound (found.At slot id) f g = g slot id
+
+-- the file found: the records of its last chunk say where the next one goes
+unfoldable pub fileOut : Rollover → List ℕ → Medium → Store → ℕ → ℕ → AppOut
+fileOut over vol m st slot id =
+    onChain (chainOf vol m st slot) (refusedAt vol m st)
+    (λ position last. onRecords (recordsFrom vol m st id last position (st .head .chunk)) (refusedAt vol m st)
+    (λ n. openedOut vol m st slot id last position (tailFor (st .head .chunk) n) over))
+
+unfoldable pub reopenOf : List ℕ → Rollover → List ℕ → Medium → Store → AppOut
+reopenOf name over vol m st = onFound (findOf vol m st name) (refusedAt vol m st) (fileOut over vol m st)

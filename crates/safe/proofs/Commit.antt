@@ -1,0 +1,198 @@
+-- A commit, whatever the writes left and whatever the medium reads: refused it leaves the old store, accepted the new one. Assumes nothing.
+use mathlib.Core.Path.{_≡_, refl, sym, ap, _∙_}
+use mathlib.Core.List.{List}
+use Prim.Native.Nat.{ℕ, _+_, _-_, _^_, _<_, _≤_}
+use native.Mathlib.Nat.{mod-lt}
+use native.Mathlib.Omega.{arith}
+use borrow.Author.Tests.{eqb-false}
+use lib.Dec.{eqb}
+use lib.ListN.{length}
+use Rattle.le.proofs.Choices.{pick-keeps, pick-keeps-by}
+use Rattle.le.proofs.Parts.{length-zeros}
+use Rattle.medium.specs.declared.Error.{Error}
+use Rattle.medium.specs.declared.Error.the-variants.{Stale, Spent}
+use Rattle.medium.specs.declared.Medium.{Medium}
+use Rattle.medium.specs.declared.Outcome.the-variants.{Done, No}
+use Rattle.medium.specs.Sector.{sectorsOf}
+use Rattle.medium.proofs.Laws.{onDone-keeps}
+use Rattle.handles.specs.declared.Header.{Header}
+use Rattle.handles.specs.declared.Store.{Store}
+use Rattle.handles.specs.Handles.{baseOf}
+use Rattle.handles.proofs.Laws.{Held}
+use Rattle.header.specs.declared.answers.Current.{Current}
+use Rattle.header.specs.declared.codec.Decoded.{Decoded}
+use Rattle.header.specs.Header.{ours, InRange}
+use Rattle.header.specs.Copies.{isOurs, copyOf, takenOf, currentOf}
+use Rattle.plan.specs.declared.Edit.{Edit}
+use Rattle.plan.specs.declared.Edit.the-variants.{Format, Create, Extend, Remove}
+use Rattle.plan.specs.Edit.{nextAfter, cursorAfter, headAfter, Fits}
+use Rattle.plan.specs.Copy.{Plan, Out, dueBytes, refusedOut, copyOut}
+use Rattle.commit.specs.Commit.{isCurrent, commitPlan, commitOf}
+use Rattle.commit.proofs.Absent.{commit-first}
+use Rattle.commit.proofs.Keeps.{sane-after}
+use Rattle.safe.specs.Copy.{Good, Tied}
+use Rattle.safe.specs.Mounts.{Newest}
+use Rattle.safe.specs.Inv.{Inv, planOf, CommitDistinct, CommitLiteral, CommitStopped, CommitMade}
+use Rattle.safe.proofs.Frame.{clash, kept-none, used-none, body-beside}
+use Rattle.safe.proofs.Copy.{copy-frame, copy-used, copy-stopped, copy-finished}
+use Rattle.safe.proofs.Sums.{literal-distinct, finished-body}
+use Rattle.safe.proofs.Current.{stands-choice, current-choice}
+use Rattle.safe.proofs.Bodies.{sound-tied}
+use Rattle.safe.proofs.Invs.{inv-held, kept-records, stopped-inv, finished-inv}
+
+-- the mission's premise implies the weak one
+pub literal-commit : (edit : Edit) (name vol : List ℕ) (m : Medium) (st : Store) → CommitLiteral edit name vol m st → CommitDistinct edit name vol m st
+literal-commit edit name vol m st = literal-distinct (planOf edit name vol m st) vol m
+
+-- ---- the header after an edit has its widths
+
+next-lt : (e : Edit) (h : Header) → Fits e (h .chunks) → h .«next_id» < 2 ^ 32 → nextAfter e h < 2 ^ 32
+unfolding nextAfter
+next-lt Format h f n = n
+next-lt (Create slot id chunk) h f n = f .1
+next-lt (Extend slot position next last partial records) h f n = n
+next-lt (Remove slot) h f n = n
+
+cursor-lt : (e : Edit) (h : Header) → 1 ≤ h .chunks → h .cursor < h .chunks → cursorAfter e h < h .chunks
+unfolding cursorAfter
+cursor-lt Format h p c = c
+cursor-lt (Create slot id chunk) h p c = mod-lt (chunk + 1) p
+cursor-lt (Extend slot position next last partial records) h p c = mod-lt (next + 1) p
+cursor-lt (Remove slot) h p c = c
+
+module _ (edit : Edit) (name vol : List ℕ) (m : Medium) (st : Store) (inv : Inv vol st) where
+  held : Held st (sectorsOf vol)
+  held = inv-held inv
+
+  -- into the copy beside the store's
+  two : st .copy + (1 - st .copy) ≡ 1
+  two = omega (arith, held .copy)
+
+  -- the ways to an answer
+  ways : (P : Out → Type 0) → ((e : Error) → P (refusedOut st vol m e))
+      → (currentOf vol m .outcome ≡ Done → (st .head .generation ≡ 2 ^ 64 - 1 → ⊥) → P (copyOut (planOf edit name vol m st) vol m))
+      → P (commitOf edit name vol m st)
+  unfolding commitOf
+  ways P none made =
+      onDone-keeps P (currentOf vol m .outcome) _ _
+      (λ d. pick-keeps P (isCurrent (currentOf vol m) st) _ _
+      (pick-keeps-by P (eqb (st .head .generation) (2 ^ 64 - 1)) _ _ (λ _. none Spent) (λ g. made d (eqb-false _ _ g)))
+      (none Stale))
+      (λ e _. none e)
+
+  -- ---- its plan meets the premises
+
+  plan-good : length name ≤ 40 → Good (planOf edit name vol m st) vol
+  unfolding commitPlan headAfter
+  plan-good short =
+      record { enough = held .enough; chunks = held .head .chunks-most; count = inv .range .count; first = length-zeros 512; name = short; own = λ _. two }
+
+  module _ (d : currentOf vol m .outcome ≡ Done) where
+    found : currentOf vol m ≡ takenOf (st .copy) (st .head) (copyOf vol (baseOf (1 - st .copy)) .head) (isOurs (copyOf vol (baseOf (1 - st .copy)) .kind))
+    found = current-choice vol m d ∙ stands-choice vol (st .head) (st .copy) (inv .sound .stands)
+
+    plan-tied : Tied (planOf edit name vol m st) vol
+    unfolding commitPlan headAfter takenOf
+    plan-tied =
+        sound-tied (planOf edit name vol m st) vol (inv .sound) two refl refl
+        (ap (λ (c : Current). c .known) found) (ap (λ (c : Current). c .held) found)
+
+  -- the copy beside the one that is written is the store's
+  abbrev Beside : Header → Type 0
+  Beside g = copyOf vol (baseOf (1 - (1 - st .copy))) ≡ ours g
+
+  back : 1 - (1 - st .copy) ≡ st .copy
+  back = omega (arith, held .copy)
+
+  own-head : (g : Header) → Beside g → g ≡ st .head
+  own-head g e = ap (λ (x : Decoded). x .head) (sym e ∙ ap (λ (c : ℕ). copyOf vol (baseOf c)) back ∙ inv .sound .stands .found)
+
+  module _ (fits : Fits edit (st .head .chunks)) (less : st .head .generation ≡ 2 ^ 64 - 1 → ⊥) where
+    after-range : InRange (headAfter edit (st .head))
+    unfolding headAfter
+    after-range =
+        let r = inv .range in
+        let c : cursorAfter edit (st .head) < st .head .chunks = cursor-lt edit (st .head) (held .head .chunks-least) (held .head .cursor) in
+        record {
+          id = r .id;
+          generation = omega (arith, r .generation);
+          next = next-lt edit (st .head) fits (r .next);
+          cursor = omega (arith, r .chunks);
+          chunks = r .chunks;
+          chunk = r .chunk;
+          count = r .count;
+          crcs = r .crcs;
+          past = r .past;
+        }
+
+    plan-newest : Newest (planOf edit name vol m st) vol
+    unfolding commitPlan headAfter
+    plan-newest =
+        record {
+          number = omega arith;
+          sane = sane-after edit (st .head) (sectorsOf vol) (st .head .crcs) (held .head);
+          range = after-range;
+          known = rw (back, inv .sound .stands .found) refl;
+          older = λ g e. rw (own-head g e) (omega arith);
+        }
+
+  -- ---- the laws
+
+  module _ (short : length name ≤ 40) where
+    pub commit-stopped : {e : Error} → commitOf edit name vol m st .ans .outcome ≡ No e → CommitStopped vol m st (commitOf edit name vol m st)
+    unfolding commitPlan
+    commit-stopped {e} =
+        let p : Plan = planOf edit name vol m st in
+        let good : Good p vol = plan-good short in
+        ways (λ (o : Out). o .ans .outcome ≡ No e → CommitStopped vol m st o)
+        (λ x _. record {
+          store = refl;
+          inv = inv;
+          body = λ k l. refl;
+          records = λ j l. refl;
+          frame = kept-none (baseOf (1 - st .copy)) 25 vol;
+          used = used-none m;
+        })
+        (λ d g q. record {
+          store = copy-stopped p vol m good q .0;
+          inv = stopped-inv p vol m good (commit-first (currentOf vol m) edit name st (sectorsOf vol)) inv two q;
+          body = body-beside (st .copy) (1 - st .copy) two (copy-frame p vol m good);
+          records = kept-records (1 - st .copy) (copy-frame p vol m good);
+          frame = copy-frame p vol m good;
+          used = copy-used p vol m good;
+        })
+
+    module _ (fits : Fits edit (st .head .chunks)) where
+      copy-inv : currentOf vol m .outcome ≡ Done → (st .head .generation ≡ 2 ^ 64 - 1 → ⊥) → copyOut (planOf edit name vol m st) vol m .ans .outcome ≡ Done
+          → Inv (copyOut (planOf edit name vol m st) vol m .vol) (copyOut (planOf edit name vol m st) vol m .ans .store)
+      unfolding commitPlan headAfter
+      copy-inv d less =
+          finished-inv (planOf edit name vol m st) vol m (plan-good short) (plan-newest fits less) (plan-tied d)
+          (λ g e. rw (own-head g e) (omega arith))
+          (λ g e _. rw (back, own-head g e) (inv .sound .own))
+
+      -- the new store is sound even without the premise on the sectors left unwritten
+      pub commit-inv : commitOf edit name vol m st .ans .outcome ≡ Done → Inv (commitOf edit name vol m st .vol) (commitOf edit name vol m st .ans .store)
+      commit-inv = ways (λ (o : Out). o .ans .outcome ≡ Done → Inv (o .vol) (o .ans .store)) (λ x. clash refl) copy-inv
+
+      pub commit-made : CommitDistinct edit name vol m st → commitOf edit name vol m st .ans .outcome ≡ Done → CommitMade edit name vol m st (commitOf edit name vol m st)
+      unfolding commitPlan headAfter dueBytes
+      commit-made distinct =
+          let p : Plan = planOf edit name vol m st in
+          let good : Good p vol = plan-good short in
+          let kept = copy-frame p vol m good in
+          ways (λ (o : Out). o .ans .outcome ≡ Done → CommitMade edit name vol m st o)
+          (λ x. clash refl)
+          (λ d less q.
+          let done = copy-finished p vol m good q in
+          let c : copyOut p vol m .ans .store .copy ≡ 1 - st .copy = ap (λ (s : Store). s .copy) (done .store) in
+          record {
+            inv = copy-inv d less q;
+            copy = c;
+            head = done .head;
+            writer = ap (λ (s : Store). s .writer) (done .store);
+            body = λ k l. rw c (finished-body done (plan-tied d) distinct k l);
+            records = kept-records (1 - st .copy) kept;
+            frame = kept;
+            used = copy-used p vol m good;
+          })

@@ -1,0 +1,172 @@
+-- What holds between the calls: mount gives the store value, writing a record keeps it, and so does a copy written anew, by any plan. Assumes nothing.
+use mathlib.Core.Path.{_≡_, refl, sym, ap, _∙_}
+use mathlib.Core.Bool.{Bool, true}
+use mathlib.Core.List.{List}
+use mathlib.Core.Logic.{_⊎_, inl, inr, ⊎-elim}
+use Prim.Native.Nat.{ℕ, zero, suc, _+_, _-_, _<_, _≤_}
+use native.Mathlib.Omega.{arith}
+use borrow.Author.Tests.{lt-ltb, eq-eqb, ne-eqb}
+use lib.ListN.{length}
+use Rattle.le.specs.Choice.{pick}
+use Rattle.le.proofs.Choices.{pick-keeps, pick-true, pick-false}
+use Rattle.medium.specs.declared.Error.{Error}
+use Rattle.medium.specs.declared.Medium.{Medium}
+use Rattle.medium.specs.declared.Outcome.{Outcome}
+use Rattle.medium.specs.declared.Outcome.the-variants.{Done, No}
+use Rattle.medium.specs.Refusal.{onDone}
+use Rattle.medium.specs.Sector.{sectorsOf, sectorAt, readOf, writeOf}
+use Rattle.handles.specs.declared.Header.{Header}
+use Rattle.handles.specs.declared.Store.{Store}
+use Rattle.handles.specs.declared.Writer.the-variants.{Nobody}
+use Rattle.handles.specs.Body.{bodyAt, checkOf, dueOf}
+use Rattle.handles.specs.Handles.{bodyOf, baseOf, storeOk}
+use Rattle.handles.proofs.Laws.{Held, store-facts}
+use Rattle.header.specs.declared.codec.Decoded.{Decoded}
+use Rattle.header.specs.declared.codec.Replica.the-variants.{Absent}
+use Rattle.header.specs.Header.{ours, bare, decodeOf, Bytes}
+use Rattle.header.specs.Copies.{copyOf, sameStore, mountOf}
+use Rattle.header.proofs.Accepted.{copy-range}
+use Rattle.plan.specs.Copy.{Plan, copyOut}
+use Rattle.safe.specs.Frame.{Kept, Used}
+use Rattle.safe.specs.Copy.{Good, Tied}
+use Rattle.safe.specs.Mounts.{Newest, Lists}
+use Rattle.safe.specs.Inv.{Readable, Inv, SameRecords, Numbered}
+use Rattle.safe.proofs.Frame.{kept-sectors, write-kept, base-le}
+use Rattle.safe.proofs.Copy.{copy-frame, copy-finished}
+use Rattle.safe.proofs.Sums.{finished-range, finished-sane}
+use Rattle.safe.proofs.Current.{stands-mount}
+use Rattle.safe.proofs.Mounts.{copy-same, beside, gone, stopped-copy}
+use Rattle.safe.proofs.Bodies.{copy-most, stopped-sound, finished-sound}
+
+-- ---- a medium whose sectors all read
+
+pub reads : (m : Medium) (vol : List ℕ) → Readable vol m → (k : ℕ) → k < sectorsOf vol → readOf m k ≡ Done
+unfolding readOf
+reads m vol r k l = pick-false _ _ (ne-eqb k (m .unreadable) (λ e. omega arith))
+
+-- writes leave it so
+pub readable-still : {m u : Medium} (vol v : List ℕ) → Used m u → length v ≡ length vol → Readable vol m → Readable v u
+readable-still vol v used size r = rw (size, used .unreadable) r
+
+-- ---- mount
+
+pub inv-held : {vol : List ℕ} {st : Store} → Inv vol st → Held st (sectorsOf vol)
+inv-held {vol} {st} inv = store-facts st (sectorsOf vol) (inv .ok)
+
+pub inv-mount : (vol : List ℕ) (m : Medium) (st : Store) → Inv vol st → Readable vol m
+    → mountOf vol m ≡ record { outcome = Done; store = record { copy = st .copy; head = st .head; writer = Nobody } }
+inv-mount vol m st inv r =
+    let e : 64 ≤ sectorsOf vol = inv-held inv .enough in
+    stands-mount vol (st .head) m (reads m vol r 0 (omega arith)) (reads m vol r 32 (omega arith)) (st .copy) (inv .sound .stands)
+
+-- ---- a body sector is read and passes, so that no walk is refused
+
+module _ (vol : List ℕ) (m : Medium) (st : Store) (inv : Inv vol st) (r : Readable vol m) (k : ℕ) (l : k < bodyOf (st .head .chunks)) where
+  pub inv-check : checkOf vol m st k ≡ Done
+  unfolding checkOf onDone
+  inv-check =
+      let f : bodyAt st k < sectorsOf vol = omega (arith, base-le (st .copy), inv-held inv .enough, inv-held inv .head .chunks-most) in
+      rw (reads m vol r (bodyAt st k) f) (pick-true _ _ (eq-eqb _ _ (inv .sound .own k l)))
+
+  pub inv-due : (enters : Bool) → dueOf vol m st enters k ≡ Done
+  unfolding dueOf
+  inv-due enters = pick-keeps (λ (o : Outcome). o ≡ Done) enters _ _ inv-check refl
+
+-- ---- whom the store value serves is not asked
+
+pub inv-writer : {vol : List ℕ} {st su : Store} → su .copy ≡ st .copy → su .head ≡ st .head → Inv vol st → Inv vol su
+unfolding storeOk
+inv-writer {vol} {st} {su} a b inv =
+    record { ok = rw (a, b) (inv .ok); range = rw b (inv .range); sound = rw (a, b) (inv .sound); newer = rw (a, b) (inv .newer) }
+
+-- ---- writing a record
+
+-- a volume whose first 64 sectors are as they were
+pub inv-beyond : (vol v : List ℕ) (st : Store) → Inv vol st → length v ≡ length vol → ((j : ℕ) → j < 64 → sectorAt v j ≡ sectorAt vol j) → Inv v st
+inv-beyond vol v st inv size same =
+    let head : (c : ℕ) → copyOf v (baseOf c) ≡ copyOf vol (baseOf c) = λ c. copy-same vol v (baseOf c) (rw size) (same (baseOf c) (omega (arith, base-le c))) in
+    let body : (c k : ℕ) → k < 24 → sectorAt v (baseOf c + 1 + k) ≡ sectorAt vol (baseOf c + 1 + k) = λ c k l. same (baseOf c + 1 + k) (omega (arith, base-le c)) in
+    let s = inv .sound in
+    record {
+      ok = rw size (inv .ok);
+      range = inv .range;
+      sound = record {
+        stands = record {
+          enough = rw size (s .stands .enough);
+          number = s .stands .number;
+          found = head (st .copy) ∙ s .stands .found;
+          known = rw (head (1 - st .copy)) (s .stands .known);
+          older = λ g e. s .stands .older g (sym (head (1 - st .copy)) ∙ e);
+        };
+        own = λ k l. rw (body (st .copy) k (omega (arith, inv-held inv .head .chunks-most))) (s .own k l);
+        other = λ g e q k l.
+            let x = sym (head (1 - st .copy)) ∙ e in
+            rw (body (1 - st .copy) k (omega (arith, copy-most vol (baseOf (1 - st .copy)) g x))) (s .other g x q k l);
+      };
+      newer = λ g e. inv .newer g (sym (head (1 - st .copy)) ∙ e);
+    }
+
+pub inv-record : (vol : List ℕ) (m : Medium) (k : ℕ) (bytes : List ℕ) (st : Store) → Inv vol st → 64 ≤ k → k < sectorsOf vol → length bytes ≡ 512 → Inv (writeOf vol m k bytes .vol) st
+inv-record vol m k bytes st inv far inside size =
+    let kept = write-kept vol m k bytes size inside in
+    inv-beyond vol (writeOf vol m k bytes .vol) st inv (kept .size) (λ j l. kept .same j (inl (omega arith)))
+
+-- ---- a copy written anew
+
+-- no record is touched
+pub kept-records : {vol v : List ℕ} (c : ℕ) → Kept (baseOf c) 25 vol v → SameRecords vol v
+kept-records c kept j l = kept .same j (inr (omega (arith, base-le c)))
+
+module _ (p : Plan) (vol : List ℕ) (m : Medium) (good : Good p vol) where
+  -- refused: the store beside it holds on
+  pub stopped-inv : {st : Store} {e : Error} → decodeOf (p .first) (sectorsOf vol) ≡ bare Absent → Inv vol st → st .copy + p .copy ≡ 1
+      → copyOut p vol m .ans .outcome ≡ No e → Inv (copyOut p vol m .vol) st
+  stopped-inv {st} none inv two q =
+      let b : 1 - st .copy ≡ p .copy = omega arith in
+      record {
+        ok = rw (kept-sectors (copy-frame p vol m good)) (inv .ok);
+        range = inv .range;
+        sound = stopped-sound p vol m good none (inv .sound) two q;
+        newer = ⊎-elim
+            (λ a. rw a (inv .newer))
+            (λ a g x. gone (sym a ∙ (rw b at x)))
+            (stopped-copy p vol m good none q);
+      }
+
+  -- accepted: the new store holds
+  pub finished-inv : Newest p vol → Tied p vol → ((g : Header) → copyOf vol (baseOf (1 - p .copy)) ≡ ours g → g .generation < p .head .generation)
+      → ((g : Header) → copyOf vol (baseOf (1 - p .copy)) ≡ ours g → sameStore (p .head) g ≡ true → Lists vol (1 - p .copy) g)
+      → copyOut p vol m .ans .outcome ≡ Done → Inv (copyOut p vol m .vol) (copyOut p vol m .ans .store)
+  unfolding storeOk
+  finished-inv new tied newer old q =
+      let done = copy-finished p vol m good q in
+      let kept = copy-frame p vol m good in
+      let c : copyOut p vol m .ans .store .copy ≡ p .copy = ap (λ (s : Store). s .copy) (done .store) in
+      let same = beside (1 - p .copy) (p .copy) (omega (arith, new .number)) kept in
+      record {
+        ok = rw (c, kept-sectors kept, lt-ltb (p .copy) 2 (new .number)) (finished-sane done (sectorsOf vol) ∙ new .sane);
+        range = finished-range done (new .range);
+        sound = rw c (finished-sound p vol m good new tied old q);
+        newer = rw c (λ g e. rw (done .head) (omega (arith, newer g (sym same ∙ e))));
+      }
+
+-- ---- generations
+
+-- there are two places
+either : (a c : ℕ) → c < 2 → (baseOf a ≡ baseOf c) ⊎ (baseOf a ≡ baseOf (1 - c))
+unfolding baseOf pick
+either zero zero l = inl refl
+either zero (suc zero) l = inr refl
+either (suc a) zero l = inr (rw (ne-eqb (suc a) 0 (λ e. omega arith)))
+either (suc a) (suc zero) l = inl (rw (ne-eqb (suc a) 0 (λ e. omega arith)))
+either a (suc (suc c)) l = absurd (let f : ⊥ = omega arith in f)
+
+pub inv-numbered : {vol : List ℕ} {st : Store} → Inv vol st → Numbered vol
+inv-numbered {vol} {st} inv c h e =
+    ⊎-elim
+    (λ q. let g : h ≡ st .head = ap (λ (d : Decoded). d .head) (sym e ∙ ap (copyOf vol) q ∙ inv .sound .stands .found) in rw g (inv .range .generation))
+    (λ q. omega (arith, inv .newer h (ap (copyOf vol) (sym q) ∙ e), inv .range .generation))
+    (either c (st .copy) (inv-held inv .copy))
+
+pub bytes-numbered : (vol : List ℕ) → Bytes vol → 64 ≤ sectorsOf vol → Numbered vol
+bytes-numbered vol small enough c h e = copy-range vol (baseOf c) h e (omega (arith, base-le c)) small .generation

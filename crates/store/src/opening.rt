@@ -1,0 +1,82 @@
+// The calls on offer that open a file to append.
+use append::Dir;
+use append::Flushed;
+use files::Rollover;
+use handles::Store;
+use medium::Medium;
+use medium::Outcome;
+ghost use mathlib.Core.Path.{_≡_};
+ghost use mathlib.Core.Bool.{true};
+ghost use Prim.Native.Nat.{_≤_};
+ghost use lib.ListN.{length};
+ghost use Rattle.medium.specs.Refusal.{outcomeOf};
+ghost use Rattle.store.specs.Opening.{openFine, rolloverOf, createCall, openCall};
+
+// The name passes its rule, and the directory where it is set.
+fn open_fine(name: &[u8], rolls: bool, dir: &[u8]) -> bool
+    ensures { λ r. ⌜ r ≡ openFine (now (name .entry)) rolls (now (dir .entry)) ⌝ }
+{
+    let named = names::name_ok(name);
+    let fine = names::dir_ok(dir);
+    named & (!rolls | fine)
+}
+
+// The rollover of a call. One that is not set has no directory.
+fn rollover_of(rolls: bool, dir: &[u8]) -> Rollover
+    requires { ⌜ (rolls ≡ true → length (now dir) ≤ 40) ⌝ }
+    ensures { λ r. ⌜ r ≡ rolloverOf rolls (now (dir .entry)) ⌝ }
+{
+    let mut bytes = [0u8; 40];
+    if !rolls {
+        return Rollover {
+            rolls,
+            dir: Dir { bytes, length: 0 },
+        };
+    }
+    runs::put_bytes(&mut bytes, 0, dir);
+    Rollover {
+        rolls,
+        dir: Dir {
+            bytes,
+            length: dir.len(),
+        },
+    }
+}
+
+// Create a file and open it to append. `rolls`: where a slot or chunk is lacking, the oldest file in `dir` goes.
+pub fn create(
+    volume: &mut [u8],
+    medium: Medium,
+    store: Store,
+    name: &[u8],
+    rolls: bool,
+    dir: &[u8],
+) -> Flushed
+    ensures { λ r. ⌜ (now (volume .exit) ≡ createCall (now (volume .entry)) medium store (now (name .entry)) rolls (now (dir .entry)) .vol) × (outcomeOf (r .outcome) ≡ createCall (now (volume .entry)) medium store (now (name .entry)) rolls (now (dir .entry)) .answer) × (r .medium ≡ createCall (now (volume .entry)) medium store (now (name .entry)) rolls (now (dir .entry)) .medium) × (r .store ≡ createCall (now (volume .entry)) medium store (now (name .entry)) rolls (now (dir .entry)) .store) × (r .appender ≡ createCall (now (volume .entry)) medium store (now (name .entry)) rolls (now (dir .entry)) .appender) ⌝ }
+{
+    let o = crate::asked(&volume[..], store, open_fine(name, rolls, dir));
+    if let Outcome::No(e) = o {
+        return files::refused(e, medium, store);
+    }
+    let over = rollover_of(rolls, dir);
+    files::create(volume, medium, store, name, over)
+}
+
+// Open a file to append to what it holds. It only reads; `rolls` and `dir` are for the appender.
+pub fn open_append(
+    volume: &[u8],
+    medium: Medium,
+    store: Store,
+    name: &[u8],
+    rolls: bool,
+    dir: &[u8],
+) -> Flushed
+    ensures { λ r. ⌜ (outcomeOf (r .outcome) ≡ openCall (now (volume .entry)) medium store (now (name .entry)) rolls (now (dir .entry)) .answer) × (r .medium ≡ openCall (now (volume .entry)) medium store (now (name .entry)) rolls (now (dir .entry)) .medium) × (r .store ≡ openCall (now (volume .entry)) medium store (now (name .entry)) rolls (now (dir .entry)) .store) × (r .appender ≡ openCall (now (volume .entry)) medium store (now (name .entry)) rolls (now (dir .entry)) .appender) ⌝ }
+{
+    let o = crate::asked(volume, store, open_fine(name, rolls, dir));
+    if let Outcome::No(e) = o {
+        return files::refused(e, medium, store);
+    }
+    let over = rollover_of(rolls, dir);
+    reopen::open_append(volume, medium, store, name, over)
+}

@@ -1,0 +1,178 @@
+-- The walks of the table by the layout: the free chunk, the chunk at a position of a file, the counts. Assumes nothing.
+use Prim.Native.Nat.{ℕ, _+_, _<_, _≤_}
+use mathlib.Core.Path.{_≡_, refl, sym, ap, ap₂, _∙_, subst}
+use mathlib.Core.Logic.{_≢_}
+use mathlib.Core.Bool.{Bool, true}
+use mathlib.Core.List.{List}
+use native.Mathlib.Omega.{arith}
+use borrow.Author.Tests.{eqb-true, eq-eqb}
+use lib.Dec.{eqb}
+use lib.ListN.{length, getD, set, drop, length-set, getD-replicate, List·getD-append}
+use lib.Seq.{getD-set-same, getD-set-other}
+use Rattle.le.specs.Part.{over, zeros}
+use Rattle.le.proofs.Choices.{pick-keeps-by}
+use Rattle.le.proofs.Parts.{length-zeros, length-over}
+use Rattle.medium.specs.declared.Error.{Error}
+use Rattle.medium.specs.declared.Medium.{Medium}
+use Rattle.medium.specs.declared.Outcome.the-variants.{Done}
+use Rattle.handles.specs.declared.Store.{Store}
+use Rattle.handles.proofs.Laws.{and-true}
+use Rattle.table.specs.declared.Link.{Link}
+use Rattle.table.specs.declared.LinkAt.the-variants as link
+use Rattle.table.specs.declared.Pick.{Pick}
+use Rattle.table.specs.declared.Pick.the-variants as free
+use Rattle.table.specs.declared.Place.{Place}
+use Rattle.table.specs.declared.Place.the-variants as place
+use Rattle.table.specs.Table.{linksOf, sought, locateStep, locateV, locateOf, freeStep, freeV, freeOf, Counted, countV, countOf}
+use Rattle.table.proofs.Nearest.{Nearest, free-nearest, free-range}
+use Rattle.layout.specs.Views.{diskOf, linkView}
+use Rattle.layout.specs.Segments.{Segment, segmentAt, linkFor, isOf, tally, Good}
+use Rattle.layout.proofs.Facts.{case, in-table, same-link, free≢linked, link-slot, link-position, is-of, not-of, free-of, true≢false}
+use Rattle.folds.specs.Checked.{Checked}
+use Rattle.folds.proofs.Walked.{link-reads, table-views}
+use Rattle.folds.proofs.Numbered.{tally-yes, tally-no, tally-start}
+
+getD-zeros : (n i : ℕ) → i < n → getD (zeros n) i 0 ≡ 0
+unfolding zeros
+getD-zeros n i h = getD-replicate n i 0 0 h
+
+getD-cleared : (l : List ℕ) (s : ℕ) → s < 64 → getD (over 0 (zeros 64) l) s 0 ≡ 0
+unfolding over
+getD-cleared l s h = List·getD-append (zeros 64) (drop (0 + length (zeros 64)) l) 0 s (rw (length-zeros 64) h) ∙ getD-zeros 64 s h
+
+-- ---- how many chunks below n are a slot's, with chunk n
+
+abbrev pub ofSlot : List ℕ → Store → ℕ → ℕ → Bool
+ofSlot vol st s c = isOf s (linkView vol st c)
+
+module _ (vol : List ℕ) (st : Store) (s n : ℕ) where
+  pub counts-free : linkView vol st n ≡ link.Free → tally (ofSlot vol st s) (n + 1) ≡ tally (ofSlot vol st s) n
+  counts-free q = tally-no (ofSlot vol st s) n (free-of s q)
+
+  pub counts-here : {l : Link} → linkView vol st n ≡ link.Linked l → l .slot ≡ s → tally (ofSlot vol st s) (n + 1) ≡ tally (ofSlot vol st s) n + 1
+  counts-here q e = tally-yes (ofSlot vol st s) n (is-of s q e)
+
+  pub counts-other : {l : Link} → linkView vol st n ≡ link.Linked l → l .slot ≢ s → tally (ofSlot vol st s) (n + 1) ≡ tally (ofSlot vol st s) n
+  counts-other q e = tally-no (ofSlot vol st s) n (not-of s q e)
+
+-- ---- the chunk at a position of a file
+
+module _ (vol : List ℕ) (st : Store) (G : ℕ → List Segment) (good : Good (diskOf vol st) G) where
+  -- a link of the slot and position is that of the segment
+  pub owns : (c : ℕ) (l : Link) → c < st .head .chunks → linkView vol st c ≡ link.Linked l → (s p : ℕ) → l .slot ≡ s → l .position ≡ p
+      → (p < length (G s)) × (segmentAt (G s) p .chunk ≡ c)
+  owns c l h q s p a b = let o = good .owned c l h q in (rw (a, b) at (o .inFile), rw (a, b) at (o .there))
+
+  module _ (s p : ℕ) (h : s < 64) (b : p < length (G s)) where
+    abbrev at : ℕ
+    at = segmentAt (G s) p .chunk
+
+    abbrev mark : Link
+    mark = linkFor (st .head .chunk) s (G s) p
+
+    pub at-link : (c : ℕ) → c ≡ at → linkView vol st c ≡ link.Linked mark
+    at-link c e = rw e (good .linked s p h b)
+
+    sought-mark : sought s p mark ≡ true
+    sought-mark = rw (link-slot (st .head .chunk) s (G s) p, link-position (st .head .chunk) s (G s) p, eq-eqb s s refl, eq-eqb p p refl)
+
+    -- passed, it is the answer
+    abbrev pub Met : ℕ → Place → Type 0
+    Met n t = at < n → t ≡ place.At at mark
+
+    pub met-free : (c : ℕ) (t : Place) → Met c t → linkView vol st c ≡ link.Free → Met (c + 1) t
+    met-free c t p q k = let n : c ≡ at → ⊥ = λ e. free≢linked q (at-link c e) in p (omega arith)
+
+    pub met-link : (c : ℕ) (l : Link) (t : Place) → c < st .head .chunks → Met c t → linkView vol st c ≡ link.Linked l → Met (c + 1) (locateStep s p c l t)
+    unfolding locateStep
+    met-link c l t i r q =
+        pick-keeps-by (Met (c + 1)) (sought s p l) (place.At c l) t
+        (λ e k.
+        let a = and-true (eqb (l .slot) s) (eqb (l .position) p) e in
+        let o = owns c l i q s p (eqb-true _ _ (a .0)) (eqb-true _ _ (a .1)) in
+        ap₂ place.At (sym (o .1)) (same-link q (at-link c (sym (o .1)))))
+        (λ e k.
+        let n : c ≡ at → ⊥ = λ f. true≢false (ap (sought s p) (same-link q (at-link c f)) ∙ sought-mark) e in
+        r (omega arith))
+
+-- the counts hold the chunks of each slot
+pub record Counts (G : ℕ → List Segment) (size : ℕ) (r : Counted) : Type 0 where
+  pub outcome : r .outcome ≡ Done
+  pub same : length (r .counts) ≡ size
+  pub number : (s : ℕ) → s < 64 → getD (r .counts) s 0 ≡ length (G s)
+
+module _ (vol : List ℕ) (m : Medium) (st : Store) (ok : Checked vol m st) (G : ℕ → List Segment) (good : Good (diskOf vol st) G) where
+  -- ---- the free chunk
+
+  pub free-chunk : {c : ℕ} → freeOf vol m st ≡ free.At c → (c < st .head .chunks) × (linkView vol st c ≡ link.Free)
+  free-chunk {c} e =
+      let h = free-range vol m st e in
+      (h, sym (link-reads vol m st ok c (in-table h)) ∙ subst (Nearest vol m st (linksOf (st .head .chunks))) e (free-nearest vol m st) .0)
+
+  -- no refusal comes
+  abbrev Unrefused : Pick → Type 0
+  Unrefused p = (e : Error) → p ≡ free.Refused e → ⊥
+
+  step-unrefused : (cursor chunks i : ℕ) (p : Pick) → Unrefused p → Unrefused (freeStep cursor chunks i p)
+  unfolding freeStep
+  step-unrefused cursor chunks i (free.Refused e) h = h
+  step-unrefused cursor chunks i free.Nothing h = λ e q. let z : _≡_ {A = ℕ} 0 1 = cc in omega arith
+  step-unrefused cursor chunks i (free.At b) h =
+      pick-keeps-by Unrefused _ (free.At i) (free.At b) (λ t e q. let z : _≡_ {A = ℕ} 0 1 = cc in omega arith) (λ t. h)
+
+  pub free-passes : (e : Error) → freeOf vol m st ≡ free.Refused e → ⊥
+  unfolding freeOf
+  free-passes =
+      let r = table-views vol m st ok G good (freeV (st .head .cursor) (st .head .chunks)) (λ c t. Unrefused t)
+      (λ c t h p q. step-unrefused (st .head .cursor) (st .head .chunks) c t p) (λ c l t h p q. p)
+      free.Nothing (λ e q. let z : _≡_ {A = ℕ} 0 1 = cc in omega arith) in
+      λ e q. r .2 e (sym (r .1) ∙ q)
+
+  -- ---- the chunk at a position of a file
+
+  pub locate-view : (s p : ℕ) → s < 64 → p < length (G s) → locateOf vol m st s p ≡ place.At (segmentAt (G s) p .chunk) (linkFor (st .head .chunk) s (G s) p)
+  unfolding locateOf
+  locate-view s p h b =
+      let r = table-views vol m st ok G good (locateV s p) (Met vol st G good s p h b) (λ c t i x q. met-free vol st G good s p h b c t x q)
+      (λ c l t i x q. met-link vol st G good s p h b c l t i x q) _ (λ k. absurd (omega arith)) in
+      r .1 ∙ r .2 (good .inside s p h b)
+
+  -- ---- the counts
+
+  module _ (l : List ℕ) (room : 64 ≤ length l) (clear : (s : ℕ) → s < 64 → getD l s 0 ≡ 0) where
+    -- of the chunks below n
+    record Upto (n : ℕ) (t : List ℕ) : Type 0 where
+      pub same : length t ≡ length l
+      pub number : (s : ℕ) → s < 64 → getD t s 0 ≡ tally (ofSlot vol st s) n
+
+    count-free : (c : ℕ) (t : List ℕ) → Upto c t → linkView vol st c ≡ link.Free → Upto (c + 1) t
+    count-free c t p q = record { same = p .same; number = λ s h. rw (counts-free vol st s c q) (p .number s h) }
+
+    count-link : (c : ℕ) (k : Link) (t : List ℕ) → c < st .head .chunks → Upto c t → linkView vol st c ≡ link.Linked k
+        → Upto (c + 1) (set t (k .slot) (getD t (k .slot) 0 + 1))
+    count-link c k t h p q =
+        let b = good .owned c k h q .slot in
+        record {
+          same = length-set t (k .slot) _ ∙ p .same;
+          number = λ s i.
+              case s (k .slot)
+              (λ e.
+              rw (e, counts-here vol st (k .slot) c q refl, getD-set-same t (k .slot) (getD t (k .slot) 0 + 1) 0 (omega (arith, p .same)))
+              (omega (arith, p .number (k .slot) b)))
+              (λ e.
+              rw (counts-other vol st s c q (λ f. e (sym f)), getD-set-other t (k .slot) s (getD t (k .slot) 0 + 1) 0 e)
+              (p .number s i));
+        }
+
+    pub count-view : Counts G (length l) (countOf vol m st l)
+    unfolding countOf
+    count-view =
+        let r = table-views vol m st ok G good countV Upto (λ c t i p q. count-free c t p q) (λ c k t i p q. count-link c k t i p q) l
+        (record { same = refl; number = λ s h. rw (tally-start (ofSlot vol st s)) (clear s h) }) in
+        rw (r .1) (record { outcome = refl; same = r .2 .same; number = λ s h. r .2 .number s h ∙ good .counted s h })
+
+  -- from zeros, as the calls have it
+  pub counts-view : (l : List ℕ) → 64 ≤ length l → Counts G (length l) (countOf vol m st (over 0 (zeros 64) l))
+  counts-view l room =
+      let n : length (over 0 (zeros 64) l) ≡ length l = length-over 0 (zeros 64) l (rw (length-zeros 64) (omega arith)) in
+      subst (λ (k : ℕ). Counts G k (countOf vol m st (over 0 (zeros 64) l))) n (count-view (over 0 (zeros 64) l) (omega arith) (getD-cleared l))

@@ -1,0 +1,8 @@
+pub mod Walked
+pub mod Numbered
+pub mod Named
+pub mod Oldest
+pub mod Listed
+pub mod Chunks
+pub mod Chains
+pub mod Listings

@@ -1,0 +1,92 @@
+-- The calls that only read keep the invariant: they hand the medium record back as it was, make no step, and leave the book as it is. Assumes nothing.
+use Prim.Native.Nat.{ℕ}
+use mathlib.Core.Path.{_≡_, refl}
+use mathlib.Core.Bool.{Bool, true, false}
+use mathlib.Core.List.{List}
+use Rattle.le.specs.Choice.{pick}
+use Rattle.le.proofs.Choices.{pick-keeps}
+use Rattle.medium.specs.declared.Medium.{Medium}
+use Rattle.medium.proofs.Laws.{onDone-keeps}
+use Rattle.handles.specs.declared.Store.{Store}
+use Rattle.directory.specs.declared.Found.{Found}
+use Rattle.directory.specs.declared.Found.the-variants as found
+use Rattle.table.specs.declared.Chained.{Chained}
+use Rattle.table.specs.declared.Chained.the-variants as chained
+use Rattle.table.specs.Table.{chainOf}
+use Rattle.directory.specs.Scan.{findOf}
+use Rattle.reader.specs.declared.Reader.{Reader}
+use Rattle.reader.specs.Calls.{NextCall, nextCall, SeekCall, seekCall}
+use Rattle.store.specs.Reading.{findCall, ListCall, listed, listCall, ReaderCall, onChain, onFound, readerCall}
+use Rattle.power.specs.Calls.{Query, list, find, reader, next, seek, query}
+use Rattle.power.specs.Book.{Book, enteredAll, beforeSteps, afterSteps, written}
+use Rattle.power.specs.History.{World, answered, ran, fedBy, Readable}
+use Rattle.power.proofs.Whole.{Keeps}
+
+-- ---- the book of a call that makes no step and settles nothing
+
+pub pick-same : {A : Type 0} (t : Bool) (x : A) → pick t x x ≡ x
+unfolding pick
+pick-same true x = refl
+pick-same false x = refl
+
+-- ---- the medium record comes back as it was
+
+module _ (vol : List ℕ) (m : Medium) (st : Store) where
+  list-medium : (dir counts rows : List ℕ) → listCall vol m st dir counts rows .medium ≡ m
+  unfolding listCall listed
+  list-medium dir counts rows =
+      pick-keeps (λ (c : ListCall). c .medium ≡ m) _ _ _ refl
+      (onDone-keeps (λ (c : ListCall). c .medium ≡ m) _ _ _ (λ _. onDone-keeps (λ (c : ListCall). c .medium ≡ m) _ _ _ (λ _. refl) (λ _ _. refl)) (λ _ _. refl))
+
+  find-medium : (name : List ℕ) → findCall vol m st name .medium ≡ m
+  unfolding findCall
+  find-medium name = refl
+
+  chain-medium : (slot id : ℕ) (c : Chained) → onChain m st slot id c .medium ≡ m
+  unfolding onChain
+  chain-medium slot id (chained.Refused e) = refl
+  chain-medium slot id (chained.Whole p) = refl
+
+  found-medium : (f : Found) → onFound vol m st f .medium ≡ m
+  unfolding onFound
+  found-medium (found.Refused e) = refl
+  found-medium (found.At slot id) = chain-medium slot id (chainOf vol m st slot)
+
+  reader-medium : (name : List ℕ) → readerCall vol m st name .medium ≡ m
+  unfolding readerCall
+  reader-medium name = onDone-keeps (λ (c : ReaderCall). c .medium ≡ m) _ _ _ (λ _. found-medium (findOf vol m st name)) (λ _ _. refl)
+
+  next-medium : (rd : Reader) (out : List ℕ) → nextCall vol m st rd out .medium ≡ m
+  unfolding nextCall
+  next-medium rd out =
+      pick-keeps (λ (c : NextCall). c .medium ≡ m) _ _ _ refl (onDone-keeps (λ (c : NextCall). c .medium ≡ m) _ _ _ (λ _. refl) (λ _ _. refl))
+
+  seek-medium : (rd : Reader) (number : ℕ) → seekCall vol m st rd number .medium ≡ m
+  unfolding seekCall
+  seek-medium rd number = onDone-keeps (λ (c : SeekCall). c .medium ≡ m) _ _ _ (λ _. refl) (λ _ _. refl)
+
+-- ---- the calls
+
+-- another record of the medium, of which as many sectors read
+pub keeps-medium : {w : World} {b : Book} (u : Medium) → Readable (w .vol) u → Keeps w b
+    → Keeps (record { vol = w .vol; store = w .store; appender = w .appender; medium = u }) b
+keeps-medium u r k = record { layout = k .layout; whole = k .whole; owns = record { writes = k .owns .writes }; readable = r }
+
+pub query-book : (q : Query) (w : World) (b : Book) → written (query q) (fedBy w (query q)) b ≡ b
+unfolding written fedBy ran enteredAll beforeSteps afterSteps answered
+query-book (list dir counts rows) w b = pick-same _ b
+query-book (find name) w b = pick-same _ b
+query-book (reader name) w b = pick-same _ b
+query-book (next rd out) w b = pick-same _ b
+query-book (seek rd number) w b = pick-same _ b
+
+query-world : (q : Query) (w : World) → ran w (query q) .world ≡ w
+unfolding ran answered
+query-world (list dir counts rows) w = rw (list-medium (w .vol) (w .medium) (w .store) dir counts rows) refl
+query-world (find name) w = rw (find-medium (w .vol) (w .medium) (w .store) name) refl
+query-world (reader name) w = rw (reader-medium (w .vol) (w .medium) (w .store) name) refl
+query-world (next rd out) w = rw (next-medium (w .vol) (w .medium) (w .store) rd out) refl
+query-world (seek rd number) w = rw (seek-medium (w .vol) (w .medium) (w .store) rd number) refl
+
+pub query-keeps : (q : Query) (w : World) (b : Book) → Keeps w b → Keeps (ran w (query q) .world) (written (query q) (fedBy w (query q)) b)
+query-keeps q w b k = rw (query-world q w, query-book q w b) k

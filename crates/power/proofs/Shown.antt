@@ -1,0 +1,150 @@
+-- The end of demand 3: a volume on which the invariant holds is mounted, lists exactly the book's files, and gives the payloads of each. Assumes nothing.
+use Prim.Native.Nat.{ℕ, _*_, _≤_, _<_}
+use mathlib.Core.Path.{_≡_, refl, sym, ap, subst, _∙_}
+use mathlib.Core.Logic.{_≢_}
+use mathlib.Core.Bool.{Bool, true, false}
+use mathlib.Core.List.{List, [], List·Memᴰ}
+use native.Mathlib.Omega.{arith}
+use borrow.Author.Tests.{le-ltb, ltb-true, ltb-false}
+use lib.Dec.{ltb}
+use lib.ListN.{length}
+use Rattle.le.specs.Choice.{pick}
+use Rattle.le.specs.Part.{part, over, zeros}
+use Rattle.names.specs.Names.{nameOk, dirOk}
+use Rattle.medium.specs.declared.Medium.{Medium}
+use Rattle.medium.specs.declared.Outcome.the-variants.{Done}
+use Rattle.medium.specs.Refusal.{ok, onDone}
+use Rattle.handles.specs.declared.Store.{Store}
+use Rattle.handles.specs.declared.Writer.the-variants.{Nobody}
+use Rattle.directory.specs.Rows.{rowOf, RowsOut, rowsOf}
+use Rattle.table.specs.Table.{Counted, countOf}
+use Rattle.reader.specs.Reader.{startOf}
+use Rattle.safe.specs.Inv.{Inv}
+use Rattle.safe.proofs.Invs.{reads, inv-mount, inv-writer}
+use Rattle.layout.specs.Views.{named, diskOf}
+use Rattle.layout.specs.Segments.{Segment, segmentAt, payloadsOf}
+use Rattle.layout.proofs.Facts.{case}
+use Rattle.views.proofs.Shows.{named-facts}
+use Rattle.views.proofs.Stays.{writer-unchanged}
+use Rattle.folds.specs.Chain.{chainFor}
+use Rattle.folds.specs.Checked.{Checked}
+use Rattle.folds.proofs.Chains.{chain-view}
+use Rattle.folds.proofs.Chunks.{locate-view}
+use Rattle.folds.proofs.Listed.{in-root}
+use Rattle.folds.proofs.Listings.{Listing, list-view}
+use Rattle.folds.proofs.Named.{find-there}
+use Rattle.reading.specs.Gives.{Gives}
+use Rattle.reading.proofs.Reading.{reads-all}
+use Rattle.store.specs.Asked.{askedOf}
+use Rattle.store.specs.Reading.{StoreCall, mountCall, ListCall, listAt, listCall, readerAt, onChain, onFound, readerCall}
+use Rattle.store.proofs.Lists.{short, rows-told}
+use Rattle.power.specs.Book.{File, Book}
+use Rattle.power.specs.History.{Readable}
+use Rattle.power.specs.Claim.{Shows, Holds}
+use Rattle.power.proofs.Whole.{fileOf, Whole}
+use Rattle.power.proofs.Checks.{inv-checked}
+use Rattle.power.proofs.Unmade.{whole-same}
+
+-- ---- mount
+
+-- the store value that mount gives: no one writes to it
+abbrev pub unwritten : Store → Store
+unwritten st = record { copy = st .copy; head = st .head; writer = Nobody }
+
+pub mount-gives : (vol : List ℕ) (m : Medium) (st : Store) → Inv vol st → Readable vol m → mountCall vol m ≡ record { answer = ok tt; store = unwritten st; medium = m }
+unfolding mountCall
+mount-gives vol m st inv r = rw (inv-mount vol m st inv r)
+
+pub whole-unwritten : {vol : List ℕ} {st : Store} {G : ℕ → List Segment} {b : Book} → Whole vol st G b → Whole vol (unwritten st) G b
+whole-unwritten {vol} {st} w = whole-same w (inv-writer refl refl (w .inv)) (writer-unchanged vol st (unwritten st) refl refl)
+
+-- ---- the listing and the readers, by any store value on which the invariant holds
+
+-- the root is a directory
+root : true ≡ dirOk []
+unfolding dirOk
+root = refl
+
+roomy : (counts rows : List ℕ) → 64 ≤ length counts → 3072 ≤ length rows → short counts rows ≡ false
+roomy counts rows c r = rw (le-ltb (length rows) 3072 r, le-ltb (length counts) 64 c)
+
+-- two rows of a listing that are alike are one
+one-row : {P : ℕ → ℕ → Type 0} (n : ℕ) → ((j k : ℕ) → P j k → P k j) → ((j k : ℕ) → j < k → k < n → P j k → ⊥) → (j k : ℕ) → j < n → k < n → P j k → j ≡ k
+one-row {P} n turned apart j k a b p = case j k (λ e. e) (λ ne. go ne (ltb j k) refl)
+  where
+    go : j ≢ k → (t : Bool) → ltb j k ≡ t → j ≡ k
+    go ne true e = absurd (apart j k (ltb-true j k e) b p)
+    go ne false e = absurd (apart k j (omega (arith, ltb-false j k e, ne)) a (turned j k p))
+
+module _ (vol : List ℕ) (m : Medium) (st : Store) (G : ℕ → List Segment) (b : Book) (w : Whole vol st G b) (r : Readable vol m) where
+  ok-all : Checked vol m st
+  ok-all = inv-checked m (w .inv) r
+
+  pub asked : (fine : Bool) → fine ≡ true → askedOf vol st fine ≡ Done
+  unfolding askedOf pick
+  asked fine e = rw (w .inv .ok, e)
+
+  module _ (counts rows : List ℕ) (counters : 64 ≤ length counts) (room : 3072 ≤ length rows) where
+    abbrev counted : Counted
+    counted = countOf vol m st (over 0 (zeros 64) counts)
+
+    abbrev made : RowsOut
+    made = rowsOf vol m st [] (counted .counts) rows
+
+    all-rows : Listing vol st G [] counted made
+    all-rows = list-view vol m st ok-all G (w .good) [] counts rows counters room
+
+    list-gives : listAt m Done (made .made .count) (counted .counts) (made .made .rows) ≡ listCall vol m st [] counts rows
+    list-gives =
+        rows-told vol m st [] counts rows (roomy counts rows counters room) root (sym (asked true refl)) refl refl (sym (all-rows .counted), refl) refl
+        refl (sym (all-rows .made)) refl
+
+    pub lists : Shows (listCall vol m st [] counts rows) (b .files)
+    lists =
+        subst (λ (c : ListCall). Shows c (b .files)) list-gives
+        (record {
+          accepted = refl;
+          many = all-rows .number ∙ sym (w .ties .many);
+          rows = λ k h.
+              let x = all-rows .each k h in
+              (fileOf (x .name) (x .id) (G (x .slot)), w .ties .into (x .slot) (x .name) (x .id) (x .below) (x .entry), x .bytes);
+          each = λ f mem.
+              let o = w .ties .from f mem in
+              let q = all-rows .every (o .0) (f .name) (f .id) (o .1) (o .2) (in-root (f .name)) in
+              (q .0, q .1, q .2 ∙ ap (λ (g : File). rowOf (f .name) (f .id) (g .chunks)) (sym (o .3)));
+          apart = one-row {P = λ (j k : ℕ). part (48 * j) 48 (made .made .rows) ≡ part (48 * k) 48 (made .made .rows)} (made .made .count) (λ j k e. sym e) (all-rows .apart);
+        })
+
+  -- the file of a slot, from its start
+  module _ (s : ℕ) (name : List ℕ) (id : ℕ) (h : s < 64) (e : diskOf vol st .entry s ≡ named name id) where
+    reader-gives : readerCall vol m st name ≡ readerAt m Done (startOf st s id (chainFor (st .head .chunk) s (G s)))
+    unfolding readerCall onDone onFound onChain
+    reader-gives =
+        rw (
+          asked (nameOk name) (named-facts vol st s e .fine),
+          find-there vol m st ok-all G (w .good) name s id h e,
+          chain-view vol m st ok-all G (w .good) s h (w .good .held s name id h e),
+        )
+
+    file-reads : (readerCall vol m st name .answer ≡ ok tt) × Gives vol m st (readerCall vol m st name .reader) (payloadsOf (G s))
+    file-reads =
+        rw reader-gives (
+          refl,
+          reads-all vol m st G s id name (reads m vol r) (w .inv .ok) (w .good) h e (λ p q. locate-view vol m st ok-all G (w .good) s p h q) (segmentAt (G s) _ .chunk),
+        )
+
+  pub each-reads : (f : File) → List·Memᴰ f (b .files) → (readerCall vol m st (f .name) .answer ≡ ok tt) × Gives vol m st (readerCall vol m st (f .name) .reader) (f .payloads)
+  each-reads f mem =
+      let o = w .ties .from f mem in
+      let x = file-reads (o .0) (f .name) (f .id) (o .1) (o .2) in
+      (x .0, subst (Gives vol m st (readerCall vol m st (f .name) .reader)) (ap (λ (g : File). g .payloads) (sym (o .3))) (x .1))
+
+-- ---- the volume holds the book
+
+pub shown : (vol : List ℕ) (st : Store) (G : ℕ → List Segment) (b : Book) → Whole vol st G b → Holds vol b
+shown vol st G b w =
+    record {
+      mounted = λ m r. ap (λ (c : StoreCall). c .answer) (mount-gives vol m st (w .inv) r);
+      listed = λ m r counts rows c d. rw (mount-gives vol m st (w .inv) r) (lists vol m (unwritten st) G b (whole-unwritten w) r counts rows c d);
+      reads = λ m r f mem. rw (mount-gives vol m st (w .inv) r) (each-reads vol m (unwritten st) G b (whole-unwritten w) r f mem);
+    }

@@ -1,0 +1,140 @@
+-- The number of writes of a copy of whose body nothing is known: each body sector is written, and the header twice. With fewer left it is refused with
+-- 4; and none of its sectors is left unwritten. Assumes nothing.
+use Prim.Native.Nat.{ℕ, zero, suc, _+_, _-_, _≤_, _<_}
+use mathlib.Core.Path.{_≡_, refl, ap, subst, _∙_}
+use mathlib.Core.Bool.{Bool, true, false}
+use mathlib.Core.List.{List, []}
+use native.Mathlib.Omega.{arith}
+use borrow.Author.Tests.{eq-eqb, ne-eqb, ltb-true, ltb-false}
+use lib.Dec.{ltb}
+use lib.ListN.{length}
+use Rattle.le.specs.Choice.{pick}
+use Rattle.medium.specs.declared.Error.the-variants.{Media}
+use Rattle.medium.specs.declared.Medium.{Medium}
+use Rattle.medium.specs.declared.Outcome.the-variants.{Done, No}
+use Rattle.medium.specs.Refusal.{onDone}
+use Rattle.medium.specs.Sector.{sectorsOf, spendOf, WriteOut, writeOf}
+use Rattle.handles.specs.declared.Header.{Header}
+use Rattle.header.specs.Header.{encodeOf}
+use Rattle.plan.specs.Copy.{Plan, put, StepOut, withCrc, Out, moveOf, actOf, stepOf, bodyFrom, unwritten, skippedFrom, lastOf, firstOf, copyOut}
+use Rattle.remove.proofs.Ways.{onDone-no}
+use Rattle.format.proofs.Ways.{when-done}
+use Rattle.safe.specs.Frame.{Kept}
+use Rattle.safe.specs.Copy.{target, targetAt, bodyCount, Good}
+use Rattle.safe.proofs.Frame.{kept-more, kept-wide, kept-sectors, write-used, write-kept, base-le}
+use Rattle.safe.proofs.Moves.{Sized, move-before, move-sized}
+use Rattle.layout.proofs.Facts.{case}
+
+-- ---- one write
+
+module _ (vol : List ℕ) (m : Medium) (k : ℕ) (bytes : List ℕ) where
+  pub write-some : 1 ≤ m .left → (writeOf vol m k bytes .ans .outcome ≡ Done) × (writeOf vol m k bytes .ans .medium .left + 1 ≡ m .left)
+  unfolding writeOf spendOf pick
+  write-some h = let z = ne-eqb (m .left) 0 (λ e. omega arith) in rw z (refl, omega arith)
+
+  pub write-media : m .left ≡ 0 → writeOf vol m k bytes .ans .outcome ≡ No Media
+  unfolding writeOf spendOf pick
+  write-media h = rw (eq-eqb (m .left) 0 h)
+
+-- ---- the body
+
+-- n writes from the medium u on
+pub record Spent (n : ℕ) (u : Medium) (o : StepOut) : Type 0 where
+  pub enough : n ≤ u .left → (o .ans .outcome ≡ Done) × (o .ans .medium .left + n ≡ u .left)
+  pub short : u .left < n → o .ans .outcome ≡ No Media
+
+-- every body sector is written
+abbrev pub AllPut : Plan → List ℕ → Medium → Type 0
+AllPut p vol m = (k : ℕ) → k < bodyCount p → (c : ℕ) × (bytes : List ℕ) × (moveOf p vol m k ≡ put c bytes)
+
+module _ (p : Plan) (vol : List ℕ) (m : Medium) (good : Good p vol) (puts : AllPut p vol m) where
+  module _ (n k : ℕ) (v : List ℕ) (u : Medium) (h : Header) (c : ℕ) (bytes : List ℕ) (move : moveOf p v u k ≡ put c bytes) where
+    abbrev w : WriteOut
+    w = writeOf v u (targetAt p k) bytes
+
+    abbrev one : StepOut
+    one = record { vol = w .vol; ans = record { outcome = w .ans .outcome; medium = w .ans .medium; head = withCrc h k c } }
+
+    more : bodyFrom p (suc n) k v u h ≡ onDone (w .ans .outcome) (bodyFrom p n (k + 1) (w .vol) (w .ans .medium) (withCrc h k c)) (λ e. one)
+    unfolding bodyFrom stepOf actOf
+    more = rw move
+
+    spent-more : Spent n (w .ans .medium) (bodyFrom p n (k + 1) (w .vol) (w .ans .medium) (withCrc h k c)) → Spent (suc n) u (bodyFrom p (suc n) k v u h)
+    spent-more r =
+        case (u .left) 0
+        (λ z. let x = more ∙ onDone-no _ _ (write-media v u (targetAt p k) bytes z) in
+        record {
+          enough = λ l. absurd (omega arith);
+          short = λ _. ap (λ (o : StepOut). o .ans .outcome) x ∙ write-media v u (targetAt p k) bytes z;
+        })
+        (λ z. let s = write-some v u (targetAt p k) bytes (omega (arith, z)) in
+        let x = more ∙ when-done _ _ _ (s .0) in
+        record {
+          enough = λ l. let y = r .enough (omega (arith, s .1)) in rw x (y .0, omega (arith, y .1, s .1));
+          short = λ l. ap (λ (o : StepOut). o .ans .outcome) x ∙ r .short (omega (arith, s .1));
+        })
+
+  body-spent : (n k : ℕ) (v : List ℕ) (u : Medium) (h : Header) → k + n ≤ bodyCount p → Kept (target p) 25 vol v → u .unreadable ≡ m .unreadable
+      → Spent n u (bodyFrom p n k v u h)
+  unfolding bodyFrom
+  body-spent zero k v u h fits kept same = record { enough = λ _. (refl, omega arith); short = λ l. absurd (omega arith) }
+  body-spent (suc n) k v u h fits kept same =
+      let few : k < 24 = omega (arith, good .chunks) in
+      let x = puts k (omega arith) in
+      let now : moveOf p v u k ≡ put (x .0) (x .1) = move-before p vol good k few kept m u same ∙ x .2 in
+      let size : length (x .1) ≡ 512 = subst Sized (x .2) (move-sized p vol m good k few) in
+      let inside : targetAt p k < sectorsOf v = rw (kept-sectors kept) (omega (arith, base-le (p .copy), good .enough)) in
+      spent-more n k v u h (x .0) (x .1) now
+      (body-spent n (k + 1) _ _ _ (omega arith) (kept-more kept (kept-wide (omega arith) (omega arith) (write-kept v u (targetAt p k) (x .1) size inside)))
+      (write-used v u (targetAt p k) (x .1) .unreadable ∙ same))
+
+  -- ---- none is left unwritten
+
+  none-unwritten : (n k : ℕ) → k + n ≤ bodyCount p → skippedFrom p vol m n k ≡ []
+  unfolding skippedFrom unwritten pick
+  none-unwritten zero k fits = refl
+  none-unwritten (suc n) k fits = let x = puts k (omega arith) in rw (x .2) (none-unwritten n (k + 1) (omega arith))
+
+  -- ---- the copy
+
+  abbrev z : WriteOut
+  z = firstOf p vol m
+
+  abbrev b : StepOut
+  b = bodyFrom p (bodyCount p) 0 (z .vol) (z .ans .medium) (p .head)
+
+  body : Spent (bodyCount p) (z .ans .medium) b
+  body =
+      body-spent (bodyCount p) 0 (z .vol) (z .ans .medium) (p .head) (omega arith)
+      (kept-wide (omega arith) (omega arith) (write-kept vol m (target p) (p .first) (good .first) (omega (arith, base-le (p .copy), good .enough))))
+      (write-used vol m (target p) (p .first) .unreadable)
+
+  abbrev lastPart : Out
+  lastPart = lastOf p (skippedFrom p vol m (bodyCount p) 0) (b .vol) (b .ans .medium) (b .ans .head)
+
+  reaches : z .ans .outcome ≡ Done → b .ans .outcome ≡ Done → copyOut p vol m ≡ lastPart
+  unfolding copyOut
+  reaches s t = when-done _ _ _ s ∙ when-done _ _ _ t
+
+  pub copy-enough : bodyCount p + 2 ≤ m .left → (copyOut p vol m .ans .outcome ≡ Done) × (copyOut p vol m .skipped ≡ [])
+  unfolding lastOf
+  copy-enough l =
+      let s = write-some vol m (target p) (p .first) (omega arith) in
+      let t = body .enough (omega (arith, s .1)) in
+      let u = write-some (b .vol) (b .ans .medium) (target p) (encodeOf (b .ans .head)) (omega (arith, s .1, t .1)) in
+      let x = reaches (s .0) (t .0) ∙ when-done _ _ _ (u .0) in
+      (ap (λ (o : Out). o .ans .outcome) x, ap (λ (o : Out). o .skipped) x ∙ none-unwritten (bodyCount p) 0 (omega arith))
+
+  pub copy-short : m .left < bodyCount p + 2 → copyOut p vol m .ans .outcome ≡ No Media
+  unfolding copyOut lastOf
+  copy-short l =
+      case (m .left) 0
+      (λ e. ap (λ (o : Out). o .ans .outcome) (onDone-no _ _ (write-media vol m (target p) (p .first) e)))
+      (λ e. let s = write-some vol m (target p) (p .first) (omega (arith, e)) in go (s .0) (s .1) (ltb (z .ans .medium .left) (bodyCount p)) refl)
+    where
+      go : z .ans .outcome ≡ Done → z .ans .medium .left + 1 ≡ m .left → (t : Bool) → ltb (z .ans .medium .left) (bodyCount p) ≡ t → copyOut p vol m .ans .outcome ≡ No Media
+      go s r true t = ap (λ (o : Out). o .ans .outcome) (when-done _ _ _ s ∙ onDone-no _ _ (body .short (ltb-true _ _ t)))
+      go s r false t =
+          let y = body .enough (ltb-false _ _ t) in
+          ap (λ (o : Out). o .ans .outcome)
+          (when-done _ _ _ s ∙ when-done _ _ _ (y .0) ∙ onDone-no _ _ (write-media (b .vol) (b .ans .medium) (target p) (encodeOf (b .ans .head)) (omega (arith, y .1, r, l))))

@@ -1,0 +1,4 @@
+pub mod Calls
+pub mod Book
+pub mod History
+pub mod Claim

@@ -1,6 +1,8 @@
-// Links the proved archive that `rt staticlib bridge` writes.
+// Links the proved archives that `rt staticlib` writes.
 fn main() {
     let root = std::path::Path::new(env!("CARGO_MANIFEST_DIR")).join("../../target/staticlib");
     println!("cargo::rustc-link-search=native={}", root.display());
-    println!("cargo::rerun-if-changed={}", root.join("libbridge.a").display());
+    for archive in ["libbridge.a", "libbridge_write.a"] {
+        println!("cargo::rerun-if-changed={}", root.join(archive).display());
+    }
 }

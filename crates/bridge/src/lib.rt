@@ -1,5 +1,5 @@
-// The calls on offer for a program in another language that keeps the handles between calls: the
-// comparison with the Rust links this crate. A slice crosses as a pointer and a length, an array as
+// The calls that only read, for a program in another language that keeps the handles between calls: the
+// comparison with the Rust links this crate, and bridge_write for the calls that write. A slice crosses as a pointer and a length, an array as
 // a pointer. Each function returns 0 or the number of the refusal. Of a number for a field of 32
 // bits the low 32 count.
 //   medium: left, unreadable, entropy, token.
@@ -7,7 +7,7 @@
 //     open), its token, its file id. The 24 checksums of its header cross beside it.
 //   reader: store id, generation, slot, id, chunks, chunk, end (0 the file's last chunk, else
 //     known), the records there, position, index.
-mod numbers;
+pub mod numbers;
 
 ghost use mathlib.Core.Path.{_≡_};
 ghost use Rattle.bridge.specs.Calls.{mountAt, findAt, listAt, readerAt, nextAt, seekAt, recordAt};

@@ -16,7 +16,7 @@ ghost use Rattle.reader.specs.Calls.{nextAnswer, numberedAnswer};
 ghost use Rattle.bridge.specs.Numbers.{codeOf, narrowOf, mediumOf, mediumWords, writerOf, storeOf, storeWords, endAt, readerOf, readerWords, foundWords, itemWords, numberWords};
 
 // The low 32 bits.
-fn narrow(x: u64) -> u32
+pub fn narrow(x: u64) -> u32
     ensures { λ r. ⌜ r ≡ narrowOf x ⌝ }
 {
     (x % 0x1_0000_0000) as u32

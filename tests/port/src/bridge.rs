@@ -1,7 +1,7 @@
-//! The functions of crates/bridge, and what crosses: numbers in the order that
-//! its src/lib.rt has.
+//! The functions of crates/bridge and crates/bridge_write, and what crosses:
+//! numbers in the order that their src/lib.rt have.
 use driver::script::{Lent, Session, bytes_of, next_text, num, rows_text};
-use driver::{Medium, Next, Reader, Store};
+use driver::{Appender, Medium, Next, Reader, Store, unhex};
 
 #[link(name = "bridge", kind = "static")]
 unsafe extern "C" {
@@ -30,6 +30,44 @@ unsafe extern "C" {
     fn port_record(store: &[u64; 10], crcs: &[u32; 24], reader: &[u64; 10], answer: &mut [u64; 3]) -> u32;
 }
 
+#[link(name = "bridge_write", kind = "static")]
+unsafe extern "C" {
+    fn port_format(
+        volume: *mut u8, length: usize, medium: &mut [u64; 4], size: u32, seed: u64,
+        store: &mut [u64; 10], crcs: &mut [u32; 24],
+    ) -> u32;
+    fn port_delete(
+        volume: *mut u8, length: usize, medium: &mut [u64; 4], store: &mut [u64; 10], crcs: &mut [u32; 24],
+        name: *const u8, name_length: usize,
+    ) -> u32;
+    fn port_delete_oldest(
+        volume: *mut u8, length: usize, medium: &mut [u64; 4], store: &mut [u64; 10], crcs: &mut [u32; 24],
+        dir: *const u8, dir_length: usize, answer: &mut [u64; 3], gone: &mut [u8; 40],
+    ) -> u32;
+    fn port_append(
+        volume: *mut u8, length: usize, medium: &mut [u64; 4], store: &mut [u64; 10], crcs: &mut [u32; 24],
+        appender: &mut [u64; 10], buffer: &mut [u8; 486], dir: &mut [u8; 40], bytes: *const u8, bytes_length: usize,
+    ) -> u32;
+    fn port_sync(
+        volume: *mut u8, length: usize, medium: &mut [u64; 4], store: &mut [u64; 10], crcs: &mut [u32; 24],
+        appender: &mut [u64; 10], buffer: &mut [u8; 486], dir: &mut [u8; 40],
+    ) -> u32;
+    fn port_create(
+        volume: *mut u8, length: usize, medium: &mut [u64; 4], store: &mut [u64; 10], crcs: &mut [u32; 24],
+        name: *const u8, name_length: usize, rolls: u32, dir: *const u8, dir_length: usize,
+        appender: &mut [u64; 10], buffer: &mut [u8; 486], over: &mut [u8; 40],
+    ) -> u32;
+    fn port_open_append(
+        volume: *const u8, length: usize, medium: &mut [u64; 4], store: &mut [u64; 10], crcs: &mut [u32; 24],
+        name: *const u8, name_length: usize, rolls: u32, dir: *const u8, dir_length: usize,
+        appender: &mut [u64; 10], buffer: &mut [u8; 486], over: &mut [u8; 40],
+    ) -> u32;
+    fn port_room(appender: &[u64; 10], buffer: &[u8; 486], dir: &[u8; 40], answer: &mut [u64; 3]) -> u32;
+}
+
+/// The calls that write, with their volume compared.
+const WRITING: &[&str] = &["format", "create", "open_append", "append", "appendn", "sync", "delete", "delete_oldest"];
+
 fn medium_words(m: &Medium) -> [u64; 4] {
     [m.left.into(), m.unreadable, m.entropy, Store::x_token().into()]
 }
@@ -48,35 +86,78 @@ fn reader_words(r: &Reader) -> [u64; 10] {
     [r.x_store(), r.x_generation(), r.x_slot() as u64, r.x_id().into(), chunks, chunk, kind, end, position, index]
 }
 
+/// An appender as it crosses.
+#[derive(Clone, PartialEq, Eq)]
+pub struct Words {
+    small: [u64; 10],
+    buffer: [u8; 486],
+    dir: [u8; 40],
+}
+
+/// Where no rollover is set its bytes and length are not looked at: any will do, and they come back.
+const NO_DIR: ([u8; 40], u64) = ([0xee; 40], 77);
+/// What a refused create or open_append gives: all zeros, and closed.
+const NO_APPENDER: Words = Words { small: [0, 0, 0, 0, 0, 2, 0, 0, 0, 0], buffer: [0; 486], dir: [0; 40] };
+
+/// `unset`: the directory where no rollover is set.
+fn appender_words(a: &Appender, unset: ([u8; 40], u64)) -> Words {
+    let (kind, count) = a.x_tail();
+    let (dir, length) = a.x_rollover().map_or(unset, |d| (d.x_parts().0, d.x_parts().1.into()));
+    let rolls = u64::from(a.x_rollover().is_some());
+    let (chunk, position) = (a.x_chunk().into(), a.x_position().into());
+    let (kind, count, fill) = (kind.into(), count.into(), a.x_fill() as u64);
+    let small = [a.x_token().into(), a.x_slot() as u64, a.x_id().into(), chunk, position, kind, count, fill, rolls, length];
+    Words { small, buffer: a.x_buffer(), dir }
+}
+
 /// What a call gave back.
 pub struct Told {
     text: String,
     medium: [u64; 4],
-    /// Of mount.
+    /// Of mount and of the calls that write.
     store: ([u64; 10], [u32; 24]),
     /// Of reader, next and seek.
     reader: [u64; 10],
+    /// Of create, open_append, append and sync.
+    appender: Words,
+    /// The bytes lent for the name that delete_oldest tells.
+    gone: [u8; 40],
     lent: Lent,
+    /// Of the calls that write; the others cannot.
+    volume: Vec<u8>,
 }
 
 impl Told {
-    /// From what the Rust left. A refused mount or reader gives a handle of zeros.
+    /// From what the Rust left. A refused mount, format or reader gives a handle of zeros.
     pub fn rust(session: &Session, call: &str, text: &str) -> Self {
         let st = &session.st;
         let accepted = text.starts_with("ok");
-        let store = st.store.as_ref().filter(|_| call == "mount" && accepted).map(store_words);
+        let new = matches!(call, "mount" | "format");
+        let store = st.store.as_ref().filter(|_| new && accepted || !new && WRITING.contains(&call)).map(store_words);
         let reader = st.reader.as_ref().filter(|_| matches!(call, "next" | "seek") || call == "reader" && accepted);
+        let appender = match (call, &st.app) {
+            ("create" | "open_append", Some(a)) if accepted => appender_words(a, ([0; 40], 0)),
+            ("append" | "appendn" | "sync", Some(a)) => appender_words(a, NO_DIR),
+            _ => NO_APPENDER,
+        };
+        let mut gone = lent_name();
+        if let (true, Some(name)) = (call == "delete_oldest", text.strip_prefix("ok 1 ")) {
+            gone[..name.len()].copy_from_slice(name.as_bytes());
+        }
         Told {
             text: text.into(),
             medium: medium_words(&st.m),
             store: store.unwrap_or_default(),
             reader: reader.map(reader_words).unwrap_or_default(),
+            appender,
+            gone,
             lent: session.lent.clone(),
+            volume: vec![],
         }
     }
 
-    /// What differs, in words.
-    pub fn differs(&self, port: &Told) -> Option<String> {
+    /// What differs, in words. `volume`: as the Rust left it.
+    pub fn differs(&self, port: &Told, volume: &[u8]) -> Option<String> {
         let first = |a: &[u8], b: &[u8]| a.iter().zip(b).position(|(x, y)| x != y).unwrap_or(a.len().min(b.len()));
         let show = |what: &str, rust: String, port: String| Some(format!("{what}\nthe Rust {rust}\nthe port {port}"));
         if self.text != port.text {
@@ -91,18 +172,36 @@ impl Told {
         if self.reader != port.reader {
             return show("reader", format!("{:?}", self.reader), format!("{:?}", port.reader));
         }
-        let (a, b) = (&self.lent, &port.lent);
-        if a.counts != b.counts {
-            return show("counts", format!("{:?}", a.counts), format!("{:?}", b.counts));
+        let (a, b) = (&self.appender, &port.appender);
+        if a.small != b.small {
+            return show("appender", format!("{:?}", a.small), format!("{:?}", b.small));
         }
-        for (what, a, b) in [("rows", &a.rows, &b.rows), ("output", &a.out, &b.out)] {
+        let (c, d) = (&self.lent, &port.lent);
+        if c.counts != d.counts {
+            return show("counts", format!("{:?}", c.counts), format!("{:?}", d.counts));
+        }
+        for (what, a, b) in [
+            ("appender's buffer", &a.buffer[..], &b.buffer[..]), ("appender's directory", &a.dir, &b.dir),
+            ("name lent", &self.gone, &port.gone), ("rows", &c.rows, &d.rows), ("output", &c.out, &d.out),
+        ] {
             if a != b {
                 let at = first(a, b);
                 return show(&format!("{what}, from byte {at}"), format!("{:02x?}", &a[at..]), format!("{:02x?}", &b[at..]));
             }
         }
+        if !port.volume.is_empty() && port.volume != volume {
+            let at = first(volume, &port.volume);
+            let (a, b) = (&volume[at..(at / 512 * 512 + 512).min(volume.len())], &port.volume[at..]);
+            let what = format!("volume, sector {} from byte {}", at / 512, at % 512);
+            return show(&what, format!("{:02x?}", a), format!("{:02x?}", &b[..a.len()]));
+        }
         None
     }
+}
+
+/// The bytes that are lent for a name.
+fn lent_name() -> [u8; 40] {
+    std::array::from_fn(|i| i as u8 * 5 + 1)
 }
 
 /// The port's answer to a line's call, if it is one that the port has and its handles are there.
@@ -113,8 +212,14 @@ pub fn ask(session: &Session, w: &[&str]) -> Option<Told> {
         medium: medium_words(&st.m),
         store: Default::default(),
         reader: Default::default(),
+        appender: NO_APPENDER,
+        gone: lent_name(),
         lent: session.lent.anew(),
+        volume: vec![],
     };
+    if WRITING.contains(&w[0]) {
+        return ask_writing(session, w, told);
+    }
     let v = &st.m.volume;
     let text = |i: usize| bytes_of(w.get(i).copied().unwrap_or("\"\""));
     let (at, length) = (v.as_ptr(), v.len());
@@ -197,6 +302,90 @@ pub fn ask(session: &Session, w: &[&str]) -> Option<Told> {
             // SAFETY: as above.
             let no = unsafe { port_record(&store, &crcs, &reader, answer) };
             told.text = if no == 0 { format!("ok {}", answer[0]) } else { format!("no {no}") };
+        }
+        _ => return None,
+    }
+    Some(told)
+}
+
+/// The bytes that append and appendn take.
+fn appended(w: &[&str]) -> Option<Vec<u8>> {
+    let n = |i: usize, none: u64| w.get(i).and_then(|w| num(w)).unwrap_or(none);
+    match w[0] {
+        "append" => unhex(w.get(1).filter(|w| **w != "\"\"").copied().unwrap_or("")),
+        _ => Some(vec![n(2, 0x61) as u8; n(1, 0) as usize]),
+    }
+}
+
+/// The same for a call that writes; it works on a copy of the volume.
+fn ask_writing(session: &Session, w: &[&str], mut told: Told) -> Option<Told> {
+    let st = &session.st;
+    told.volume.clone_from(&st.m.volume);
+    let (at, length) = (told.volume.as_mut_ptr(), told.volume.len());
+    let text = |i: usize| bytes_of(w.get(i).copied().unwrap_or("\"\""));
+    let no_or = |no: u32, ok: String| if no == 0 { format!("ok {ok}") } else { format!("no {no}") };
+    let answer = &mut [u64::MAX; 3];
+    if w[0] == "format" {
+        let (size, seed) = (w.get(1).and_then(|w| num(w))?, w.get(2).and_then(|w| num(w))?);
+        let (store, crcs) = (&mut [u64::MAX; 10], &mut [u32::MAX; 24]);
+        // SAFETY: each pointer is that of a live slice of the length beside it.
+        let no = unsafe { port_format(at, length, &mut told.medium, size as u32, seed, store, crcs) };
+        told.store = (*store, *crcs);
+        told.text = no_or(no, store[5].to_string());
+        return Some(told);
+    }
+    told.store = st.store.as_ref().map(store_words)?;
+    let (store, crcs) = (&mut told.store.0, &mut told.store.1);
+    match w[0] {
+        "delete" => {
+            let name = text(1);
+            // SAFETY: as above.
+            let no = unsafe { port_delete(at, length, &mut told.medium, store, crcs, name.as_ptr(), name.len()) };
+            told.text = no_or(no, "0".into());
+        }
+        "delete_oldest" => {
+            let dir = text(1);
+            // SAFETY: as above.
+            let no = unsafe {
+                port_delete_oldest(
+                    at, length, &mut told.medium, store, crcs, dir.as_ptr(), dir.len(), answer, &mut told.gone,
+                )
+            };
+            let name = String::from_utf8_lossy(&told.gone[..answer[1].min(40) as usize]);
+            told.text = no_or(no, if answer[0] == 0 { "0".into() } else { format!("{} {name}", answer[0]) });
+        }
+        "create" | "open_append" => {
+            let (name, rolls) = (text(1), u32::from(w.get(2).is_some_and(|d| *d != "-")));
+            // a directory that is not set is not looked at
+            let dir = if rolls == 0 { bytes_of("+/none") } else { text(2) };
+            let (name, n, dir, k) = (name.as_ptr(), name.len(), dir.as_ptr(), dir.len());
+            told.appender = Words { small: [u64::MAX; 10], buffer: [0xee; 486], dir: [0xee; 40] };
+            let Words { small, buffer, dir: over } = &mut told.appender;
+            // SAFETY: as above.
+            let no = unsafe {
+                if w[0] == "create" {
+                    port_create(at, length, &mut told.medium, store, crcs, name, n, rolls, dir, k, small, buffer, over)
+                } else {
+                    port_open_append(at, length, &mut told.medium, store, crcs, name, n, rolls, dir, k, small, buffer, over)
+                }
+            };
+            told.text = no_or(no, small[2].to_string());
+        }
+        "append" | "appendn" | "sync" => {
+            told.appender = appender_words(st.app.as_ref()?, NO_DIR);
+            let Words { small, buffer, dir } = &mut told.appender;
+            // SAFETY: as above.
+            let mut no = if w[0] == "sync" {
+                unsafe { port_sync(at, length, &mut told.medium, store, crcs, small, buffer, dir) }
+            } else {
+                let b = appended(w)?;
+                unsafe { port_append(at, length, &mut told.medium, store, crcs, small, buffer, dir, b.as_ptr(), b.len()) }
+            };
+            if no == 0 {
+                // SAFETY: as above.
+                no = unsafe { port_room(small, buffer, dir, answer) };
+            }
+            told.text = no_or(no, answer[0].to_string());
         }
         _ => return None,
     }

@@ -1,6 +1,7 @@
 //! The port beside the Rust: a script runs on the Rust, and each call that the
 //! port has is put to both with the same bytes, handles and buffers.
 pub mod bridge;
+pub mod histories;
 pub mod make;
 use bridge::Told;
 use driver::script::{Session, words};
@@ -16,6 +17,13 @@ pub const CALLS: &[(&str, &[u32])] = &[
     ("next", &[2, 3, 4, 7, 11]),
     ("seek", &[3, 4, 7, 11]),
     ("record", &[3]),
+    ("format", &[2, 4, 6, 12]),
+    ("create", &[1, 3, 4, 5, 6, 7, 8, 10, 11, 12]),
+    ("open_append", &[1, 3, 4, 7, 9]),
+    ("append", &[3, 4, 5, 6, 7, 10, 11, 12]),
+    ("sync", &[3, 4, 5, 6, 7, 10, 11, 12]),
+    ("delete", &[1, 3, 4, 5, 6, 7, 9, 11, 12]),
+    ("delete_oldest", &[1, 3, 4, 5, 6, 7, 11, 12]),
 ];
 
 /// A panic of the Rust in a call is an answer and prints nothing; any other prints where.
@@ -36,6 +44,7 @@ impl Tally {
         self.of(|_| true, |_| true)
     }
     fn count(&mut self, call: &str, text: &str) {
+        let call = if call == "appendn" { "append" } else { call };
         let call = CALLS.iter().find(|c| c.0 == call).unwrap().0;
         let refusal = text.strip_prefix("no ").map_or(0, |t| t.split(' ').next().unwrap().parse().unwrap());
         *self.0.entry((call, refusal)).or_default() += 1;
@@ -76,9 +85,97 @@ pub struct Stop {
     pub why: String,
 }
 
+/// A script as it runs on both.
+struct Play<'a> {
+    session: Session,
+    tally: &'a mut Tally,
+}
+
+impl Play<'_> {
+    /// Runs a line; what it prints, or what differs.
+    fn line(&mut self, line: &str) -> Result<String, String> {
+        let w = words(line);
+        match w.first() {
+            Some(&"stops") => return self.stops(line),
+            // how `oracle` prints, and which numbers it has: here those of the port
+            Some(&"echo" | &"trace" | &"rule3") => return Ok(String::new()),
+            _ => {}
+        }
+        let port = w.first().and_then(|_| bridge::ask(&self.session, &w));
+        let text = self.session.line(line).unwrap_or_default();
+        if let Some(port) = port {
+            self.tally.count(w[0], &text);
+            let rust = Told::rust(&self.session, w[0], &text);
+            if let Some(why) = rust.differs(&port, &self.session.st.m.volume) {
+                return Err(why);
+            }
+        }
+        Ok(text)
+    }
+
+    /// `stops CALL ; LINE ; ..`. Prints the answer and how often the call was stopped.
+    fn stops(&mut self, line: &str) -> Result<String, String> {
+        let (mut stops, mut answer) = (0, String::new());
+        self.line("save stops")?;
+        for n in 0.. {
+            let [before, call, after, lines @ ..] = &each_stop(line, n)[..] else { unreachable!() };
+            let mut run = |line: &str| self.line(line).map_err(|why| format!("{n} writes left, {line}: {why}"));
+            run("load stops")?;
+            run(before)?;
+            answer = run(call)?;
+            run(after)?;
+            if !self.session.st.m.refused_write {
+                stops = n;
+                break;
+            }
+            for line in lines {
+                self.line(line).map_err(|why| format!("{n} writes left, then {line}: {why}"))?;
+            }
+        }
+        Ok(format!("{answer} after {stops} stops"))
+    }
+}
+
+/// `stops CALL ; LINE ; ..` is the call with 0, 1, 2, .. writes left, each time from the state that it
+/// is given, until no write is refused, and the lines after each stop. Here one turn of it.
+fn each_stop(line: &str, n: u64) -> Vec<String> {
+    let text = line.split('#').next().unwrap().trim().strip_prefix("stops ").unwrap_or("");
+    let mut lines: Vec<String> = text.split(';').map(|l| l.trim().into()).collect();
+    lines.insert(0, format!("setleft {n}"));
+    lines.insert(2, "setleft max".into());
+    lines
+}
+
+/// The same script without `stops`.
+pub fn spelled(lines: Vec<String>) -> Vec<String> {
+    let (mut session, mut out) = (Session::new(true), vec![]);
+    for line in lines {
+        let mut say = |line: String| {
+            session.line(&line);
+            out.push(line);
+            session.st.m.refused_write
+        };
+        if !line.starts_with("stops ") {
+            say(line);
+            continue;
+        }
+        say("save stops".into());
+        for n in 0.. {
+            say("load stops".into());
+            let mut lines = each_stop(&line, n).into_iter();
+            let refused = lines.by_ref().take(3).map(&mut say).last();
+            if refused != Some(true) {
+                break;
+            }
+            lines.for_each(|l| { say(l); });
+        }
+    }
+    out
+}
+
 /// Runs a script. A line `= TEXT` is the answer to the lines before it.
 pub fn play<'a>(lines: impl Iterator<Item = &'a str>, tally: &mut Tally) -> Result<(), Stop> {
-    let mut session = Session::new(true);
+    let mut play = Play { session: Session::new(true), tally };
     let mut printed: VecDeque<String> = VecDeque::new();
     let (mut answers, mut last) = (false, 0);
     for (k, line) in lines.enumerate() {
@@ -91,28 +188,30 @@ pub fn play<'a>(lines: impl Iterator<Item = &'a str>, tally: &mut Tally) -> Resu
                 got => return stop(format!("expected {want}\nthe Rust {}", got.unwrap_or("says nothing".into()))),
             }
         }
-        let w = words(line);
-        if answers && !w.is_empty() && !printed.is_empty() {
+        if answers && !words(line).is_empty() && !printed.is_empty() {
             return stop(format!("an answer is not in the script: {}", printed[0]));
         }
-        let port = w.first().and_then(|_| bridge::ask(&session, &w));
-        let text = session.line(line).unwrap_or_default();
-        if !session.rule3 {
-            return stop("a script for both keeps rule3 on".into());
+        match play.line(line) {
+            Ok(text) => printed.extend(text.lines().map(String::from)),
+            Err(why) => return stop(why),
         }
-        if let Some(port) = port {
-            tally.count(w[0], &text);
-            let rust = Told::rust(&session, w[0], &text);
-            if let Some(why) = rust.differs(&port) {
-                return stop(why);
-            }
-        }
-        printed.extend(text.lines().map(String::from));
     }
     match printed.pop_front() {
         Some(more) if answers => Err(Stop { line: last, why: format!("an answer is not in the script: {more}") }),
         _ => Ok(()),
     }
+}
+
+/// A script with the answers that it prints, for a first recording.
+pub fn answered<'a>(lines: impl Iterator<Item = &'a str>) -> Result<Vec<String>, Stop> {
+    let mut play = Play { session: Session::new(true), tally: &mut Tally::default() };
+    let mut out = vec![];
+    for (k, line) in lines.enumerate().filter(|(_, l)| !l.starts_with("= ")) {
+        let text = play.line(line).map_err(|why| Stop { line: k + 1, why })?;
+        out.push(line.to_string());
+        out.extend(text.lines().map(|t| format!("= {t}")));
+    }
+    Ok(out)
 }
 
 /// Whether two sides differ somewhere in a script; one that breaks off counts as no difference.

@@ -1,5 +1,6 @@
 //! Random scripts. A round is one volume with a history that the Rust makes,
 //! and then episodes: the history's state with something changed, and calls.
+use crate::histories;
 use driver::script::Session;
 
 /// What an episode changes.
@@ -11,57 +12,62 @@ pub enum Kind {
     Damaged,
     /// Whole sectors of random bytes.
     Random,
+    /// Calls that write: a history.
+    History,
+    /// The same, each call stopped at each of its writes.
+    Stopped,
+    /// The same, single calls on what is damaged or forged.
+    Forged,
 }
 
 pub struct Rng(pub u64);
 impl Rng {
-    fn next(&mut self) -> u64 {
+    pub fn next(&mut self) -> u64 {
         self.0 = self.0.wrapping_add(0x9e3779b97f4a7c15);
         let mut z = self.0;
         z = (z ^ (z >> 30)).wrapping_mul(0xbf58476d1ce4e5b9);
         z = (z ^ (z >> 27)).wrapping_mul(0x94d049bb133111eb);
         z ^ (z >> 31)
     }
-    fn below(&mut self, n: u64) -> u64 {
+    pub fn below(&mut self, n: u64) -> u64 {
         self.next() % n
     }
-    fn one_in(&mut self, n: u64) -> bool {
+    pub fn one_in(&mut self, n: u64) -> bool {
         self.below(n) == 0
     }
-    fn pick<T: Copy>(&mut self, of: &[T]) -> T {
+    pub fn pick<T: Copy>(&mut self, of: &[T]) -> T {
         of[self.below(of.len() as u64) as usize]
     }
     /// 0, 1, the top, one beside it, or any below it.
-    fn edge(&mut self, top: u64) -> u64 {
+    pub fn edge(&mut self, top: u64) -> u64 {
         let any = self.below(top + 1);
         self.pick(&[0, 1, top.saturating_sub(1), top, top + 1, any, any])
     }
 }
 
 const LONG: &str = "traces/abcdefghijklmnopqrstuvwxyz0123456"; // 40 bytes
-const NAMES: &[&str] = &["a", "b", "t/a", "t/b", "t/u/c", "w/1", "x.y_z-0", LONG];
-const DIRS: &[&str] = &["\"\"", "\"\"", "t/", "t/u/", "w/", "traces/", "zz/"];
+pub const NAMES: &[&str] = &["a", "b", "t/a", "t/b", "t/u/c", "w/1", "x.y_z-0", LONG];
+pub const DIRS: &[&str] = &["\"\"", "\"\"", "t/", "t/u/", "w/", "traces/", "zz/"];
 /// Empty, no or empty segments, 41 bytes, other characters, no text.
-const BAD_NAMES: &[&str] = &["\"\"", "/", "/a", "a/", "a//b", "a+b", "traces/abcdefghijklmnopqrstuvwxyz01234567", "\\6100", "\\612062", "\\ff", "\\c3a4", "a:"];
-const BAD_DIRS: &[&str] = &["/", "t", "t//", "/t/", "traces/abcdefghijklmnopqrstuvwxyz0123456/", "t+/", "\\74ff2f", "\\2f00"];
-const SIZES: &[u64] = &[0, 1, 5, 40, 41, 485, 486, 487, 1500, 5000];
+pub const BAD_NAMES: &[&str] = &["\"\"", "/", "/a", "a/", "a//b", "a+b", "traces/abcdefghijklmnopqrstuvwxyz01234567", "\\6100", "\\612062", "\\ff", "\\c3a4", "a:"];
+pub const BAD_DIRS: &[&str] = &["/", "t", "t//", "/t/", "traces/abcdefghijklmnopqrstuvwxyz0123456/", "t+/", "\\74ff2f", "\\2f00"];
+pub const SIZES: &[u64] = &[0, 1, 5, 40, 41, 485, 486, 487, 1500, 5000];
 
 pub struct Maker {
-    r: Rng,
-    s: Session,
+    pub r: Rng,
+    pub s: Session,
     lines: Vec<String>,
-    made: Vec<&'static str>,
+    pub made: Vec<&'static str>,
 }
 
 /// The lines of a round; the same for the same seed.
 pub fn round(kind: Kind, seed: u64) -> Vec<String> {
     let mut m = Maker { r: Rng(seed), s: Session::new(true), lines: vec![], made: vec![] };
-    m.volume(kind);
-    m.history();
-    m.say("save base".into());
-    for _ in 0..6 {
-        m.episode(kind);
-        m.say("load base".into());
+    match kind {
+        Kind::History => histories::history(&mut m),
+        Kind::Stopped => histories::stopped(&mut m),
+        Kind::Forged => histories::forged(&mut m),
+        _ => m.reading(kind),
     }
     m.lines
 }
@@ -123,23 +129,38 @@ pub fn fields() -> Vec<String> {
 }
 
 impl Maker {
+    /// A volume with a history, and episodes of calls that read.
+    fn reading(&mut self, kind: Kind) {
+        self.volume(kind);
+        self.history();
+        self.say("save base".into());
+        for _ in 0..6 {
+            self.episode(kind);
+            self.say("load base".into());
+        }
+    }
     fn after(&mut self, lines: &[&str]) {
         lines.iter().for_each(|l| self.say((*l).into()));
         self.say("load base".into());
     }
-    fn say(&mut self, line: String) {
+    /// The call at each of its writes; the history goes on after the whole call.
+    pub fn say_stops(&mut self, call: String, after: &str) {
+        self.s.line(&call);
+        self.lines.push(format!("stops {call} ; {after}"));
+    }
+    pub fn say(&mut self, line: String) {
         self.s.line(&line);
         self.lines.push(line);
     }
-    fn sectors(&self) -> u64 {
+    pub fn sectors(&self) -> u64 {
         self.s.st.m.sectors()
     }
     /// Chunks and sectors of each, as the store in hand has them.
-    fn sizes(&self) -> (u64, u64) {
-        self.s.st.store.as_ref().map_or((1, 1), |s| (s.chunks().max(1).into(), s.chunk_sectors().max(1).into()))
+    pub fn sizes(&self) -> (u64, u64) {
+        self.s.st.store.as_ref().map_or((1, 1), |s| (s.chunks().clamp(1, 2048).into(), s.chunk_sectors().clamp(1, 512).into()))
     }
     /// Mostly one that was created.
-    fn name(&mut self) -> &'static str {
+    pub fn name(&mut self) -> &'static str {
         if self.r.one_in(25) {
             self.r.pick(BAD_NAMES)
         } else if self.made.is_empty() || self.r.one_in(5) {
@@ -148,7 +169,7 @@ impl Maker {
             self.r.pick(&self.made)
         }
     }
-    fn dir(&mut self) -> &'static str {
+    pub fn dir(&mut self) -> &'static str {
         if self.r.one_in(12) { self.r.pick(BAD_DIRS) } else { self.r.pick(DIRS) }
     }
 
@@ -233,7 +254,7 @@ impl Maker {
         match kind {
             Kind::Whole => {}
             Kind::Damaged => self.damage(),
-            Kind::Random => self.noise(),
+            _ => self.noise(),
         }
         if self.r.one_in(4) || kind != Kind::Whole && !self.r.one_in(4) {
             self.say("mount".into());
@@ -315,7 +336,7 @@ impl Maker {
     }
 
     /// A sector of a copy, its body or the data, or none.
-    fn sector(&mut self) -> u64 {
+    pub fn sector(&mut self) -> u64 {
         let s = self.sectors();
         let held = self.s.st.store.as_ref().map_or(0, |s| s.x_copy() & 1);
         let base = 32 * (held ^ u64::from(self.r.one_in(4)));
@@ -329,7 +350,7 @@ impl Maker {
     }
 
     /// The handles in hand beside a volume that they are not of.
-    fn other_volume(&mut self) {
+    pub fn other_volume(&mut self) {
         self.say("save held".into());
         let (sectors, fill) = (self.r.pick(&[0, 1, 32, 33, 63, 64, 65, 100]), self.r.pick(&["zero", "ff"]));
         self.say(format!("volume {sectors} {fill}"));
@@ -338,10 +359,10 @@ impl Maker {
             self.say("create a -".into());
         }
         self.say("mount".into());
-        self.say("load held store reader".into());
+        self.say("load held store appender reader".into());
     }
 
-    fn forge_store(&mut self) {
+    pub fn forge_store(&mut self) {
         let (chunks, size) = self.sizes();
         let f = self.r.pick(&["copy", "id", "gen", "next", "cursor", "chunks", "size", "wid", "wtoken", "nowriter", "crc0", "crc7", "crc8", "crc23"]);
         let v = match f {
@@ -380,7 +401,7 @@ impl Maker {
     }
 
     /// One field of a header, an entry, a link or a record, with or without the checksums that then hold.
-    fn damage(&mut self) {
+    pub fn damage(&mut self) {
         if self.sectors() < 64 {
             return;
         }
@@ -394,7 +415,7 @@ impl Maker {
         }
     }
 
-    fn poke(&mut self, sector: u64, at: u64, bytes: &[u8]) {
+    pub fn poke(&mut self, sector: u64, at: u64, bytes: &[u8]) {
         self.say(format!("poke {sector} {at} {}", driver::hex(bytes)));
     }
 
@@ -495,7 +516,7 @@ impl Maker {
     }
 
     /// Whole sectors of random bytes (those of the data) in a header, a directory or table sector.
-    fn noise(&mut self) {
+    pub fn noise(&mut self) {
         let data = self.sectors().max(64) - 64;
         if data == 0 {
             return;

@@ -2,12 +2,18 @@
 //!   compare SEED SECONDS              as long as that; stops at the first difference
 //!   compare write KIND SEED CALLS     prints rounds with at least so many calls
 //!   compare write fields              prints a script that changes each field alone
-//! Round k of a seed is always the same one. KIND: whole, damaged or random.
+//!   compare write answers FILE        prints the script of a file with its answers
+//! Round k of a seed is always the same one. KIND: whole, damaged, random (calls that read), history, stopped, forged (calls that write).
 use port::make::{Kind, fields, round};
-use port::{Tally, play, smallest};
+use port::{Tally, answered, play, smallest, spelled};
 use std::time::{Duration, Instant};
 
-const KINDS: [(&str, Kind); 3] = [("whole", Kind::Whole), ("damaged", Kind::Damaged), ("random", Kind::Random)];
+const KINDS: [(&str, Kind); 6] = [
+    ("whole", Kind::Whole), ("damaged", Kind::Damaged), ("random", Kind::Random),
+    ("history", Kind::History), ("stopped", Kind::Stopped), ("forged", Kind::Forged),
+];
+/// Which of them a round is.
+const TURNS: [usize; 10] = [3, 5, 0, 3, 5, 1, 4, 3, 5, 2];
 
 fn seed_of(seed: u64, k: u64) -> u64 {
     seed.wrapping_mul(1_000_003).wrapping_add(k)
@@ -26,11 +32,11 @@ fn write(kind: Kind, seed: u64, calls: u64) {
 fn compare(seed: u64, until: Instant) -> Result<(), String> {
     let (mut tally, mut k, mut shown) = (Tally::default(), 0, Instant::now());
     while Instant::now() < until {
-        let (name, kind) = KINDS[(k % 3) as usize];
+        let (name, kind) = KINDS[TURNS[(k % 10) as usize]];
         let lines = round(kind, seed_of(seed, k));
         if let Err(stop) = play(lines.iter().map(String::as_str), &mut tally) {
             println!("DIFFERENCE: seed {seed}, round {k} ({name}), line {}: {}\n{}", stop.line, lines[stop.line - 1], stop.why);
-            let small = smallest(lines);
+            let small = smallest(spelled(lines));
             let stop = play(small.iter().map(String::as_str), &mut Tally::default()).err().unwrap();
             return Err(format!("smallest script:\nrule3 on\n{}\n# {}", small.join("\n"), stop.why.replace('\n', "\n# ")));
         }
@@ -45,17 +51,24 @@ fn compare(seed: u64, until: Instant) -> Result<(), String> {
 }
 
 fn main() {
+    port::quiet();
     let a: Vec<String> = std::env::args().skip(1).collect();
     let n = |i: usize| a.get(i).and_then(|t| t.parse::<u64>().ok()).expect("a number");
     if a == ["write", "fields"] {
         return println!("{}", fields().join("\n"));
     }
+    if a.len() == 3 && a[..2] == ["write", "answers"] {
+        let text = std::fs::read_to_string(&a[2]).expect("a file");
+        match answered(text.lines()) {
+            Ok(lines) => return println!("{}", lines.join("\n")),
+            Err(stop) => panic!("line {}: {}", stop.line, stop.why),
+        }
+    }
     if a.first().is_some_and(|w| w == "write") {
-        let kind = KINDS.iter().find(|k| Some(k.0) == a.get(1).map(String::as_str)).expect("whole, damaged or random").1;
+        let kind = KINDS.iter().find(|k| Some(k.0) == a.get(1).map(String::as_str)).expect("a kind").1;
         return write(kind, n(2), n(3));
     }
     let (seed, until) = (n(0), Instant::now() + Duration::from_secs(n(1)));
-    port::quiet();
     if let Err(why) = compare(seed, until) {
         println!("{why}");
         std::process::exit(1);

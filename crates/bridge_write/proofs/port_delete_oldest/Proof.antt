@@ -1,0 +1,50 @@
+use borrow.Author.Needs.{needs}
+use Rattle.bridge_write.specs.Writing.{oldestAt}
+use Rattle.bridge_write.proofs.port_delete_oldest.Statement.{statement}
+use Rattle.bridge_write.proofs.port_delete_oldest.Tie as tie
+
+medium-in-requires : tie.Need-medium-in-requires
+medium-in-requires c κs = search needs
+
+store-in-requires : tie.Need-store-in-requires
+store-in-requires c κs = search needs
+
+delete-oldest-requires : tie.Need-delete-oldest-requires
+delete-oldest-requires c κs = search needs
+
+store-words-requires : tie.Need-store-words-requires
+store-words-requires c κs = search needs
+
+medium-words-requires : tie.Need-medium-words-requires
+medium-words-requires c κs = search needs
+
+gone-words-requires : tie.Need-gone-words-requires
+gone-words-requires c κs = search needs
+
+gone-name-requires : tie.Need-gone-name-requires
+gone-name-requires c κs = search needs
+
+gone-code-requires : tie.Need-gone-code-requires
+gone-code-requires c κs = search needs
+
+same-length : tie.Need-same-length
+same-length c = search needs
+
+returns : tie.Need-returns
+unfolding oldestAt
+returns c = rw (← c .before .before .before .before .before .before .before .before .before .before .before .before .medium-in .ensures, ← c .before .before .before .before .before .before .before .before .before .before .before .store-in .ensures, ← c .before .before .before .before .before .before .before .before .before .before .delete-oldest .ensures .0, ← c .before .before .before .before .before .before .before .before .before .before .delete-oldest .ensures .1, c .gone-code .ensures, c .before .gone-name .ensures, c .before .before .gone-words .ensures, c .before .before .before .before .store-words .ensures, c .before .before .before .medium-words .ensures)
+
+pub port-delete-oldest-spec : {M : Type 1} → statement M
+port-delete-oldest-spec =
+    tie.close
+    (tie.spec
+    medium-in-requires
+    store-in-requires
+    delete-oldest-requires
+    store-words-requires
+    medium-words-requires
+    gone-words-requires
+    gone-name-requires
+    gone-code-requires
+    same-length
+    returns)

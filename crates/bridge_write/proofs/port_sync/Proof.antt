@@ -1,0 +1,50 @@
+use borrow.Author.Needs.{needs}
+use Rattle.bridge_write.specs.Writing.{syncAt}
+use Rattle.bridge_write.proofs.port_sync.Statement.{statement}
+use Rattle.bridge_write.proofs.port_sync.Tie as tie
+
+appender-in-requires : tie.Need-appender-in-requires
+appender-in-requires c κs = search needs
+
+medium-in-requires : tie.Need-medium-in-requires
+medium-in-requires c κs = search needs
+
+store-in-requires : tie.Need-store-in-requires
+store-in-requires c κs = search needs
+
+sync-requires : tie.Need-sync-requires
+sync-requires c κs = search needs
+
+store-words-requires : tie.Need-store-words-requires
+store-words-requires c κs = search needs
+
+medium-words-requires : tie.Need-medium-words-requires
+medium-words-requires c κs = search needs
+
+appender-words-requires : tie.Need-appender-words-requires
+appender-words-requires c κs = search needs
+
+code-requires : tie.Need-code-requires
+code-requires c κs = search needs
+
+same-length : tie.Need-same-length
+same-length c = search needs
+
+returns : tie.Need-returns
+unfolding syncAt
+returns c = rw (← c .before .before .before .before .before .before .before .before .before .before .before .before .before .before .before .medium-in .ensures, ← c .before .before .before .before .before .before .before .before .before .before .before .before .before .before .store-in .ensures, ← c .before .before .before .before .before .before .before .before .before .before .before .before .before .before .before .before .before .appender-in .ensures, ← c .before .before .before .before .before .before .before .before .before .before .before .before .before .sync .ensures .0, ← c .before .before .before .before .before .before .before .before .before .before .before .before .before .sync .ensures .1, ← c .before .before .before .before .before .before .before .before .before .before .before .before .before .sync .ensures .2, ← c .before .before .before .before .before .before .before .before .before .before .before .before .before .sync .ensures .3, ← c .before .before .before .before .before .before .before .before .before .before .before .before .before .sync .ensures .4, c .code .ensures, c .before .appender-words .ensures, c .before .before .before .before .before .before .before .store-words .ensures, c .before .before .before .before .before .before .medium-words .ensures)
+
+pub port-sync-spec : {M : Type 1} → statement M
+port-sync-spec =
+    tie.close
+    (tie.spec
+    appender-in-requires
+    medium-in-requires
+    store-in-requires
+    sync-requires
+    store-words-requires
+    medium-words-requires
+    appender-words-requires
+    code-requires
+    same-length
+    returns)

@@ -30,7 +30,12 @@ pub struct Medium {
     pub reads: u64,
     /// Reads and writes in order, when kept.
     pub ops: Option<Vec<String>>,
+    /// A commit of the last generation ends in `Spent` before its first write.
+    pub spent: bool,
 }
+
+/// 01's refusal 12 in a commit, unwound out of the Rust, which has no such number.
+pub struct Spent;
 
 impl Medium {
     pub fn new(bytes: usize) -> Self {
@@ -44,7 +49,12 @@ impl Medium {
             refused_read: false,
             reads: 0,
             ops: None,
+            spent: false,
         }
+    }
+    /// The generation that a header has, magic or not.
+    pub fn generation(&self, header: u64) -> u64 {
+        u64::from_le_bytes(self.sector(header)[32..40].try_into().unwrap())
     }
     pub fn sectors(&self) -> u64 {
         (self.volume.len() / SECTOR_SIZE) as u64
@@ -98,6 +108,10 @@ impl ReadWrite for Medium {
     }
     fn owned_write(&mut self, sector: u64, data: &[u8; SECTOR_SIZE]) -> Result<(), MediaError> {
         assert!(sector < self.sectors(), "write of sector {sector} outside the volume");
+        // Only a commit writes a header of zeros, its first write; the other header is then the current one.
+        if self.spent && (sector == 0 || sector == 32) && *data == [0; SECTOR_SIZE] && self.generation(32 - sector) == u64::MAX {
+            std::panic::resume_unwind(Box::new(Spent));
+        }
         if self.left == 0 {
             self.refused_write = true;
             return Err(MediaError::Refused);

@@ -349,6 +349,23 @@ fn call(st: &mut State, lent: &mut Lent, words: &[&str], rule3: bool) -> String 
     }
 }
 
+/// Whether format or create is 01's 12 where the Rust overflows: the last generation, or the last id.
+fn is_spent(st: &State, call: &str) -> bool {
+    match call {
+        "format" => st.m.sectors() > 64 && [0, 32].iter().any(|h| st.m.generation(*h) == u64::MAX),
+        "create" => st.store.as_ref().is_some_and(|s| s.x_next_id() == u32::MAX),
+        _ => false,
+    }
+}
+
+/// 01's 12, the port's own. As any error in flushing it closes the appender.
+fn spend(st: &mut State, call: &str) -> String {
+    if let (Some(a), "append" | "appendn" | "sync") = (&mut st.app, call) {
+        a.x_set("closed", 0);
+    }
+    "no 12".into()
+}
+
 /// The words of a line.
 pub fn words(line: &str) -> Vec<&str> {
     line.split('#').next().unwrap().split_whitespace().collect()
@@ -506,11 +523,16 @@ impl Session {
             "say" => line.to_string(),
             _ => {
                 st.m.begin();
+                st.m.spent = *rule3;
                 *lent = lent.anew();
                 let r = catch_unwind(AssertUnwindSafe(|| call(st, lent, &w, *rule3)));
                 let r = r.unwrap_or_else(|e| {
                     let t = e.downcast_ref::<String>().cloned().or(e.downcast_ref::<&str>().map(|s| s.to_string()));
-                    format!("panic {}", t.unwrap_or_default())
+                    let t = t.unwrap_or_default();
+                    if *rule3 && (e.is::<Spent>() || t == "attempt to add with overflow" && is_spent(st, w[0])) {
+                        return spend(st, w[0]);
+                    }
+                    format!("panic {t}")
                 });
                 if *trace {
                     format!(

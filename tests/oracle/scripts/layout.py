@@ -1,7 +1,11 @@
 """The volume of 01's Hosts example, built from 01's sections Header, Directory
 entry, Link, Record and Commit alone, without the Rust: Python's own CRC and a
-SplitMix64 step from its published form. Prints the CRC of the whole volume
-after format, after each create and after sync, one a line."""
+SplitMix64 step from its published form. Prints a sum of the whole volume after
+format, after each create and after sync, one a line; then with the generation of
+copy A and a byte of the record changed, each sealed again.
+
+The sum is FNV-1a of 64 bits. It is no CRC-32: that of a volume does not change with
+what stands in a sector that ends in its own CRC-32, as the last lines here assert."""
 import zlib
 
 MASK = (1 << 64) - 1
@@ -51,8 +55,16 @@ def copy(base, generation, next_id, cursor, files):
     put(base, sector(fields, seal=True))
 
 
+def fnv1a(data):
+    h = 0xCBF29CE484222325
+    for byte in data:
+        h = (h ^ byte) * 0x100000001B3 & MASK
+    return h
+
+
 def show():
-    print("crc %08x" % zlib.crc32(bytes(volume)))
+    print("sum %016x" % fnv1a(volume))
+    return zlib.crc32(volume)
 
 
 copy(0, 1, 1, 0, [])  # format 4 1: no valid copy, so A
@@ -64,4 +76,9 @@ show()
 # append hello and sync: file 2, its chunk 1, index 0, so sector 64 + 1 * 4 + 0
 record = [(0, b"CSRD"), (4, number(STORE_ID, 8)), (12, number(2, 4)), (16, number(0, 4)), (20, number(5, 2)), (22, b"hello")]
 put(68, sector(record, seal=True))
-show()
+crc = show()
+# What a CRC-32 of the volume does not see.
+copy(0, 4, 3, 2, [b"a/1", b"b"])
+assert show() == crc
+put(68, sector(record + [(22, b"j")], seal=True))
+assert show() == crc

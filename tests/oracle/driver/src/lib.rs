@@ -197,6 +197,12 @@ pub fn bad_reader(r: &Reader, store: &Store) -> bool {
         || r.x_end().is_some_and(|e| e > size)
 }
 
+/// FNV-1a of 64 bits, by which volumes are compared. Not a CRC-32: that of a volume does not
+/// change with what stands in a sector that ends in its own CRC-32, as headers and records do.
+pub fn sum(bytes: &[u8]) -> u64 {
+    bytes.iter().fold(0xcbf29ce484222325, |h, b| (h ^ u64::from(*b)).wrapping_mul(0x100000001b3))
+}
+
 pub fn hex(bytes: &[u8]) -> String {
     bytes.iter().map(|b| format!("{b:02x}")).collect()
 }

@@ -490,7 +490,8 @@ impl Session {
                 };
                 if ok { quiet("set") } else { "-- field".into() }
             }
-            "crc" => format!("crc {:08x}", crc32(&st.m.volume)),
+            "sum" => format!("sum {:016x}", sum(&st.m.volume)),
+            "crc32" => format!("{:08x}", crc32(&unhex(w[1]).unwrap())), // crc32 HEX
             "dump" => { // dump SECTOR OFFSET LENGTH
                 let at = n(1).unwrap() as usize * 512 + n(2).unwrap_or(0) as usize;
                 hex(&st.m.volume[at..at + n(3).unwrap_or(512) as usize])
@@ -536,8 +537,8 @@ impl Session {
                 });
                 if *trace {
                     format!(
-                        "{r}\n  left={} token={} crc={:08x} writes={}\n  {}\n  {}\n  {}",
-                        st.m.left, Store::x_token(), crc32(&st.m.volume), st.m.log.len(),
+                        "{r}\n  left={} token={} sum={:016x} writes={}\n  {}\n  {}\n  {}",
+                        st.m.left, Store::x_token(), sum(&st.m.volume), st.m.log.len(),
                         st.store.as_ref().map_or("store -".into(), show_store),
                         st.app.as_ref().map_or("appender -".into(), show_app),
                         st.reader.as_ref().map_or("reader -".into(), show_reader)

@@ -10,9 +10,18 @@ ROW = re.compile(r"`([^`]+)`")
 def named(path):
     for row in open(path, encoding="utf-8"):
         cells = row.split("|")
-        if row.startswith("|") and len(cells) > 4:
-            for cell in cells[2:5]:
+        if row.startswith("|") and len(cells) > 3:
+            for cell in cells[2:-1]:
                 yield from ROW.findall(cell)
+
+
+def placed(path):
+    """`le/Field` followed by names: those must stand in crates/le/specs/Field.antt."""
+    for row in open(path, encoding="utf-8"):
+        if row.startswith("|"):
+            for crate, file, group in re.findall(r"\b([a-z_]+)/([A-Z]\w*) ((?:`[^`]+`(?:, )?)+)", row):
+                for name in ROW.findall(group):
+                    yield crate, file, name.split()[0]
 
 
 def sources(folder):
@@ -30,6 +39,10 @@ def sources(folder):
 words, edits = sources("crates")
 names = sorted({n.split("::")[-1].split()[0] for n in named("docs/PROOFS.md")})
 missing = [n for n in names if n not in words and n not in edits]
+for crate, file, name in placed("docs/PROOFS.md"):
+    path = f"crates/{crate}/specs/{file}.antt"
+    if not os.path.exists(path) or name not in re.findall(r"[^\s(){}\[\];,.:&|=<>!]+", open(path, encoding="utf-8").read()):
+        missing.append(f"{name} in {path}")
 print(f"map: {len(names)} names of docs/PROOFS.md looked up, {len(missing)} not found")
 for n in missing:
     print("map: not in the sources:", n)

@@ -170,7 +170,7 @@ its-own (Open token id) a w e =
 
 module _ {vol : List ℕ} {st : Store} {a : Appender} {G : ℕ → List Segment} {b : Book} (w : Whole vol st G b) where
   -- an appender that stands is never refused
-  stands-may : {rest : List ℕ} → Stands vol st a G b rest → a .fill < 486 → (x : Writer) → st .writer ≡ x → writes x (a .token) ≡ true → isClosed (a .tail) ≡ false → mayWrite vol st a ≡ Done
+  pub stands-may : {rest : List ℕ} → Stands vol st a G b rest → a .fill < 486 → (x : Writer) → st .writer ≡ x → writes x (a .token) ≡ true → isClosed (a .tail) ≡ false → mayWrite vol st a ≡ Done
   unfolding mayWrite live
   stands-may s h x q y c =
       let p : (storeOk st (sectorsOf vol) && appenderOk a st) ≡ true = rw (w .inv .ok) (stands-passes w s h) in

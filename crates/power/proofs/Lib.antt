@@ -30,3 +30,6 @@ pub mod History
 pub mod Spends
 pub mod FirstCommit
 pub mod FirstCreate
+pub mod Starting
+pub mod Running
+pub mod Sanity

@@ -9,7 +9,7 @@ use Rattle.power.proofs.Stays.{owns-none}
 use Rattle.power.proofs.Shown.{unwritten, mount-gives, whole-unwritten}
 use Rattle.power.proofs.Queries.{pick-same}
 
-mount-book : (m : Medium) (w : World) (b : Book) → written (mount m) (fedBy w (mount m)) b ≡ b
+pub mount-book : (m : Medium) (w : World) (b : Book) → written (mount m) (fedBy w (mount m)) b ≡ b
 unfolding written fedBy ran enteredAll beforeSteps afterSteps
 mount-book m w b = pick-same _ b
 

@@ -1,0 +1,124 @@
+-- What append, sync and delete give in a history, where it can be told: an appender at the start of its file keeps fewer bytes than a record takes, and a
+-- sync writes them by one write; and a delete with one write left makes no step. Assumes nothing.
+use Prim.Native.Nat.{ℕ, _+_, _-_, _≤_, _<_}
+use mathlib.Core.Path.{_≡_, refl, subst, _∙_}
+use mathlib.Core.Bool.{true, false}
+use mathlib.Core.List.{List, [], _∷_}
+use native.Mathlib.Omega.{arith}
+use borrow.Author.Tests.{eq-eqb, ne-eqb, lt-ltb}
+use lib.Dec.{lit≤}
+use lib.ListN.{length}
+use Rattle.le.proofs.Choices.{pick-true, pick-false}
+use Rattle.medium.specs.declared.Error.{Error}
+use Rattle.medium.specs.declared.Medium.{Medium}
+use Rattle.medium.specs.declared.Outcome.the-variants.{Done, No}
+use Rattle.medium.proofs.Laws.{onDone-keeps}
+use Rattle.handles.specs.declared.Store.{Store}
+use Rattle.handles.specs.declared.Writer.{Writer}
+use Rattle.handles.specs.declared.Writer.the-variants.{Open}
+use Rattle.directory.specs.declared.Found.{Found}
+use Rattle.directory.specs.declared.Found.the-variants as found
+use Rattle.directory.specs.Scan.{findOf}
+use Rattle.plan.specs.declared.Edit.the-variants.{Remove}
+use Rattle.plan.specs.Copy.{Kind, deleted, recorded, Out, stepsOf}
+use Rattle.commit.specs.Commit.{commitOf}
+use Rattle.remove.specs.Remove.{removeOf}
+use Rattle.append.specs.declared.Tail.the-variants.{At}
+use Rattle.append.specs.Appender.{writes, isClosed}
+use Rattle.append.specs.Calls.{callOf, mayWrite, offered, appendCall, syncCall}
+use Rattle.append.specs.Flush.{withRun, after, onTail, recordOut, writeOut, flushOf, syncOf}
+use Rattle.append.proofs.Runs.{run-short}
+use Rattle.format.proofs.Ways.{when-done}
+use Rattle.remove.proofs.Ways.{onDone-no}
+use Rattle.safe.specs.Inv.{Inv}
+use Rattle.views.proofs.Commits.{inv-sane}
+use Rattle.store.specs.Writing.{WriteCall, onNamed, deleteCall}
+use Rattle.power.specs.Calls.{append, sync, delete}
+use Rattle.power.specs.Book.{Book}
+use Rattle.power.specs.History.{World, withLeft, ran}
+use Rattle.power.proofs.Whole.{Stands, Writes, Keeps}
+use Rattle.power.proofs.Spends.{write-some}
+use Rattle.power.proofs.FirstCommit.{commit-few}
+use Rattle.power.proofs.Appends.{stands-may}
+
+-- ---- an appender at the start of its file, with n bytes unwritten
+
+pub record Ready (w : World) (n : ℕ) : Type 0 where
+  pub writer : w .store .writer ≡ Open (w .appender .token) (w .appender .id)
+  pub tail : w .appender .tail ≡ At 0
+  pub fill : w .appender .fill ≡ n
+
+module _ {w : World} {b : Book} {n : ℕ} (k : Keeps w b) (y : Ready w n) where
+  not-closed : isClosed (w .appender .tail) ≡ false
+  unfolding isClosed
+  not-closed = rw (y .tail)
+
+  stands : Stands (w .vol) (w .store) (w .appender) (k .layout) b [] × (w .appender .fill < 486)
+  stands =
+      subst (λ (x : Writer). Writes x (w .appender) (Stands (w .vol) (w .store) (w .appender) (k .layout) b [] × (w .appender .fill < 486))) (y .writer) (k .owns .writes) .2 not-closed
+
+  own-token : writes (Open (w .appender .token) (w .appender .id)) (w .appender .token) ≡ true
+  unfolding writes
+  own-token = eq-eqb (w .appender .token) (w .appender .token) refl
+
+  may : mayWrite (w .vol) (w .store) (w .appender) ≡ Done
+  may = stands-may (k .whole) (stands .0) (stands .1) (Open (w .appender .token) (w .appender .id)) (y .writer) own-token not-closed
+
+  -- fewer bytes than a record takes are kept
+  pub append-run : (left : ℕ) (bytes : List ℕ) → n + length bytes < 486
+      → ran w (append left bytes) ≡ record {
+        world = record { vol = w .vol; store = w .store; appender = withRun bytes (w .appender); medium = withLeft left (w .medium) };
+        accepted = true;
+        steps = [];
+      }
+  unfolding ran appendCall offered
+  append-run left bytes h =
+      let f : w .appender .fill + length bytes < 486 = rw (y .fill) h in
+      rw (when-done _ (callOf _) _ may, run-short bytes (w .vol) (withLeft left (w .medium)) (w .store) (w .appender) (stands .0 .buffer) f)
+
+  -- and written by one write
+  module _ (left : ℕ) (some : 1 ≤ n) (one : 1 ≤ left) where
+    abbrev given : Medium
+    given = withLeft left (w .medium)
+
+    record-steps : (recordOut 0 (w .vol) given (w .store) (w .appender) .ans .outcome ≡ Done)
+        × (recordOut 0 (w .vol) given (w .store) (w .appender) .steps ≡ (record { kind = recorded; skipped = [] }) ∷ [])
+    unfolding recordOut
+    record-steps = rw (when-done _ _ _ (write-some (w .vol) given _ _ one .0)) (refl, refl)
+
+    write-is : writeOut (w .vol) given (w .store) (w .appender) ≡ recordOut 0 (w .vol) given (w .store) (w .appender)
+    unfolding writeOut onTail
+    write-is = rw (y .tail) (pick-true _ _ (lt-ltb 0 (w .store .head .chunk) (omega (arith, inv-sane (k .whole .inv) .size-least))))
+
+    sync-is : syncOf (w .vol) given (w .store) (w .appender) ≡ recordOut 0 (w .vol) given (w .store) (w .appender)
+    unfolding syncOf flushOf
+    sync-is =
+        pick-false _ _ (ne-eqb (w .appender .fill) 0 (λ e. omega (arith, y .fill)))
+        ∙ rw write-is (when-done _ _ _ (record-steps .0))
+
+    pub sync-run : (ran w (sync left) .accepted ≡ true) × (ran w (sync left) .steps ≡ (record { kind = recorded; skipped = [] }) ∷ [])
+    unfolding ran syncCall offered
+    sync-run = rw (when-done _ (callOf _) _ may, sync-is, record-steps .0) (refl, record-steps .1)
+
+-- ---- a delete that is stopped after its first write
+
+no-steps : (kind : Kind) (o : Out) {e : Error} → o .ans .outcome ≡ No e → stepsOf kind o ≡ []
+unfolding stepsOf
+no-steps kind o q = onDone-no _ _ q
+
+removed-none : (vol : List ℕ) (m : Medium) (st : Store) (slot id : ℕ) → (commitOf (Remove slot) [] vol m st .ans .outcome ≡ Done → ⊥) → stepsOf deleted (removeOf vol m st slot id) ≡ []
+unfolding removeOf
+removed-none vol m st slot id none =
+    let o : Out = commitOf (Remove slot) [] vol m st in
+    onDone-keeps (λ (x : Out). stepsOf deleted x ≡ []) (o .ans .outcome) _ _ (λ d. absurd (none d)) (λ e q. no-steps deleted o q)
+
+found-none : (vol : List ℕ) (m : Medium) (st : Store) → Inv vol st → m .left ≤ 1 → (f : Found) → onNamed vol m st f .steps ≡ []
+unfolding onNamed
+found-none vol m st inv few (found.Refused e) = refl
+found-none vol m st inv few (found.At slot id) = removed-none vol m st slot id (commit-few (Remove slot) [] vol m st inv (lit≤ tt) few)
+
+pub delete-stopped : {w : World} {b : Book} → Keeps w b → (left : ℕ) (name : List ℕ) → left ≤ 1 → ran w (delete left name) .steps ≡ []
+unfolding ran deleteCall
+delete-stopped {w} k left name few =
+    onDone-keeps (λ (c : WriteCall). c .steps ≡ []) _ _ _
+    (λ _. found-none (w .vol) (withLeft left (w .medium)) (w .store) (k .whole .inv) few (findOf (w .vol) (withLeft left (w .medium)) (w .store) name)) (λ e _. refl)

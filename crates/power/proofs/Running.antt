@@ -100,7 +100,7 @@ module _ {w : World} {b : Book} {n : ℕ} (k : Keeps w b) (y : Ready w n) where
     unfolding ran syncCall offered
     sync-run = rw (when-done _ (callOf _) _ may, sync-is, record-steps .0) (refl, record-steps .1)
 
--- ---- a delete that is stopped after its first write
+-- ---- a delete with one write left, or none
 
 no-steps : (kind : Kind) (o : Out) {e : Error} → o .ans .outcome ≡ No e → stepsOf kind o ≡ []
 unfolding stepsOf

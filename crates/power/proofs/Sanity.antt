@@ -1,6 +1,6 @@
--- The claim is not empty. On a zeroed volume a history meets its premises in which a file is created, a batch is appended and synced, a delete is
--- stopped after its first write, and a mount follows; and what is claimed of it is that the volume holds this file with this batch. And the edge of
--- 01: with one write too few the first create after a format gives 4, and a mount finds no file. Assumes nothing.
+-- The claim is not empty. On a zeroed volume a history meets its premises in which a file is created, a batch is appended and synced, the file's delete
+-- has too few writes left to make its step, and a mount follows; and what is claimed of it is that the volume holds this file with this batch. And the
+-- edge of 01: with one write too few the first create after a format gives 4, and a mount finds no file. Assumes nothing.
 use Prim.Native.Nat.{ℕ, _+_, _-_, _/_, _^_, _≤_, _<_}
 use mathlib.Core.Path.{_≡_, refl, sym, ap, subst, _∙_}
 use mathlib.Core.Bool.{Bool, true, false}
@@ -181,7 +181,7 @@ module _ (n size seed : ℕ) (m : Medium) (ap₀ : Appender) (enough : 64 ≤ n 
       ready₂ : Ready w₂ 0
       ready₂ = subst (λ (x : Ran). Ready (x .world) 0) (sym create-run) (record { writer = refl; tail = refl; fill = refl })
 
-      -- ---- a batch shorter than a record takes, then a sync, a delete that is stopped, and a mount
+      -- ---- a batch shorter than a record takes, then a sync, a delete with one write left, and a mount
 
       module _ (bytes : List ℕ) (least-bytes : 1 ≤ length bytes) (most-bytes : length bytes < 486) where
         appended : ran w₂ (append 0 bytes) ≡ record {

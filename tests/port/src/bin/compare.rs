@@ -1,5 +1,6 @@
 //! Makes random scripts and compares the port with the Rust on them:
 //!   compare SEED SECONDS              as long as that; stops at the first difference
+//!   compare every DEPTH               every history of so many calls over CALLS, the last but one stopped at each write
 //!   compare write KIND SEED CALLS     prints rounds with at least so many calls
 //!   compare write fields              prints a script that changes each field alone
 //!   compare write answers FILE        prints the script of a file with its answers
@@ -27,6 +28,29 @@ fn write(kind: Kind, seed: u64, calls: u64) {
         println!("# round {k}\n{}", lines.join("\n"));
         k += 1;
     }
+}
+
+/// On three chunks of one sector: full stores, rollovers and chunks taken again come early.
+const CALLS: [&str; 12] = [
+    "create a -", "create b \"\"", "create t/c t/", "open_append a \"\"", "open_append b -", "appendn 486 1",
+    "appendn 700 2", "sync", "delete a", "delete_oldest \"\"", "format 1 1", "mount",
+];
+
+fn every(depth: u32) -> Result<(), String> {
+    let mut tally = Tally::default();
+    for k in 0..CALLS.len().pow(depth) {
+        let calls: Vec<&str> = (0..depth).map(|d| CALLS[k / CALLS.len().pow(d) % CALLS.len()]).collect();
+        let [before @ .., stopped, last] = &calls[..] else { return Err("a depth of 2 at least".into()) };
+        let stops = format!("stops {stopped} ; {last} ; mount ; list \"\" ; reader a ; next");
+        let mut lines = vec!["volume 67", "format 1 1"];
+        lines.extend(before);
+        lines.extend([&stops, *last, "list \"\"", "reader a", "next"]);
+        if let Err(stop) = play(lines.iter().copied(), &mut tally) {
+            return Err(format!("DIFFERENCE: line {}: {}\n{}", stop.line, stop.why, lines.join("\n")));
+        }
+    }
+    println!("every history of {depth} calls over {}\n{}", CALLS.len(), tally.show());
+    Ok(())
 }
 
 fn compare(seed: u64, until: Instant) -> Result<(), String> {
@@ -68,8 +92,12 @@ fn main() {
         let kind = KINDS.iter().find(|k| Some(k.0) == a.get(1).map(String::as_str)).expect("a kind").1;
         return write(kind, n(2), n(3));
     }
-    let (seed, until) = (n(0), Instant::now() + Duration::from_secs(n(1)));
-    if let Err(why) = compare(seed, until) {
+    let done = if a.first().is_some_and(|w| w == "every") {
+        every(n(1) as u32)
+    } else {
+        compare(n(0), Instant::now() + Duration::from_secs(n(1)))
+    };
+    if let Err(why) = done {
         println!("{why}");
         std::process::exit(1);
     }

@@ -1,27 +1,30 @@
 #!/usr/bin/env python3
-"""Every name that the tables of docs/PROOFS.md give must stand in the sources: a definition, a law, a function, or a must-fail edit."""
+"""Every name that the tables of docs/PROOFS.md give must stand in the sources: a definition, a law, a function, or a must-fail edit. A definition
+given with its file (le/Field `getLe`) must stand in that file, a law given with its file (Fields `get-put`, safe Copy `copy-frame`) be declared
+there, an edit in the column of edits (le `wrong_order`) be that crate's, and a function given with its crate (`store::mount`) be in it."""
+import glob
 import os
 import re
 import sys
 
-ROW = re.compile(r"`([^`]+)`")
+MAP = "docs/PROOFS.md"
+NAME = re.compile(r"`([^`]+)`")
+GROUP = r"((?:`[^`]+`(?: \([^)]*\))?(?:, )?)+)"
+WORD = r"[^\s(){}\[\];,.:&|=<>!]+"
 
 
-def named(path):
-    for row in open(path, encoding="utf-8"):
-        cells = row.split("|")
-        if row.startswith("|") and len(cells) > 3:
-            for cell in cells[2:-1]:
-                yield from ROW.findall(cell)
+def read(path):
+    return open(path, encoding="utf-8").read()
 
 
-def placed(path):
-    """`le/Field` followed by names: those must stand in crates/le/specs/Field.antt."""
-    for row in open(path, encoding="utf-8"):
-        if row.startswith("|"):
-            for crate, file, group in re.findall(r"\b([a-z_]+)/([A-Z]\w*) ((?:`[^`]+`(?:, )?)+)", row):
-                for name in ROW.findall(group):
-                    yield crate, file, name.split()[0]
+def tables(path):
+    """The rows of the tables, each as a list of pairs: its column's title, and the cell."""
+    titles = None
+    for line in read(path).split("\n"):
+        cells = [c.strip() for c in re.split(r"(?<!\\)\|", line)[1:-1]] if line.startswith("|") else None
+        if cells and titles:
+            yield list(zip(titles, cells))
+        titles = cells and (titles or cells)
 
 
 def sources(folder):
@@ -31,19 +34,40 @@ def sources(folder):
             if name.endswith(".edit"):
                 edits.add(name[: -len(".edit")])
             elif name.endswith((".antt", ".rt")):
-                text = open(os.path.join(place, name), encoding="utf-8").read()
-                words.update(re.findall(r"[^\s(){}\[\];,.:&|=<>!]+", text))
+                words.update(re.findall(WORD, read(os.path.join(place, name))))
     return words, edits
 
 
+def in_group(group):
+    return [n.split()[0] for n in NAME.findall(re.sub(r"\([^)]*\)", "", group))]
+
+
+def misplaced(cell, title):
+    for crate, file, group in re.findall(rf"\b([a-z_]+)/([A-Z]\w*) {GROUP}", cell):
+        path = f"crates/{crate}/specs/{file}.antt"
+        found = set(re.findall(WORD, read(path))) if os.path.exists(path) else set()
+        yield from (f"{n} in {path}" for n in in_group(group) if n not in found)
+    for crate, file, group in re.findall(rf"(?:\b([a-z_]+) )?(?<!/)\b([A-Z]\w*) {GROUP}", cell):
+        places = glob.glob(f"crates/{crate if os.path.isdir(f'crates/{crate}') and crate else '*'}/proofs/{file}.antt")
+        for n in in_group(group):
+            if not any(re.search(rf"^ *(?:abbrev )?pub (?:record |data )?{re.escape(n)}(?=[\s:]|$)", read(p), re.M) for p in places):
+                yield f"{n} among the laws of {crate} {file}"
+    for crate, item in re.findall(r"`([a-z_]+)::(\w+)`", cell):
+        if not any(re.search(rf"\b(?:fn|struct|enum|use \w+::) ?{item}\b", read(p)) for p in glob.glob(f"crates/{crate}/src/*.rt")):
+            yield f"{item} in crate {crate}"
+    if title.startswith("refused edit"):
+        for crate, group in re.findall(rf"\b([a-z_]+) {GROUP}", cell):
+            yield from (f"edit {n} of {crate}" for n in in_group(group) if not os.path.exists(f"crates/{crate}/must-fail/{n}.edit"))
+
+
 words, edits = sources("crates")
-names = sorted({n.split("::")[-1].split()[0] for n in named("docs/PROOFS.md")})
-missing = [n for n in names if n not in words and n not in edits]
-for crate, file, name in placed("docs/PROOFS.md"):
-    path = f"crates/{crate}/specs/{file}.antt"
-    if not os.path.exists(path) or name not in re.findall(r"[^\s(){}\[\];,.:&|=<>!]+", open(path, encoding="utf-8").read()):
-        missing.append(f"{name} in {path}")
-print(f"map: {len(names)} names of docs/PROOFS.md looked up, {len(missing)} not found")
+names, missing = set(), []
+for row in tables(MAP):
+    for title, cell in row[1:]:
+        names.update(n.split("::")[-1].split()[0] for n in NAME.findall(cell))
+        missing += misplaced(cell, title)
+missing += [n for n in sorted(names) if n not in words and n not in edits]
+print(f"map: {len(names)} names of {MAP} looked up, {len(missing)} not found")
 for n in missing:
     print("map: not in the sources:", n)
 sys.exit(1 if missing or not names else 0)

@@ -40,7 +40,7 @@ pub extern "C" fn store_mount(volume: &[u8], left: u32, unreadable: u64, entropy
     let m = store::mount(volume, medium_of(left, unreadable, entropy));
     let s = m.store;
     let o = m.outcome;
-    code(o, store::chunks(s))
+    code(o, s.chunks())
 }
 
 // A new, empty store with chunks of `size` sectors, and how many there are.
@@ -58,7 +58,7 @@ pub extern "C" fn store_format(
     let f = store::format(volume, medium_of(left, unreadable, entropy), size, seed);
     let s = f.store;
     let o = f.outcome;
-    code(o, store::chunks(s))
+    code(o, s.chunks())
 }
 
 // Deletes a file.

@@ -97,6 +97,33 @@ pub fn sane(head: Header, sectors: u64) -> bool
 }
 
 impl Store {
+    // Changes with every commit and format.
+    pub fn generation(self) -> u64
+        ensures { λ r. ⌜ r ≡ self .head .generation ⌝ }
+    {
+        self.head.generation
+    }
+
+    pub fn store_id(self) -> u64
+        ensures { λ r. ⌜ r ≡ self .head .id ⌝ }
+    {
+        self.head.id
+    }
+
+    // Data chunks in the volume.
+    pub fn chunks(self) -> u32
+        ensures { λ r. ⌜ r ≡ self .head .chunks ⌝ }
+    {
+        self.head.chunks
+    }
+
+    // Record sectors per chunk.
+    pub fn chunk_sectors(self) -> u32
+        ensures { λ r. ⌜ r ≡ self .head .chunk ⌝ }
+    {
+        self.head.chunk
+    }
+
     // Refusal 3 on a store value.
     pub fn handle_ok(self, sectors: u64) -> bool
         ensures { λ r. ⌜ r ≡ storeOk self sectors ⌝ }

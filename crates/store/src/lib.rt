@@ -282,30 +282,3 @@ pub fn delete_oldest(volume: &mut [u8], medium: Medium, store: Store, dir: &[u8]
     let spared = open_of(w);
     remove::remove_oldest(volume, medium, store, dir, spared.keeping, spared.keep)
 }
-
-// Changes with every commit and format.
-pub fn generation(store: Store) -> u64
-    ensures { λ r. ⌜ r ≡ store .head .generation ⌝ }
-{
-    store.head.generation
-}
-
-pub fn store_id(store: Store) -> u64
-    ensures { λ r. ⌜ r ≡ store .head .id ⌝ }
-{
-    store.head.id
-}
-
-// Data chunks in the volume.
-pub fn chunks(store: Store) -> u32
-    ensures { λ r. ⌜ r ≡ store .head .chunks ⌝ }
-{
-    store.head.chunks
-}
-
-// Record sectors per chunk.
-pub fn chunk_sectors(store: Store) -> u32
-    ensures { λ r. ⌜ r ≡ store .head .chunk ⌝ }
-{
-    store.head.chunk
-}

@@ -82,15 +82,12 @@ unfolding sameBytes
 pairs-end a b i h e = rw (drop-end a i h, drop-end b i (rw e at h))
 
 -- one more byte is tested
-module _ (l : List ℕ) (i : ℕ) (h : i < length l) where
-  pub zero-next : getD l i 0 ≡ 0 → allZero (drop (i + 1) l) ≡ allZero (drop i l)
-  unfolding allZero
-  zero-next e = rw (drop-one l i h, eq-eqb _ _ e)
-
-  pub zero-not : (getD l i 0 ≡ 0 → ⊥) → allZero (drop i l) ≡ false
-  unfolding allZero
-  zero-not e = rw (drop-one l i h, ne-eqb _ _ e)
-
-pub zero-end : (l : List ℕ) (i : ℕ) → length l ≤ i → allZero (drop i l) ≡ true
+pub zero-next : (l : List ℕ) (i : ℕ) (z : Bool) → i < length l → ((z && eqb (getD l i 0) 0) && allZero (drop (i + 1) l)) ≡ (z && allZero (drop i l))
 unfolding allZero
-zero-end l i h = rw (drop-end l i h)
+zero-next l i true h = rw (drop-one l i h)
+zero-next l i false h = refl
+
+pub zero-end : (l : List ℕ) (i : ℕ) (z : Bool) → length l ≤ i → (z && allZero (drop i l)) ≡ z
+unfolding allZero
+zero-end l i true h = rw (drop-end l i h)
+zero-end l i false h = refl

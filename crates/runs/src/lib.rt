@@ -50,13 +50,13 @@ pub fn same(a: &[u8], b: &[u8]) -> bool
     true
 }
 
+// Every byte is looked at: with no way out of the loop the compiler tests many at once.
 pub fn all_zero(bytes: &[u8]) -> bool
     ensures { λ r. ⌜ r ≡ allZero (now (bytes .entry)) ⌝ }
 {
+    let mut zero = true;
     for i in 0..bytes.len() {
-        if bytes[i] != 0 {
-            return false;
-        }
+        zero = zero & (bytes[i] == 0);
     }
-    true
+    zero
 }

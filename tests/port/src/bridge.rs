@@ -5,64 +5,64 @@ use driver::{Appender, Medium, Next, Reader, Store, unhex};
 
 #[link(name = "bridge", kind = "static")]
 unsafe extern "C" {
-    fn port_mount(volume: *const u8, length: usize, medium: &mut [u64; 4], store: &mut [u64; 10], crcs: &mut [u32; 24]) -> u32;
-    fn port_find(
+    pub fn port_mount(volume: *const u8, length: usize, medium: &mut [u64; 4], store: &mut [u64; 10], crcs: &mut [u32; 24]) -> u32;
+    pub fn port_find(
         volume: *const u8, length: usize, medium: &mut [u64; 4], store: &[u64; 10], crcs: &[u32; 24],
         name: *const u8, name_length: usize, answer: &mut [u64; 3],
     ) -> u32;
-    fn port_list(
+    pub fn port_list(
         volume: *const u8, length: usize, medium: &mut [u64; 4], store: &[u64; 10], crcs: &[u32; 24],
         dir: *const u8, dir_length: usize, counts: *mut u32, counts_length: usize, rows: *mut u8, rows_length: usize,
         answer: &mut [u64; 3],
     ) -> u32;
-    fn port_reader(
+    pub fn port_reader(
         volume: *const u8, length: usize, medium: &mut [u64; 4], store: &[u64; 10], crcs: &[u32; 24],
         name: *const u8, name_length: usize, reader: &mut [u64; 10],
     ) -> u32;
-    fn port_next(
+    pub fn port_next(
         volume: *const u8, length: usize, medium: &mut [u64; 4], store: &[u64; 10], crcs: &[u32; 24],
         reader: &mut [u64; 10], out: *mut u8, out_length: usize, answer: &mut [u64; 3],
     ) -> u32;
-    fn port_seek(
+    pub fn port_seek(
         volume: *const u8, length: usize, medium: &mut [u64; 4], store: &[u64; 10], crcs: &[u32; 24],
         reader: &mut [u64; 10], record: u32,
     ) -> u32;
-    fn port_record(store: &[u64; 10], crcs: &[u32; 24], reader: &[u64; 10], answer: &mut [u64; 3]) -> u32;
+    pub fn port_record(store: &[u64; 10], crcs: &[u32; 24], reader: &[u64; 10], answer: &mut [u64; 3]) -> u32;
 }
 
 #[link(name = "bridge_write", kind = "static")]
 unsafe extern "C" {
-    fn port_format(
+    pub fn port_format(
         volume: *mut u8, length: usize, medium: &mut [u64; 4], size: u32, seed: u64,
         store: &mut [u64; 10], crcs: &mut [u32; 24],
     ) -> u32;
-    fn port_delete(
+    pub fn port_delete(
         volume: *mut u8, length: usize, medium: &mut [u64; 4], store: &mut [u64; 10], crcs: &mut [u32; 24],
         name: *const u8, name_length: usize,
     ) -> u32;
-    fn port_delete_oldest(
+    pub fn port_delete_oldest(
         volume: *mut u8, length: usize, medium: &mut [u64; 4], store: &mut [u64; 10], crcs: &mut [u32; 24],
         dir: *const u8, dir_length: usize, answer: &mut [u64; 3], gone: &mut [u8; 40],
     ) -> u32;
-    fn port_append(
+    pub fn port_append(
         volume: *mut u8, length: usize, medium: &mut [u64; 4], store: &mut [u64; 10], crcs: &mut [u32; 24],
         appender: &mut [u64; 10], buffer: &mut [u8; 486], dir: &mut [u8; 40], bytes: *const u8, bytes_length: usize,
     ) -> u32;
-    fn port_sync(
+    pub fn port_sync(
         volume: *mut u8, length: usize, medium: &mut [u64; 4], store: &mut [u64; 10], crcs: &mut [u32; 24],
         appender: &mut [u64; 10], buffer: &mut [u8; 486], dir: &mut [u8; 40],
     ) -> u32;
-    fn port_create(
+    pub fn port_create(
         volume: *mut u8, length: usize, medium: &mut [u64; 4], store: &mut [u64; 10], crcs: &mut [u32; 24],
         name: *const u8, name_length: usize, rolls: u32, dir: *const u8, dir_length: usize,
         appender: &mut [u64; 10], buffer: &mut [u8; 486], over: &mut [u8; 40],
     ) -> u32;
-    fn port_open_append(
+    pub fn port_open_append(
         volume: *const u8, length: usize, medium: &mut [u64; 4], store: &mut [u64; 10], crcs: &mut [u32; 24],
         name: *const u8, name_length: usize, rolls: u32, dir: *const u8, dir_length: usize,
         appender: &mut [u64; 10], buffer: &mut [u8; 486], over: &mut [u8; 40],
     ) -> u32;
-    fn port_room(appender: &[u64; 10], buffer: &[u8; 486], dir: &[u8; 40], answer: &mut [u64; 3]) -> u32;
+    pub fn port_room(appender: &[u64; 10], buffer: &[u8; 486], dir: &[u8; 40], answer: &mut [u64; 3]) -> u32;
 }
 
 /// The calls that write, with their volume compared.

@@ -1,0 +1,5 @@
+pub mod Decimal
+pub mod Pens
+pub mod Gathers
+pub mod Counts
+pub mod Feeds

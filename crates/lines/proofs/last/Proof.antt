@@ -1,0 +1,30 @@
+use borrow.Author.Needs.{needs}
+use native.Mathlib.Omega.{arith}
+use Rattle.lines.proofs.Feeds.{last-empty, last-line}
+use Rattle.lines.proofs.last.Statement.{statement}
+use Rattle.lines.proofs.last.Tie as tie
+
+returns : tie.Need-returns
+returns c = (last-empty (c .before .before .before .before .args .volume .now) (c .before .before .before .before .args .session) (c .before .before .before .before .args .line .now) (c .before .before .before .before .args .out .now) (c .if1 .taken), omega arith)
+
+answer-requires : tie.Need-answer-requires
+answer-requires c κs = search needs
+
+same-length : tie.Need-same-length
+same-length c = search needs
+
+same-length-2 : tie.Need-same-length-2
+same-length-2 c = search needs
+
+returns-2 : tie.Need-returns-2
+returns-2 c = (last-line (c .before .before .before .before .before .before .before .before .before .before .before .args .volume .now) (c .before .before .before .before .before .before .before .before .before .before .before .args .session) (c .before .before .before .before .before .before .before .before .before .before .before .args .line .now) (c .before .before .before .before .before .before .before .before .before .before .before .args .out .now) (c .before .before .before .before .before .before .before .if1 .left) (c .before .before .before .before .answer .ensures .2), c .before .before .before .before .answer .ensures .3)
+
+pub last-spec : {M : Type 1} → statement M
+last-spec =
+    tie.close
+    (tie.spec
+    returns
+    answer-requires
+    same-length
+    same-length-2
+    returns-2)

@@ -1,0 +1,28 @@
+use borrow.Author.Needs.{needs}
+use mathlib.Core.Path.{refl}
+use Rattle.session.specs.Session.{onOk}
+use Rattle.session.proofs.rows_reply.Statement.{statement}
+use Rattle.session.proofs.rows_reply.Tie as tie
+
+enum-told : tie.Need-enum-told
+enum-told c = search needs
+
+enum-known-o : tie.Need-enum-known-o
+enum-known-o c = search needs
+
+returns : tie.Need-returns
+unfolding onOk
+returns c = rw (c .enum-told .given .1)
+
+returns-2 : tie.Need-returns-2
+unfolding onOk
+returns-2 c = rw (c .before .o .given .1)
+
+pub rows-reply-spec : {M : Type 1} → statement M
+rows-reply-spec =
+    tie.close
+    (tie.spec
+    enum-told
+    enum-known-o
+    returns
+    returns-2)

@@ -317,7 +317,7 @@ impl Appender {
         if let Outcome::No(e) = o {
             return stopped(e, medium, store, self);
         }
-        put_all(volume, medium, store, self, bytes)
+        put(volume, medium, store, self, bytes)
     }
 
     // Make every appended byte durable.
@@ -523,10 +523,10 @@ fn flush(volume: &mut [u8], medium: Medium, store: Store, appender: Appender) ->
 {
     let x = write(volume, medium, store, appender);
     let o = x.outcome;
-    let m = x.medium;
-    let s = x.store;
-    let a = x.appender;
     if let Outcome::No(e) = o {
+        let m = x.medium;
+        let s = x.store;
+        let a = x.appender;
         let shut = a.closed();
         return stopped(e, m, s, shut);
     }
@@ -592,4 +592,24 @@ fn put_all(
         i = e;
     }
     finished(m, s, a)
+}
+
+// Bytes that fit before the record is full are one run, as most calls have them: the loop would copy the appender four times more.
+fn put(
+    volume: &mut [u8],
+    medium: Medium,
+    store: Store,
+    appender: Appender,
+    bytes: &[u8],
+) -> Flushed
+    requires { ⌜ (storeOk store (sectorsOf (now volume)) ≡ true) × (Fit appender store) × (appender .fill < 486) ⌝ }
+    ensures { λ r. ⌜ (now (volume .exit) ≡ appendOf (now (bytes .entry)) (now (volume .entry)) medium store appender .vol) × (r ≡ appendOf (now (bytes .entry)) (now (volume .entry)) medium store appender .ans) ⌝ }
+{
+    if bytes.len() == 0 {
+        return put_all(volume, medium, store, appender, bytes);
+    }
+    if 486 - appender.fill < bytes.len() {
+        return put_all(volume, medium, store, appender, bytes);
+    }
+    put_run(volume, medium, store, appender, bytes)
 }

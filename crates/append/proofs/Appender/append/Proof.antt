@@ -27,8 +27,8 @@ returns c = let a = c .before .before .before .before .before .before .before .b
 enum-told : tie.Need-enum-told
 enum-told c = search needs
 
-put-all-requires : tie.Need-put-all-requires
-put-all-requires c κs = let a = c .before .before .before .before .before .before .before .args in
+put-requires : tie.Need-put-requires
+put-requires c κs = let a = c .before .before .before .before .before .before .before .args in
     let n : length (a .self .buffer) ≡ 486 = search (needs, c .before .before .before .before .before .before .before .good .0) in
     let f : May (a .volume .now) (a .store) (a .self) = may-facts (a .volume .now) (a .store) (a .self) n (sym (c .before .before .before .check .ensures) ∙ c .before .enum-told .given .1) in
     (f .ok, f .fit, f .room)
@@ -38,7 +38,7 @@ same-length-2 c = search needs
 
 returns-2 : tie.Need-returns-2
 unfolding appendCall
-returns-2 c = let a = c .before .before .before .before .before .before .before .before .before .before .args in offer-done (a .volume .now) (a .medium) (a .store) (a .self) (appendOf (a .bytes .now) (a .volume .now) (a .medium) (a .store) (a .self)) (c .before .before .before .before .before .before .check .ensures) (c .before .before .before .before .enum-told .given .1) (c .before .before .put-all .ensures)
+returns-2 c = let a = c .before .before .before .before .before .before .before .before .before .before .args in offer-done (a .volume .now) (a .medium) (a .store) (a .self) (appendOf (a .bytes .now) (a .volume .now) (a .medium) (a .store) (a .self)) (c .before .before .before .before .before .before .check .ensures) (c .before .before .before .before .enum-told .given .1) (c .before .before .put .ensures)
 
 pub append-spec : {M : Type 1} → statement M
 append-spec =
@@ -50,6 +50,6 @@ append-spec =
     same-length
     returns
     enum-told
-    put-all-requires
+    put-requires
     same-length-2
     returns-2)

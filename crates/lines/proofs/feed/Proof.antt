@@ -24,7 +24,7 @@ sub-write-all : tie.Need-sub-write-all Inv-loop μ-loop
 sub-write-all c = omega (arith, c .before .before .before .before .before .before .piece .ensures .3)
 
 part-write-all-start : tie.Need-part-write-all-start Inv-loop μ-loop
-part-write-all-start c = let h = c .before .before .before .before .before .before .before .piece .ensures .3 in search (needs, h)
+part-write-all-start c = search needs
 
 part-write-all-end : tie.Need-part-write-all-end Inv-loop μ-loop
 part-write-all-end c = let h = c .before .before .before .before .before .before .before .piece .ensures .3 in search (needs, h)

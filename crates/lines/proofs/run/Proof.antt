@@ -61,10 +61,10 @@ last-requires : tie.Need-last-requires Inv-loop μ-loop
 last-requires c κs = search needs
 
 sub-write-all : tie.Need-sub-write-all Inv-loop μ-loop
-sub-write-all c = let h = c .before .before .before .before .last .ensures .1 in search (needs, h)
+sub-write-all c = search needs
 
 part-write-all-start : tie.Need-part-write-all-start Inv-loop μ-loop
-part-write-all-start c = let h = c .before .before .before .before .before .last .ensures .1 in search (needs, h)
+part-write-all-start c = search needs
 
 part-write-all-end : tie.Need-part-write-all-end Inv-loop μ-loop
 part-write-all-end c = let h = c .before .before .before .before .before .last .ensures .1 in search (needs, h)

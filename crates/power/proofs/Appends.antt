@@ -237,7 +237,7 @@ module _ (w : World) (b : Book) (k : Keeps w b) (left : ℕ) (c : Book) (rest : 
           tail = s .tail;
           buffer = s .buffer;
           file = more .file ∙ s .file;
-          rollover = λ r. more .rollover ∙ s .rollover r;
+          rollover = more .rollover ∙ s .rollover;
           fine = s .fine;
           unwritten = more .unwritten ∙ ap (λ (y : List ℕ). y ++ rest) (s .unwritten ∙ append-nil x);
         }

@@ -2,9 +2,11 @@
 use Prim.Native.Nat.{ℕ, _≤_}
 use mathlib.Core.Path.{_≡_, refl, ap, sym, _∙_}
 use mathlib.Core.Bool.{Bool, true, false, not, _||_, false≢true}
+use mathlib.Core.Option.{Option, some}
 use mathlib.Core.List.{List}
 use native.Mathlib.Omega.{arith}
 use lib.ListN.{length}
+use Rattle.le.specs.Choice.{pick}
 use Rattle.le.specs.Part.{part, zeros}
 use Rattle.le.proofs.Choices.{pick-keeps-by, pick-true}
 use Rattle.le.proofs.Parts.{length-zeros, part-over}
@@ -20,6 +22,7 @@ use Rattle.append.specs.declared.Dir.{Dir}
 use Rattle.store.specs.Asked.{askedOf}
 use Rattle.store.specs.Opening.{openFine, rolloverOf}
 use Rattle.safe.proofs.Frame.{clash}
+use Rattle.power.specs.Book.{ifSet}
 
 pub asked-fine : (vol : List ℕ) (st : Store) (fine : Bool) → askedOf vol st fine ≡ Done → fine ≡ true
 unfolding askedOf
@@ -43,20 +46,28 @@ rolls-is : (rolls : Bool) (dir : List ℕ) → rolloverOf rolls dir .rolls ≡ r
 unfolding rolloverOf
 rolls-is rolls dir = refl
 
--- a rollover whose directory, where it is set, is the one asked for and passes its rule
-pub record Directed (over : Rollover) (dir : List ℕ) : Type 0 where
-  pub same : over .rolls ≡ true → dirBytes (over .dir) ≡ dir
+rollover-same : (rolls : Bool) (dir : List ℕ) → (rolls ≡ true → dirOk dir ≡ true) → ifSet (rolloverOf rolls dir .rolls) (dirBytes (rolloverOf rolls dir .dir)) ≡ ifSet rolls dir
+unfolding pick
+rollover-same true dir passes = rw (rolls-is true dir, rollover-dir true dir (dir-short dir (passes refl)) refl) refl
+rollover-same false dir passes = rw (rolls-is false dir) refl
+
+-- a rollover that is set where one is asked for, and whose directory then is the one asked for and passes its rule
+pub record Directed (over : Rollover) (dir : Option (List ℕ)) : Type 0 where
+  pub same : ifSet (over .rolls) (dirBytes (over .dir)) ≡ dir
   pub fine : over .rolls ≡ true → (over .dir .length ≤ 40) × (dirOk (dirBytes (over .dir)) ≡ true)
+
+pub directed-set : {over : Rollover} {dir : Option (List ℕ)} → Directed over dir → over .rolls ≡ true → dir ≡ some (dirBytes (over .dir))
+directed-set d r = sym (d .same) ∙ pick-true _ _ r
 
 -- both
 pub record Opens (name : List ℕ) (rolls : Bool) (dir : List ℕ) : Type 0 where
   pub name-fine : nameOk name ≡ true
-  pub directed : Directed (rolloverOf rolls dir) dir
+  pub directed : Directed (rolloverOf rolls dir) (ifSet rolls dir)
 
-rollover-directed : (rolls : Bool) (dir : List ℕ) → (rolls ≡ true → dirOk dir ≡ true) → Directed (rolloverOf rolls dir) dir
+rollover-directed : (rolls : Bool) (dir : List ℕ) → (rolls ≡ true → dirOk dir ≡ true) → Directed (rolloverOf rolls dir) (ifSet rolls dir)
 rollover-directed rolls dir passes =
     record {
-      same = λ e. rollover-dir rolls dir (dir-short dir (passes (sym (rolls-is rolls dir) ∙ e))) (sym (rolls-is rolls dir) ∙ e);
+      same = rollover-same rolls dir passes;
       fine = λ e.
           let q : rolls ≡ true = sym (rolls-is rolls dir) ∙ e in
           let short : length dir ≤ 40 = dir-short dir (passes q) in

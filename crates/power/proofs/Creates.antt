@@ -2,7 +2,7 @@
 use Prim.Native.Nat.{ℕ, zero, suc, _+_, _-_, _^_, _<_}
 use mathlib.Core.Path.{_≡_, refl}
 use mathlib.Core.Bool.{Bool, true, false}
-use mathlib.Core.Option.{none}
+use mathlib.Core.Option.{Option, none}
 use mathlib.Core.List.{List, [], _∷_}
 use native.Mathlib.Omega.{arith}
 use borrow.Author.Tests.{eqb-false}
@@ -36,15 +36,15 @@ use Rattle.layout.specs.Views.{vacant}
 use Rattle.folds.proofs.Named.{Look, look-view}
 use Rattle.folds.proofs.Chunks.{free-chunk}
 use Rattle.power.specs.Calls.{create}
-use Rattle.power.specs.Book.{Terms, Book, openedFor, entered, enteredAll, termsOf, beforeSteps, afterSteps, written}
-use Rattle.power.specs.History.{World, isOk, ifOk, withLeft, ranOpen, ran, fedBy, EachSkipped, EachStep, Distinct}
+use Rattle.power.specs.Book.{Terms, ifSet, Book, openedFor, entered, enteredAll, termsOf, beforeSteps, afterSteps, written}
+use Rattle.power.specs.History.{World, isOk, ifOk, withLeft, ranCreate, ran, fedBy, EachSkipped, EachStep, Distinct}
 use Rattle.power.proofs.Whole.{Keeps}
 use Rattle.power.proofs.Checks.{inv-checked}
 use Rattle.power.proofs.Unmade.{Unmade, unmade-keeps}
 use Rattle.power.proofs.Removing.{gone-keeps}
 use Rattle.power.proofs.Oldest.{oldest-stopped, oldest-none, oldest-made}
 use Rattle.power.proofs.Steps.{kindsOf}
-use Rattle.power.proofs.Asks.{Directed, Opens, asked-opens}
+use Rattle.power.proofs.Asks.{Directed, directed-set, Opens, asked-opens}
 use Rattle.power.proofs.Making.{make-stopped, make-done, made-keeps}
 
 pub steps-done : (kind : Kind) (o : Out) → o .ans .outcome ≡ Done → stepsOf kind o ≡ (record { kind = kind; skipped = o .skipped }) ∷ []
@@ -52,12 +52,12 @@ unfolding stepsOf onDone
 steps-done kind o d = rw d refl
 
 -- the book of an accepted call has the new appender's file
-unfoldable closing : List ℕ → Bool → Book → Book
+unfoldable closing : Option (List ℕ) → Bool → Book → Book
 closing dir accepted b = pick accepted (openedFor (b .next - 1) dir b) b
 
 -- whatever happened, its steps stand
 unfoldable Ends : Terms → World → Book → AppOut → Type 0
-Ends t w b o = EachStep Distinct (o .steps) → Keeps (ranOpen w (callOf o) .world) (closing (t .dir) (isOk (outcomeOf (o .ans .outcome))) (enteredAll t (kindsOf (o .steps)) b))
+Ends t w b o = EachStep Distinct (o .steps) → Keeps (ranCreate w (callOf o) .world) (closing (t .dir) (isOk (outcomeOf (o .ans .outcome))) (enteredAll t (kindsOf (o .steps)) b))
 
 module _ (t : Terms) where
   -- refused with no step more
@@ -119,7 +119,7 @@ module _ (t : Terms) (over : Rollover) (spares : t .spared ≡ none) (directed :
           rolled-ends t w b (g .vol) (g .ans .medium) (g .ans .store) (g .skipped) _
           (λ h.
           let x = oldest-made (w .vol) (w .medium) (w .store) (k .layout) b (k .whole) (k .readable) (dirBytes (over .dir)) false 0 e h in
-          ih _ _ (gone-keeps w b k (k .readable) (x .gone) _ (rw (spares, ← directed .same r) (x .whole))))
+          ih _ _ (gone-keeps w b k (k .readable) (x .gone) _ (rw (spares, directed-set directed r) (x .whole))))
 
       over-ends : Ends t w b (overOut over next (w .vol) (w .medium) (w .store))
       unfolding overOut
@@ -164,7 +164,7 @@ create-keeps w b k left name rolls dir =
     let m : Medium = withLeft left (w .medium) in
     let w′ : World = record { vol = w .vol; store = w .store; appender = w .appender; medium = m } in
     let k′ : Keeps w′ b = record { layout = k .layout; whole = k .whole; owns = k .owns; readable = k .readable } in
-    let t : Terms = record { name = name; dir = dir; spared = none } in
+    let t : Terms = record { name = name; dir = ifSet rolls dir; spared = none } in
     onDone-keeps (Ends t w′ b) _ _ _
     (λ d.
     let a : Opens name rolls dir = asked-opens (w .vol) (w .store) name rolls dir d in

@@ -2,6 +2,7 @@
 use Prim.Native.Nat.{ℕ}
 use mathlib.Core.Path.{_≡_, refl}
 use mathlib.Core.Bool.{false}
+use mathlib.Core.Option.{some}
 use mathlib.Core.List.{List, [], map}
 use Rattle.le.specs.Choice.{pick}
 use Rattle.le.proofs.Choices.{pick-keeps, pick-keeps-by}
@@ -15,7 +16,7 @@ use Rattle.directory.specs.declared.Found.the-variants as found
 use Rattle.directory.specs.Scan.{findOf}
 use Rattle.plan.specs.Copy.{Step, Out, stepsOf}
 use Rattle.remove.specs.Remove.{removeOf, GoneOut, removeOldestOf, isOpen, openId}
-use Rattle.store.specs.Writing.{WriteCall, onNamed, deleteCall, OldestCall, oldestGone, oldestCall}
+use Rattle.store.specs.Writing.{WriteCall, onNamed, deleteCall, OldestCall, oldestTold, oldestCall}
 use Rattle.folds.proofs.Named.{find-view}
 use Rattle.power.specs.Calls.{delete, deleteOldest}
 use Rattle.power.specs.Book.{Terms, Book, entered, enteredAll, termsOf, beforeSteps, afterSteps, written}
@@ -76,7 +77,7 @@ module _ (w : World) (b : Book) (k : Keeps w b) (left : ℕ) where
 
   module _ (dir : List ℕ) where
     abbrev terms : Terms
-    terms = record { name = []; dir = dir; spared = openOf (w .store .writer) }
+    terms = record { name = []; dir = some dir; spared = openOf (w .store .writer) }
 
     abbrev StoodOld : OldestCall → Type 0
     StoodOld c = Stood terms (leftBy w (c .vol) (c .call .medium) (c .call .store)) (c .steps)
@@ -93,8 +94,8 @@ module _ (w : World) (b : Book) (k : Keeps w b) (left : ℕ) where
             rw (x .0, x .1, x .2) same-keeps
         go (No e) d = unmade-keeps w b k (k .readable) (oldest-stopped (w .vol) m (w .store) (k .layout) b (k .whole) (k .readable) dir (isOpen (w .store .writer)) (openId (w .store .writer)) d .0)
 
-    gone-stood : StoodOld (oldestGone g)
-    unfolding oldestGone EachStep enteredAll entered
+    gone-stood : StoodOld (oldestTold g)
+    unfolding oldestTold EachStep enteredAll entered
     gone-stood =
         pick-keeps-by (Stood terms (leftBy w (g .vol) (g .ans .medium) (g .ans .store))) (g .ans .any) _ _
         (λ e h.
@@ -103,7 +104,7 @@ module _ (w : World) (b : Book) (k : Keeps w b) (left : ℕ) where
         (λ e h. idle-keeps e)
 
     oldest-stood : StoodOld (oldestCall (w .vol) m (w .store) dir)
-    unfolding oldestCall oldestGone enteredAll pick
+    unfolding oldestCall oldestTold enteredAll pick
     oldest-stood = onDone-keeps StoodOld _ _ _ (λ d. gone-stood) (λ e d h. same-keeps)
 
 pub delete-keeps : (w : World) (b : Book) → Keeps w b → (left : ℕ) (name : List ℕ) → EachStep Distinct (ran w (delete left name) .steps)

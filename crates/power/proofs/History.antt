@@ -19,7 +19,7 @@ use Rattle.store.specs.Writing.{formatCall}
 use Rattle.power.specs.Calls.{Call, mount, format, create, openAppend, append, sync, delete, deleteOldest, query}
 use Rattle.power.specs.Book.{Book, newBook, written}
 use Rattle.power.specs.History.{World, ran, fedBy, after, bookOf, Readable, Clean, Given, EachSkipped, EachStep, Honest, Distinct, Premise}
-use Rattle.power.specs.Claim.{started, NoBatchLost}
+use Rattle.power.specs.Claim.{started, Demand3, Demand3Weaker}
 use Rattle.power.proofs.Whole.{Keeps}
 use Rattle.power.proofs.Stays.{owns-none}
 use Rattle.power.proofs.Shown.{shown}
@@ -75,7 +75,7 @@ started-keeps vol m size seed ap bytes a r clean =
 
 -- ---- demand 3
 
-pub no-batch-lost : NoBatchLost Distinct
+pub no-batch-lost : Demand3Weaker
 no-batch-lost vol m size seed ap calls bytes a r clean p =
     let h = history-keeps calls (started (formatCall vol m size seed) ap) newBook (started-keeps vol m size seed ap bytes a r clean) p in
     shown _ _ (h .layout) _ (h .whole)
@@ -96,6 +96,6 @@ unfolding Premise
 weaker [] w p = tt
 weaker (c ∷ cs) w p = (p .0, each-step (ran w c .steps) (p .1), weaker cs (ran w c .world) (p .2))
 
-pub no-batch-lost-literal : NoBatchLost Honest
+pub no-batch-lost-literal : Demand3
 no-batch-lost-literal vol m size seed ap calls bytes a r clean p =
     no-batch-lost vol m size seed ap calls bytes a r clean (weaker calls (started (formatCall vol m size seed) ap) p)

@@ -107,7 +107,7 @@ module _ (w : World) (b : Book) (k : Keeps w b) (t : Terms) (slot chunk : ℕ) (
           tail = rw here refl;
           buffer = length-zeros 486;
           file = rw (← k .whole .next) (omega arith);
-          rollover = λ q. sym (d .same q);
+          rollover = sym (d .same);
           fine = d .fine;
           unwritten = rw (part-none (zeros 486)) refl;
         }

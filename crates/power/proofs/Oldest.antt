@@ -50,7 +50,7 @@ pub record Went (vol : List ℕ) (m : Medium) (st : Store) (G : ℕ → List Seg
   pub below : slot < 64
   pub goes : Goes dir keeping kept name id
   pub gone : Gone vol m st G b slot name id (g .vol) (g .ans .medium) (g .ans .store)
-  pub whole : Whole (g .vol) (g .ans .store) (replaced G slot []) (withFiles (withoutOldest dir (sparedBy keeping kept) (b .files)) b)
+  pub whole : Whole (g .vol) (g .ans .store) (replaced G slot []) (withFiles (withoutOldest (some dir) (sparedBy keeping kept) (b .files)) b)
 
 -- it is not the one spared
 pub goes-other : {dir : List ℕ} {keeping : Bool} {kept : ℕ} {name : List ℕ} {id : ℕ} → Goes dir keeping kept name id → keeping ≡ true → id ≢ kept

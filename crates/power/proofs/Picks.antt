@@ -84,6 +84,6 @@ module _ {D : Disk} {G : ℕ → List Segment} {files : List File} {s id : ℕ} 
         let o = t .from g (k .0) in
         least (o .0) (g .name) (g .id) (o .1) (o .2) (may-goes dir keeping kept g (k .1)))
 
-    pub without-oldest : withoutOldest dir (sparedBy keeping kept) files ≡ keep (isNot id) files
+    pub without-oldest : withoutOldest (some dir) (sparedBy keeping kept) files ≡ keep (isNot id) files
     unfolding withoutOldest withoutId
     without-oldest = ap (λ (o : Option ℕ). withoutId o files) oldest-id

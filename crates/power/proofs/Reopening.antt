@@ -49,7 +49,7 @@ use Rattle.folds.proofs.Named.{same-self, find-view}
 use Rattle.store.specs.Asked.{askedOf}
 use Rattle.store.specs.Opening.{openFine, rolloverOf, opening, openCall}
 use Rattle.power.specs.Calls.{openAppend}
-use Rattle.power.specs.Book.{File, Book, idOf, enteredAll, beforeSteps, openedFor, afterSteps, written}
+use Rattle.power.specs.Book.{File, Book, idOf, ifSet, enteredAll, beforeSteps, openedFor, afterSteps, written}
 use Rattle.power.specs.History.{World, ifOk, withLeft, ran, fedBy, Readable}
 use Rattle.power.proofs.Whole.{fileOf, Whole, TailAt, Stands, Keeps}
 use Rattle.power.proofs.Members.{Mem}
@@ -192,7 +192,7 @@ module _ (left : ℕ) (name : List ℕ) (rolls : Bool) (dir : List ℕ) (w : Wor
     refused-keeps : Kept
     refused-keeps = rw (refused-world, refused-book) (keeps-medium m (k .readable) k)
 
-  module _ (s id : ℕ) (h : s < 64) (e : diskOf (w .vol) (w .store) .entry s ≡ named name id) (d : Directed roll dir)
+  module _ (s id : ℕ) (h : s < 64) (e : diskOf (w .vol) (w .store) .entry s ≡ named name id) (d : Directed roll (ifSet rolls dir))
       (q : out ≡ opened (w .vol) m (w .store) (k .layout) b (k .whole) (k .readable) roll s id) where
     abbrev segments : List Segment
     segments = k .layout s
@@ -207,7 +207,7 @@ module _ (left : ℕ) (name : List ℕ) (rolls : Bool) (dir : List ℕ) (w : Wor
     served = writtenBy (nextToken m) id (w .store)
 
     abbrev begun : Book
-    begun = openedFor (idOf name (b .files)) dir b
+    begun = openedFor (idOf name (b .files)) (ifSet rolls dir) b
 
     opened-world : ran w (openAppend left name rolls dir) .world ≡ record { vol = w .vol; store = served; appender = new; medium = withToken m }
     unfolding ran openCall opening ifOk openedOut
@@ -233,7 +233,7 @@ module _ (left : ℕ) (name : List ℕ) (rolls : Bool) (dir : List ℕ) (w : Wor
           tail = tail-at (w .store .head .chunk) (length (last .payloads));
           buffer = length-zeros 486;
           file = book-id (w .vol) m (w .store) (k .layout) b (k .whole) (k .readable) s name id h e;
-          rollover = λ q. sym (d .same q);
+          rollover = sym (d .same);
           fine = d .fine;
           unwritten = refl;
         }

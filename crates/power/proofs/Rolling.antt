@@ -3,6 +3,7 @@ use Prim.Native.Nat.{ℕ}
 use mathlib.Core.Path.{_≡_, refl, sym, ap, _∙_}
 use mathlib.Core.Logic.{_≢_}
 use mathlib.Core.Bool.{Bool, true, false}
+use mathlib.Core.Option.{some}
 use mathlib.Core.List.{List, [], _∷_}
 use lib.ListN.{length}
 use Rattle.le.specs.Choice.{pick}
@@ -52,9 +53,9 @@ module _ {t : Terms} {vol : List ℕ} {m : Medium} {st : Store} {a : Appender} {
       rw (n .0, n .1, n .2) l
 
   -- the file that goes is the book's
-  picked : withoutOldest (dirBytes (a .dir)) (sparedBy (isOpen (st .writer)) (openId (st .writer))) (b .files) ≡ withoutOldest (t .dir) (t .spared) (b .files)
+  picked : withoutOldest (some (dirBytes (a .dir))) (sparedBy (isOpen (st .writer)) (openId (st .writer))) (b .files) ≡ withoutOldest (t .dir) (t .spared) (b .files)
   unfolding pick
-  picked = rw (l .writer, l .spared, l .dir, s .rollover rolls) refl
+  picked = rw (l .writer, l .spared, l .dir, s .rollover, rolls) refl
 
   module _ (went : Went vol m st G b (dirBytes (a .dir)) (isOpen (st .writer)) (openId (st .writer)) g) where
     abbrev H : ℕ → List Segment

@@ -4,6 +4,7 @@
 use Prim.Native.Nat.{ℕ, _+_, _-_, _/_, _^_, _≤_, _<_}
 use mathlib.Core.Path.{_≡_, refl, sym, ap, subst, _∙_}
 use mathlib.Core.Bool.{Bool, true, false}
+use mathlib.Core.Option.{none}
 use mathlib.Core.List.{List, [], _∷_, map}
 use native.Mathlib.Nat.{zero-add}
 use native.Mathlib.Omega.{arith}
@@ -164,7 +165,7 @@ module _ (n size seed : ℕ) (m : Medium) (ap₀ : Appender) (enough : 64 ≤ n 
       the payloads = record { name = name; id = 1; chunks = 1; payloads = payloads }
 
       abbrev with : List (List ℕ) → List ℕ → Book
-      with payloads unwritten = record { next = 2; files = the payloads ∷ []; file = 1; rollover = []; unwritten = unwritten }
+      with payloads unwritten = record { next = 2; files = the payloads ∷ []; file = 1; rollover = none; unwritten = unwritten }
 
       create-book : written making (fedBy start making) newBook ≡ with [] []
       unfolding written termsOf enteredAll entered beforeSteps afterSteps pick
@@ -312,7 +313,7 @@ module _ (seed : ℕ) (m : Medium) (ap₀ : Appender) (left : 11 ≤ m .left) (n
       next = 2;
       files = (record { name = name; id = 1; chunks = 1; payloads = bytes ∷ [] }) ∷ [];
       file = 1;
-      rollover = [];
+      rollover = none;
       unwritten = [];
     })
     one-batch =

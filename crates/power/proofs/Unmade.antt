@@ -42,7 +42,7 @@ stands-kept s e size g f r u =
       tail = rw (g, size) (s .tail);
       buffer = s .buffer;
       file = f ∙ s .file;
-      rollover = λ q. r ∙ s .rollover q;
+      rollover = r ∙ s .rollover;
       fine = s .fine;
       unwritten = u ∙ s .unwritten;
     }

@@ -20,7 +20,7 @@ use Rattle.safe.specs.Inv.{Inv}
 use Rattle.layout.specs.Views.{Disk, named, diskOf}
 use Rattle.layout.specs.Segments.{Segment, segmentAt, payloadsOf, tally, Good}
 use Rattle.folds.specs.Rows.{listedIn}
-use Rattle.power.specs.Book.{File, Book}
+use Rattle.power.specs.Book.{File, Book, ifSet}
 use Rattle.power.specs.History.{World, Readable}
 
 -- ---- the files of the book and the directory
@@ -66,7 +66,7 @@ pub record Stands (vol : List ℕ) (st : Store) (ap : Appender) (G : ℕ → Lis
   pub tail : TailAt (ap .tail) (length (segmentAt (G (ap .slot)) (ap .position) .payloads)) (st .head .chunk)
   pub buffer : length (ap .buffer) ≡ 486
   pub file : b .file ≡ ap .id
-  pub rollover : ap .rolls ≡ true → b .rollover ≡ dirBytes (ap .dir)
+  pub rollover : b .rollover ≡ ifSet (ap .rolls) (dirBytes (ap .dir))
   pub fine : ap .rolls ≡ true → (ap .dir .length ≤ 40) × (dirOk (dirBytes (ap .dir)) ≡ true)
   pub unwritten : b .unwritten ≡ part 0 (ap .fill) (ap .buffer) ++ rest
 

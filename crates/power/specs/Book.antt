@@ -1,7 +1,8 @@
--- 01, "Book", from that section's words alone: it knows of no sector, slot, header or handle. It is fed the calls' arguments and of each call its
--- refusal, the kinds of its steps in order, and the open file. Assumes nothing.
+-- 01, "Book", from that section's words alone. It is fed the calls' arguments and of each call its refusal, the kinds of its steps in order, and the
+-- open file. The medium records, readers and lent bytes among the arguments it never looks at, so it knows of no sector, slot, header or handle.
+-- Assumes nothing.
 use Prim.Native.Nat.{ℕ, _+_, _-_, min}
-use mathlib.Core.Bool.{Bool, true, false, not, _&&_}
+use mathlib.Core.Bool.{Bool, false, not, _&&_}
 use mathlib.Core.Option.{Option, none, some}
 use mathlib.Core.List.{List, [], _∷_, _++_, map}
 use lib.Dec.{eqb}
@@ -18,12 +19,12 @@ pub record File : Type 0 where
   pub chunks : ℕ
   pub payloads : List (List ℕ)
 
--- next id, files, the appender's file by its id, its rollover directory and its unwritten bytes
+-- next id, files, the appender's file by its id, its rollover directory where one is set, and its unwritten bytes
 pub record Book : Type 0 where
   pub next : ℕ
   pub files : List File
   pub file : ℕ
-  pub rollover : List ℕ
+  pub rollover : Option (List ℕ)
   pub unwritten : List ℕ
 
 -- what the book is fed of a call
@@ -68,8 +69,10 @@ unfoldable pub withoutId : Option ℕ → List File → List File
 withoutId none fs = fs
 withoutId (some id) fs = keep (λ f. not (eqb (f .id) id)) fs
 
-unfoldable pub withoutOldest : List ℕ → Option ℕ → List File → List File
-withoutOldest dir spared fs = withoutId (smallest (keep (mayGo dir spared) fs)) fs
+-- from no directory none goes
+unfoldable pub withoutOldest : Option (List ℕ) → Option ℕ → List File → List File
+withoutOldest none spared fs = fs
+withoutOldest (some dir) spared fs = withoutId (smallest (keep (mayGo dir spared) fs)) fs
 
 unfoldable pub withoutName : List ℕ → List File → List File
 withoutName name fs = keep (λ f. not (sameBytes name (f .name))) fs
@@ -81,22 +84,26 @@ idOf name (f ∷ fs) = pick (sameBytes name (f .name)) (f .id) (idOf name fs)
 
 -- ---- steps
 
--- what a call's steps go by: its name, the directory that a file goes from, and the file spared there. Extending and delete_oldest spare the open
--- file; create's rollover spares none
+-- a rollover's directory counts only where the rollover is set
+abbrev pub ifSet : Bool → List ℕ → Option (List ℕ)
+ifSet rolls dir = pick rolls (some dir) none
+
+-- what a call's steps go by: its name, the directory that a file goes from, if any, and the file spared there. Extending and delete_oldest spare the
+-- open file; create's rollover spares none
 pub record Terms : Type 0 where
   pub name : List ℕ
-  pub dir : List ℕ
+  pub dir : Option (List ℕ)
   pub spared : Option ℕ
 
 abbrev pub noTerms : Terms
-noTerms = record { name = []; dir = []; spared = none }
+noTerms = record { name = []; dir = none; spared = none }
 
 unfoldable pub termsOf : Call → Option ℕ → Book → Terms
-termsOf (create left name rolls dir) writer b = record { name = name; dir = dir; spared = none }
+termsOf (create left name rolls dir) writer b = record { name = name; dir = ifSet rolls dir; spared = none }
 termsOf (append left bytes) writer b = record { name = []; dir = b .rollover; spared = writer }
 termsOf (sync left) writer b = record { name = []; dir = b .rollover; spared = writer }
-termsOf (delete left name) writer b = record { name = name; dir = []; spared = none }
-termsOf (deleteOldest left dir) writer b = record { name = []; dir = dir; spared = writer }
+termsOf (delete left name) writer b = record { name = name; dir = none; spared = none }
+termsOf (deleteOldest left dir) writer b = record { name = []; dir = some dir; spared = writer }
 termsOf (mount m) writer b = noTerms
 termsOf (format m size seed) writer b = noTerms
 termsOf (openAppend left name rolls dir) writer b = noTerms
@@ -105,21 +112,20 @@ termsOf (query q) writer b = noTerms
 abbrev pub withFiles : List File → Book → Book
 withFiles fs b = record { next = b .next; files = fs; file = b .file; rollover = b .rollover; unwritten = b .unwritten }
 
-unfoldable pub entered : Terms → Kind → Book → Book
-entered t formatted b = record { next = 1; files = []; file = b .file; rollover = b .rollover; unwritten = b .unwritten }
-entered t rolledOver b = withFiles (withoutOldest (t .dir) (t .spared) (b .files)) b
-entered t deletedOldest b = withFiles (withoutOldest (t .dir) (t .spared) (b .files)) b
-entered t deleted b = withFiles (withoutName (t .name) (b .files)) b
-entered t created b =
+-- a file more: its name, the next id (then 1 more), one chunk, no payload
+abbrev pub withNew : List ℕ → Book → Book
+withNew name b =
     record {
       next = b .next + 1;
-      files = b .files ++ ((record { name = t .name; id = b .next; chunks = 1; payloads = [] }) ∷ []);
+      files = b .files ++ ((record { name = name; id = b .next; chunks = 1; payloads = [] }) ∷ []);
       file = b .file;
       rollover = b .rollover;
       unwritten = b .unwritten;
     }
-entered t extended b = withFiles (onFile (b .file) withChunk (b .files)) b
-entered t recorded b =
+
+-- the first 486 unwritten bytes, or all if fewer, become the appender's file's next payload
+abbrev pub withRecord : Book → Book
+withRecord b =
     record {
       next = b .next;
       files = onFile (b .file) (withPayload (take 486 (b .unwritten))) (b .files);
@@ -127,6 +133,15 @@ entered t recorded b =
       rollover = b .rollover;
       unwritten = drop 486 (b .unwritten);
     }
+
+unfoldable pub entered : Terms → Kind → Book → Book
+entered t formatted b = record { next = 1; files = []; file = b .file; rollover = b .rollover; unwritten = b .unwritten }
+entered t rolledOver b = withFiles (withoutOldest (t .dir) (t .spared) (b .files)) b
+entered t deletedOldest b = withFiles (withoutOldest (t .dir) (t .spared) (b .files)) b
+entered t deleted b = withFiles (withoutName (t .name) (b .files)) b
+entered t created b = withNew (t .name) b
+entered t extended b = withFiles (onFile (b .file) withChunk (b .files)) b
+entered t recorded b = withRecord b
 
 unfoldable pub enteredAll : Terms → List Kind → Book → Book
 enteredAll t [] b = b
@@ -147,13 +162,13 @@ beforeSteps (delete left name) b = b
 beforeSteps (deleteOldest left dir) b = b
 beforeSteps (query q) b = b
 
--- an accepted create or open_append sets the appender's file and rollover directory, with nothing unwritten
-abbrev pub openedFor : ℕ → List ℕ → Book → Book
+-- an accepted create or open_append sets the appender's file and rollover directory, or none, with nothing unwritten
+abbrev pub openedFor : ℕ → Option (List ℕ) → Book → Book
 openedFor id dir b = record { next = b .next; files = b .files; file = id; rollover = dir; unwritten = [] }
 
 unfoldable pub afterSteps : Call → Book → Book
-afterSteps (create left name rolls dir) b = openedFor (b .next - 1) dir b
-afterSteps (openAppend left name rolls dir) b = openedFor (idOf name (b .files)) dir b
+afterSteps (create left name rolls dir) b = openedFor (b .next - 1) (ifSet rolls dir) b
+afterSteps (openAppend left name rolls dir) b = openedFor (idOf name (b .files)) (ifSet rolls dir) b
 afterSteps (mount m) b = b
 afterSteps (format m size seed) b = b
 afterSteps (append left bytes) b = b
@@ -170,4 +185,4 @@ written c fed b =
 
 -- after the format that a history starts with
 abbrev pub newBook : Book
-newBook = record { next = 1; files = []; file = 0; rollover = []; unwritten = [] }
+newBook = record { next = 1; files = []; file = 0; rollover = none; unwritten = [] }

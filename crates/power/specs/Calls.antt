@@ -1,5 +1,5 @@
--- Demand 3: the calls of a history, with their arguments. Writes left is set anew with each call that can write, to any number; a mount or format gets
--- a whole medium record. A read or seek gets any reader. Assumes nothing.
+-- Demand 3: the calls of a history, with their arguments. Writes left is set anew, to any number, with each call that can write and with open_append,
+-- which writes nothing; a mount or format gets a whole medium record. A read or seek gets any reader. Assumes nothing.
 use Prim.Native.Nat.{ℕ}
 use mathlib.Core.Bool.{Bool}
 use mathlib.Core.List.{List}

@@ -2,12 +2,11 @@
 -- and each file read from its start gives exactly the book's payloads, in order, no hole, then end. Assumes nothing.
 use Prim.Native.Nat.{ℕ, _*_, _≤_, _<_}
 use mathlib.Core.Path.{_≡_}
-use mathlib.Core.Bool.{true}
-use mathlib.Core.List.{List, [], _∷_, List·Memᴰ}
+use mathlib.Core.List.{List, [], List·Memᴰ}
 use lib.ListN.{length, getD}
 use Rattle.le.specs.Part.{part}
 use Rattle.medium.specs.declared.Medium.{Medium}
-use Rattle.medium.specs.Refusal.{Answer, ok}
+use Rattle.medium.specs.Refusal.{ok}
 use Rattle.directory.specs.Rows.{rowOf}
 use Rattle.plan.specs.Copy.{Skipped}
 use Rattle.append.specs.declared.Appender.{Appender}
@@ -53,3 +52,11 @@ NoBatchLost P =
     → Clean vol (formatCall vol m size seed .call .store)
     → Premise P (started (formatCall vol m size seed) ap) calls
     → Holds (after (started (formatCall vol m size seed) ap) calls .vol) (bookOf (started (formatCall vol m size seed) ap) calls newBook)
+
+-- demand 3 in the customer's words
+abbrev pub Demand3 : Type 0
+Demand3 = NoBatchLost Honest
+
+-- and under the weaker premise, so it says more
+abbrev pub Demand3Weaker : Type 0
+Demand3Weaker = NoBatchLost Distinct

@@ -14,7 +14,7 @@ use Rattle.handles.specs.declared.Store.{Store}
 use Rattle.handles.specs.declared.Writer.{Writer}
 use Rattle.handles.specs.declared.Writer.the-variants.{Nobody, Open}
 use Rattle.record.specs.Record.{carriesOf, dataAt}
-use Rattle.plan.specs.Copy.{Kind, Skipped, Step}
+use Rattle.plan.specs.Copy.{Skipped, Step}
 use Rattle.append.specs.declared.Appender.{Appender}
 use Rattle.append.specs.Calls.{AppCall, appendCall, syncCall}
 use Rattle.reader.specs.Calls.{NextCall, nextCall, SeekCall, seekCall}
@@ -22,7 +22,7 @@ use Rattle.store.specs.Reading.{StoreCall, mountCall, FindCall, findCall, ListC
 use Rattle.store.specs.Writing.{WriteCall, formatCall, deleteCall, OldestCall, oldestCall}
 use Rattle.store.specs.Opening.{createCall, openCall}
 use Rattle.power.specs.Calls.{Query, list, find, reader, next, seek, Call, mount, format, create, openAppend, append, sync, delete, deleteOldest, query}
-use Rattle.power.specs.Book.{Book, Fed, written, newBook}
+use Rattle.power.specs.Book.{Book, Fed, written}
 
 -- the volume as left, and the handles last returned
 pub record World : Type 0 where
@@ -83,12 +83,21 @@ ranOldest w c =
     }
 
 -- a refused create or open_append hands back no appender
-abbrev pub ranOpen : World → AppCall → Ran
-ranOpen w c =
+abbrev pub ranCreate : World → AppCall → Ran
+ranCreate w c =
     record {
       world = record { vol = c .vol; store = c .store; appender = ifOk (c .answer) (c .appender) (w .appender); medium = c .medium };
       accepted = isOk (c .answer);
       steps = c .steps;
+    }
+
+-- open_append writes nothing and makes no step
+abbrev pub ranReopen : World → AppCall → Ran
+ranReopen w c =
+    record {
+      world = record { vol = w .vol; store = c .store; appender = ifOk (c .answer) (c .appender) (w .appender); medium = c .medium };
+      accepted = isOk (c .answer);
+      steps = [];
     }
 
 abbrev pub ranAppend : AppCall → Ran
@@ -114,8 +123,8 @@ answered w (seek rd number) = let c : SeekCall = seekCall (w .vol) (w .medium) (
 unfoldable pub ran : World → Call → Ran
 ran w (mount m) = ranMount w (mountCall (w .vol) m)
 ran w (format m size seed) = ranFormat w (formatCall (w .vol) m size seed)
-ran w (create left name rolls dir) = ranOpen w (createCall (w .vol) (withLeft left (w .medium)) (w .store) name rolls dir)
-ran w (openAppend left name rolls dir) = ranOpen w (openCall (w .vol) (withLeft left (w .medium)) (w .store) name rolls dir)
+ran w (create left name rolls dir) = ranCreate w (createCall (w .vol) (withLeft left (w .medium)) (w .store) name rolls dir)
+ran w (openAppend left name rolls dir) = ranReopen w (openCall (w .vol) (withLeft left (w .medium)) (w .store) name rolls dir)
 ran w (append left bytes) = ranAppend (appendCall (w .vol) (withLeft left (w .medium)) (w .store) (w .appender) bytes)
 ran w (sync left) = ranAppend (syncCall (w .vol) (withLeft left (w .medium)) (w .store) (w .appender))
 ran w (delete left name) = ranDelete w (deleteCall (w .vol) (withLeft left (w .medium)) (w .store) name)

@@ -19,7 +19,7 @@ use Rattle.remove.specs.Remove.{removeOf, removeOldestOf, isOpen, openId}
 use Rattle.store.specs.declared.StoreAnswer.{StoreAnswer}
 use Rattle.store.specs.Asked.{askedOf}
 use Rattle.store.specs.Reading.{storeAnswer}
-use Rattle.store.specs.Writing.{WriteCall, answerOf, asGiven, onNamed, deleteCall, noneOf, OldestCall, goneAnswer, oldestGone, oldestCall}
+use Rattle.store.specs.Writing.{WriteCall, answerOf, asGiven, onNamed, deleteCall, noneOf, OldestCall, goneAnswer, oldestTold, oldestCall}
 
 abbrev pub Gives : List ℕ → StoreAnswer → WriteCall → Type 0
 Gives vol r d = (vol ≡ d .vol) × (storeAnswer r ≡ d .call)
@@ -44,14 +44,14 @@ module _ (vol : List ℕ) (m : Medium) (st : Store) (name : List ℕ) {o : Outco
     removed h w k = rw (k, ← going done, ← g, h) (w .0, ap (λ (z : Committed). storeAnswer (answerOf z)) (w .1))
 
 abbrev pub GivesGone : List ℕ → Gone → OldestCall → Type 0
-GivesGone vol r d = (vol ≡ d .vol) × (goneAnswer r ≡ d .call)
+GivesGone vol r d = (vol ≡ d .vol) × (goneAnswer r ≡ d .call) × (r ≡ d .gone)
 
 module _ (vol : List ℕ) (m : Medium) (st : Store) (dir : List ℕ) {o : Outcome} {fine : Bool} (f : fine ≡ dirOk dir) (q : o ≡ askedOf vol st fine) where
   pub dir-refused : {e : Error} {r : Gone} → o ≡ No e → r ≡ noneOf e st m → GivesGone vol r (oldestCall vol m st dir)
-  unfolding oldestCall oldestGone onDone
-  dir-refused h k = rw (k, ← f, ← q, h) (refl, refl)
+  unfolding oldestCall oldestTold onDone
+  dir-refused h k = rw (k, ← f, ← q, h) (refl, refl, refl)
 
   pub oldest-told : {v : List ℕ} {r : Gone} {k : Bool} {id : ℕ} → o ≡ Done → k ≡ isOpen (st .writer) → id ≡ openId (st .writer)
       → (v ≡ removeOldestOf vol m st dir k id .vol) × (r ≡ removeOldestOf vol m st dir k id .ans) → GivesGone v r (oldestCall vol m st dir)
-  unfolding oldestCall oldestGone onDone
-  oldest-told h a b w = rw (← f, ← q, h, ← a, ← b) (w .0, ap goneAnswer (w .1))
+  unfolding oldestCall oldestTold onDone
+  oldest-told h a b w = rw (← f, ← q, h, ← a, ← b) (w .0, ap goneAnswer (w .1), w .1)

@@ -1,17 +1,19 @@
 -- 01, "Edges": the starred rows, made of the definitions. One statement has them all; proofs/Starred proves it. Assumes nothing.
-use Prim.Native.Nat.{ℕ, _-_, _/_, _^_, _≤_, _<_}
+use Prim.Native.Nat.{ℕ, _+_, _-_, _/_, _^_, _≤_, _<_}
 use mathlib.Core.Path.{_≡_}
 use mathlib.Core.Bool.{true, false}
 use mathlib.Core.List.{List, [], _∷_, _++_}
 use lib.ListN.{length, replicate}
 use Rattle.le.specs.Part.{zeros}
-use Rattle.names.specs.Names.{nameOk, dirOk}
+use Rattle.names.specs.Names.{nameOk, dirOk, inDir}
 use Rattle.medium.specs.declared.Medium.{Medium}
 use Rattle.medium.specs.declared.Outcome.the-variants.{Done}
 use Rattle.medium.specs.Refusal.{ok, refused}
 use Rattle.medium.specs.Sector.{sectorsOf, readOf}
 use Rattle.handles.specs.declared.Header.{Header}
 use Rattle.handles.specs.declared.Store.{Store}
+use Rattle.handles.specs.declared.Writer.the-variants.{Nobody}
+use Rattle.handles.specs.Handles.{storeOk}
 use Rattle.header.specs.Header.{ours}
 use Rattle.header.specs.Copies.{copyOf, headersOf}
 use Rattle.table.specs.declared.Link.{Link}
@@ -21,8 +23,8 @@ use Rattle.format.specs.Format.{newestOf}
 use Rattle.append.specs.declared.Appender.{Appender}
 use Rattle.append.specs.declared.Tail.the-variants.{At}
 use Rattle.append.specs.Calls.{mayWrite, AppCall, appendCall, roomCall}
-use Rattle.store.specs.Reading.{mountCall}
-use Rattle.store.specs.Writing.{formatCall}
+use Rattle.store.specs.Reading.{mountCall, findCall}
+use Rattle.store.specs.Writing.{formatCall, oldestCall}
 
 -- n bytes `a`
 abbrev pub letters : ℕ → List ℕ
@@ -32,9 +34,9 @@ letters n = replicate n 97
 abbrev pub aRecord : Step
 aRecord = record { kind = recorded; skipped = [] }
 
--- an accepted append that wrote so many records, and the bytes until the next
-abbrev pub Wrote : AppCall → ℕ → ℕ → Type 0
-Wrote c records room = (c .answer ≡ ok tt) × (c .steps ≡ replicate records aRecord) × (roomCall (c .appender) ≡ ok room)
+-- an accepted append that wrote so many records, each of them one of the medium's writes, and the bytes until the next
+abbrev pub Wrote : Medium → AppCall → ℕ → ℕ → Type 0
+Wrote m c records room = (c .answer ≡ ok tt) × (c .steps ≡ replicate records aRecord) × (c .medium .left + records ≡ m .left) × (roomCall (c .appender) ≡ ok room)
 
 -- an appender that may write, with nothing unwritten in its 486 bytes, room in its chunk, and a write left
 pub record Ready (vol : List ℕ) (m : Medium) (st : Store) (ap : Appender) : Type 0 where
@@ -50,6 +52,7 @@ pub record Starred : Type 0 where
   -- empty name: 1; empty directory: root
   pub empty-name : nameOk [] ≡ false
   pub root : dirOk [] ≡ true
+  pub root-all : (name : List ℕ) → inDir [] name ≡ true
   -- `/`, `a//b`: 1
   pub slash : nameOk (47 ∷ []) ≡ false
   pub slash-dir : dirOk (47 ∷ []) ≡ false
@@ -59,6 +62,9 @@ pub record Starred : Type 0 where
   pub forty-one : nameOk (letters 41) ≡ false
   pub forty-dir : dirOk (letters 39 ++ (47 ∷ [])) ≡ true
   pub forty-one-dir : dirOk (letters 40 ++ (47 ∷ [])) ≡ false
+  -- and that is 1: a name or a directory that fails its rule, of a store value that passes
+  pub bad-name : (vol : List ℕ) (m : Medium) (st : Store) (name : List ℕ) → storeOk st (sectorsOf vol) ≡ true → nameOk name ≡ false → findCall vol m st name .answer ≡ refused 1
+  pub bad-dir : (vol : List ℕ) (m : Medium) (st : Store) (dir : List ℕ) → storeOk st (sectorsOf vol) ≡ true → dirOk dir ≡ false → oldestCall vol m st dir .call .answer ≡ refused 1
   -- size 512, S 575: 2; 576: one chunk
   pub small : (vol : List ℕ) (m : Medium) (seed : ℕ) → headersOf vol m .outcome ≡ Done → sectorsOf vol ≡ 575
       → formatCall vol m 512 seed .call .answer ≡ refused 2
@@ -67,11 +73,12 @@ pub record Starred : Type 0 where
   -- slot 2, position 3, 5 records partial: bytes 83 02 03 80 hexadecimal
   pub link : linkBytes (record { slot = 2; position = 3; partial = true; records = 5 }) ≡ 0x83 ∷ 0x02 ∷ 0x03 ∷ 0x80 ∷ []
   -- appending 485, 486, 487 bytes: 0, 1, 1 records; 1, 486, 485 until the next
-  pub append-485 : (vol : List ℕ) (m : Medium) (st : Store) (ap : Appender) (bytes : List ℕ) → Ready vol m st ap → length bytes ≡ 485 → Wrote (appendCall vol m st ap bytes) 0 1
-  pub append-486 : (vol : List ℕ) (m : Medium) (st : Store) (ap : Appender) (bytes : List ℕ) → Ready vol m st ap → length bytes ≡ 486 → Wrote (appendCall vol m st ap bytes) 1 486
-  pub append-487 : (vol : List ℕ) (m : Medium) (st : Store) (ap : Appender) (bytes : List ℕ) → Ready vol m st ap → length bytes ≡ 487 → Wrote (appendCall vol m st ap bytes) 1 485
+  pub append-485 : (vol : List ℕ) (m : Medium) (st : Store) (ap : Appender) (bytes : List ℕ) → Ready vol m st ap → length bytes ≡ 485 → Wrote m (appendCall vol m st ap bytes) 0 1
+  pub append-486 : (vol : List ℕ) (m : Medium) (st : Store) (ap : Appender) (bytes : List ℕ) → Ready vol m st ap → length bytes ≡ 486 → Wrote m (appendCall vol m st ap bytes) 1 486
+  pub append-487 : (vol : List ℕ) (m : Medium) (st : Store) (ap : Appender) (bytes : List ℕ) → Ready vol m st ap → length bytes ≡ 487 → Wrote m (appendCall vol m st ap bytes) 1 485
   -- zeroed volume: mount 5
   pub zeroed : (n : ℕ) (m : Medium) → 64 ≤ n / 512 → readOf m 0 ≡ Done → readOf m 32 ≡ Done → mountCall (zeros n) m .answer ≡ refused 5
   -- equal generations: mount A
   pub equal : (vol : List ℕ) (m : Medium) → 64 ≤ sectorsOf vol → readOf m 0 ≡ Done → readOf m 32 ≡ Done → (x y : Header)
-      → copyOf vol 0 ≡ ours x → copyOf vol 32 ≡ ours y → x .generation ≡ y .generation → mountCall vol m .store .copy ≡ 0
+      → copyOf vol 0 ≡ ours x → copyOf vol 32 ≡ ours y → x .generation ≡ y .generation
+      → mountCall vol m ≡ record { answer = ok tt; store = record { copy = 0; head = x; writer = Nobody }; medium = m }

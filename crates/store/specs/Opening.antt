@@ -39,9 +39,9 @@ opening vol m st name rolls dir work =
 -- ---- create
 
 unfoldable pub createCall : List ℕ → Medium → Store → List ℕ → Bool → List ℕ → AppCall
-createCall vol m st name rolls dir = opening vol m st name rolls dir (λ over. createOf name over vol m st)
+createCall vol m st name rolls dir = opening vol m st name rolls dir (λ roll. createOf name roll vol m st)
 
 -- ---- open_append: it writes nothing
 
 unfoldable pub openCall : List ℕ → Medium → Store → List ℕ → Bool → List ℕ → AppCall
-openCall vol m st name rolls dir = opening vol m st name rolls dir (λ over. reopenOf name over vol m st)
+openCall vol m st name rolls dir = opening vol m st name rolls dir (λ roll. reopenOf name roll vol m st)

@@ -79,17 +79,19 @@ pub record GoneCall : Type 0 where
 abbrev pub goneAnswer : Gone → GoneCall
 goneAnswer g = record { answer = onDone (g .outcome) (ok (wentOf g)) (λ e. refused (numberOf e)); store = g .store; medium = g .medium }
 
+-- beside the answer as 01 has it, the struct that tells it, whole
 pub record OldestCall : Type 0 where
   pub vol : List ℕ
   pub call : GoneCall
+  pub gone : Gone
   pub steps : List Step
 
 -- the open file is spared; where no file goes, no step is made
-unfoldable pub oldestGone : GoneOut → OldestCall
-oldestGone g = record { vol = g .vol; call = goneAnswer (g .ans); steps = pick (g .ans .any) ((record { kind = deletedOldest; skipped = g .skipped }) ∷ []) [] }
+unfoldable pub oldestTold : GoneOut → OldestCall
+oldestTold g = record { vol = g .vol; call = goneAnswer (g .ans); gone = g .ans; steps = pick (g .ans .any) ((record { kind = deletedOldest; skipped = g .skipped }) ∷ []) [] }
 
 unfoldable pub oldestCall : List ℕ → Medium → Store → List ℕ → OldestCall
 oldestCall vol m st dir =
     onDone (askedDir vol st dir)
-    (oldestGone (removeOldestOf vol m st dir (isOpen (st .writer)) (openId (st .writer))))
-    (λ e. oldestGone (record { vol = vol; ans = noneOf e st m; skipped = [] }))
+    (oldestTold (removeOldestOf vol m st dir (isOpen (st .writer)) (openId (st .writer))))
+    (λ e. oldestTold (record { vol = vol; ans = noneOf e st m; skipped = [] }))

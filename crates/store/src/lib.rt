@@ -272,7 +272,7 @@ fn none_gone(e: Error, store: Store, medium: Medium) -> Gone
 
 // Deletes the oldest file in a directory other than the open appender's, and tells its name, or that there is none.
 pub fn delete_oldest(volume: &mut [u8], medium: Medium, store: Store, dir: &[u8]) -> Gone
-    ensures { λ r. ⌜ (now (volume .exit) ≡ oldestCall (now (volume .entry)) medium store (now (dir .entry)) .vol) × (goneAnswer r ≡ oldestCall (now (volume .entry)) medium store (now (dir .entry)) .call) ⌝ }
+    ensures { λ r. ⌜ (now (volume .exit) ≡ oldestCall (now (volume .entry)) medium store (now (dir .entry)) .vol) × (goneAnswer r ≡ oldestCall (now (volume .entry)) medium store (now (dir .entry)) .call) × (r ≡ oldestCall (now (volume .entry)) medium store (now (dir .entry)) .gone) ⌝ }
 {
     let o = asked(&volume[..], store, names::dir_ok(dir));
     if let Outcome::No(e) = o {

@@ -595,13 +595,7 @@ fn put_all(
 }
 
 // Bytes that fit before the record is full are one run, as most calls have them: the loop would copy the appender four times more.
-fn put(
-    volume: &mut [u8],
-    medium: Medium,
-    store: Store,
-    appender: Appender,
-    bytes: &[u8],
-) -> Flushed
+fn put(volume: &mut [u8], medium: Medium, store: Store, appender: Appender, bytes: &[u8]) -> Flushed
     requires { ⌜ (storeOk store (sectorsOf (now volume)) ≡ true) × (Fit appender store) × (appender .fill < 486) ⌝ }
     ensures { λ r. ⌜ (now (volume .exit) ≡ appendOf (now (bytes .entry)) (now (volume .entry)) medium store appender .vol) × (r ≡ appendOf (now (bytes .entry)) (now (volume .entry)) medium store appender .ans) ⌝ }
 {

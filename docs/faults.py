@@ -1,0 +1,97 @@
+#!/usr/bin/env python3
+"""One-line faults put into the port's code, each in a copy of the repository: the prover must refuse each.
+
+    docs/faults.py            all of them, some minutes; prints a table, status 1 if one is not refused
+    docs/faults.py CRATE..    those of these crates
+
+It proves what stands below the crates once, then each fault by itself, as a must-fail edit (`rt must-fail`). docs/FAULTS.md has the
+last table that it printed. It is not part of ./test. The first ones are the faults that tests/oracle/mutants puts into the Rust.
+"""
+import os
+import re
+import shutil
+import subprocess
+import sys
+import tempfile
+
+# crate, name, what is wrong, old text, new text; the file is src/lib.rt
+FAULTS = [
+    ("record", "record_without_file", "a record passes without its file id", "(le::get_u32(sector, 12) == file)", "(le::get_u32(sector, 12) != 0)"),
+    ("record", "record_without_store", "a record passes without its store id", "(le::get_u64(sector, 4) == id)", "(le::get_u64(sector, 4) != 0)"),
+    ("record", "record_without_number", "a record passes without its number", "(le::get_u32(sector, 16) == number)", "(le::get_u32(sector, 16) <= 0xffff_ffff)"),
+    ("record", "record_of_487", "a payload may have 487 bytes", "(length <= 486)", "(length <= 487)"),
+    ("commit", "own_header_zeroed", "a commit zeros the header of its own copy", "handles::base(copy), &zero)", "handles::base(store.copy), &zero)"),
+    ("commit", "other_trusted", "the other copy is trusted whatever store it is of", "    known & (theirs == crc)", "    (theirs == crc)"),
+    ("commit", "stale_goes_on", "a store value that is not current is not refused", "    if !is_current(found, store) {", "    if is_current(found, store) & false {"),
+    ("commit", "old_copy_kept", "the store handed back names the old copy", "store: Store { copy, head, writer },", "store: Store { copy: store.copy, head, writer },"),
+    ("commit", "last_generation_wraps", "the last generation is not refused", "if own.generation == 0xffff_ffff_ffff_ffff {", "if own.generation == 0xffff_ffff_ffff_fffe {"),
+    ("plan", "same_generation", "a commit does not raise the generation", "after.generation = head.generation + 1;", "after.generation = head.generation;"),
+    ("plan", "same_id_again", "create does not advance the next id", "} => id + 1,", "} => id,"),
+    ("plan", "cursor_stays", "the cursor is not moved behind the chunk taken", "} => (chunk + 1) % head.chunks,", "} => chunk % head.chunks,"),
+    ("plan", "mark_in_new_sector", "the partial mark is lost where it is in another table sector", "(partial & (k == 8 + (last as usize) / 128))", "(partial & (k == 8 + (next as usize) / 128))"),
+    ("plan", "links_left", "a removed file keeps its links", "Edit::Remove { slot } => (k == slot / 8) | (8 <= k),", "Edit::Remove { slot } => (k == slot / 8) | (9 <= k),"),
+    ("format", "over_newest", "format writes over the newest copy", "make(volume, medium, copy_for(c), head)", "make(volume, medium, 1 - copy_for(c), head)"),
+    ("format", "magic_first", "format's first header has its magic", "let z = header::write_unmarked(volume, medium, copy, head);", "let z = header::write_head(volume, medium, copy, head);"),
+    ("format", "id_taken_again", "format may take an id that a copy has", "let bad = (id == 0) | taken(c, id);", "let bad = id == 0;"),
+    ("remove", "writer_left_open", "a removed file stays open", "            if open == id {", "            if open != id {"),
+    ("files", "spares_the_first", "create's rollover spares the file with id 1", "&bytes[0..n], false, 0);", "&bytes[0..n], true, 1);"),
+    ("files", "names_twice", "create makes a second file of the name", "            if seen.exists {", "            if seen.exists & false {"),
+    ("reopen", "writes_on", "a chunk that was begun is written further", "    Tail::Reopened(n)", "    Tail::At(n)"),
+    ("reopen", "one_record_less", "the last valid record is not counted", "return Records::Are(index + 1);", "return Records::Are(index);"),
+    ("append", "mark_forgotten", "a reopened chunk is not marked", "write_next(volume, medium, store, appender, true, records)", "write_next(volume, medium, store, appender, false, records)"),
+    ("append", "number_in_chunk", "records are numbered anew in each chunk", "    position * size + index", "    index"),
+    ("append", "bytes_again", "the bytes of a record are written again with the next", "            fill: 0,\n            buffer,\n            rolls: self.rolls,", "            fill: self.fill,\n            buffer,\n            rolls: self.rolls,"),
+    ("append", "error_goes_on", "an error leaves the appender open", "return stopped(e, m, s, shut);", "return stopped(e, m, s, a);"),
+    ("reader", "past_the_mark", "a reader goes past a partial chunk's count", "End::Records(n) => n <= index,", "End::Records(n) => n < index,"),
+    ("table", "first_free", "the free chunk is the first, whatever the cursor", "if (b < cursor) & (cursor <= i) {", "if (b < cursor) & (cursor < i) {"),
+    ("table", "clears_next_slot", "links of another slot are cleared", "if ((owner % 128) as usize) != slot + 1 {", "if ((owner % 128) as usize) != slot {"),
+    ("directory", "older_spared", "files older than the open one are spared too", "let spared = keeping & (id == keep);", "let spared = keeping & (id <= keep);"),
+]
+
+
+def edit_text(old, new):
+    lines = ["file: src/lib.rt"]
+    for a, b in zip(old.split("\n"), new.split("\n")):
+        if a != b:
+            lines += [f"old: {a}", f"new: {b}"]
+    return "\n".join(lines) + "\n"
+
+
+def main():
+    root = os.path.dirname(os.path.dirname(os.path.abspath(__file__)))
+    os.chdir(root)
+    wanted = [f for f in FAULTS if not sys.argv[1:] or f[0] in sys.argv[1:]]
+    bad = 0
+    with tempfile.TemporaryDirectory() as scratch:
+        for name in ("crates", "crates.txt"):
+            (shutil.copytree if os.path.isdir(name) else shutil.copy)(name, os.path.join(scratch, name))
+        if os.path.isdir("target/rlib"):
+            shutil.copytree("target", os.path.join(scratch, "target"), symlinks=True)
+        for crate in os.listdir(os.path.join(scratch, "crates")):
+            shutil.rmtree(os.path.join(scratch, "crates", crate, "must-fail"), ignore_errors=True)
+        for crate, name, _, old, new in wanted:
+            text = open(f"crates/{crate}/src/lib.rt", encoding="utf-8").read()
+            if text.count(old) != 1:
+                print(f"{crate} {name}: the text is there {text.count(old)} times, not once")
+                bad = 1
+                continue
+            folder = os.path.join(scratch, "crates", crate, "must-fail")
+            os.makedirs(folder, exist_ok=True)
+            with open(os.path.join(folder, name + ".edit"), "w", encoding="utf-8") as f:
+                f.write(edit_text(old, new))
+        crates = sorted({f[0] for f in wanted})
+        run = subprocess.run(["rt", "must-fail", *crates], cwd=scratch, capture_output=True, text=True)
+        said = dict(re.findall(r"must-fail (\S+): (.*)", run.stdout + run.stderr))
+    print("| crate | fault | the prover |\n|---|---|---|")
+    for crate, name, what, _, _ in wanted:
+        verdict = said.get(f"{crate}/{name}", "no answer")
+        first = re.search(r"first at ([^;)]*)", verdict)
+        refused = verdict.startswith("refused")
+        bad |= not refused
+        print(f"| {crate} | {what} (`{name}`) | {'refused, first at ' + first.group(1) if refused and first else verdict} |")
+    print(f"\n{sum(said.get(f'{c}/{n}', '').startswith('refused') for c, n, _, _, _ in wanted)} of {len(wanted)} refused")
+    return 1 if bad else 0
+
+
+if __name__ == "__main__":
+    sys.exit(main())

@@ -1,5 +1,5 @@
 #!/usr/bin/env python3
-"""Draws docs/volume.svg and docs/commit.svg. `draw.py --check` draws them anew and compares.
+"""Draws docs/volume.svg, docs/commit.svg and docs/crates.svg. `draw.py --check` draws them anew and compares.
 
 The numbers of the layout stand here once, below; docs/check_format.py holds FORMAT.md's
 tables, the definitions in crates/*/specs and bytes made by the Rust to them."""
@@ -241,7 +241,53 @@ def commit():
     return p.done()
 
 
-PICTURES = {"volume.svg": volume, "commit.svg": commit}
+# The crates in bands, the lowest last; docs/crates.svg. A crate leans only on crates of its own band or of lower ones.
+BANDS = [
+    ("programs and hosts", ["lines", "session", "firmware", "bridge_write", "bridge", "bench_port", "checksum_vectors", "mix_vectors"]),
+    ("demand 3", ["power"]),
+    ("on offer", ["store"]),
+    ("laws for demand 3", ["reading", "folds", "views", "layout", "safe"]),
+    ("files", ["reopen", "files", "append", "remove", "reader"]),
+    ("a copy anew", ["format", "commit", "plan"]),
+    ("layers", ["header", "directory", "table", "record"]),
+    ("a store value, names", ["handles", "names", "words"]),
+    ("ground", ["seal", "medium", "walk", "mix", "checksum", "runs", "le"]),
+]
+LAWS = {"power", "reading", "folds", "views", "layout", "safe"}
+FROM_KIT = {"io", "libc"}
+
+
+def leaning():
+    """crates.txt: what each crate leans on."""
+    path = os.path.join(os.path.dirname(os.path.abspath(__file__)), "..", "crates.txt")
+    rows = [row.split(":") for row in open(path, encoding="utf-8") if ":" in row and not row.startswith("#")]
+    return {name.strip(): set(deps.split()) - FROM_KIT for name, deps in rows}
+
+
+def crates():
+    leans = leaning()
+    band = {name: i for i, (_, names) in enumerate(BANDS) for name in names}
+    assert set(band) == set(leans), "crates.txt and BANDS differ: %s" % (set(band) ^ set(leans))
+    for name, deps in leans.items():
+        for dep in deps:
+            assert band[dep] >= band[name], "%s leans on %s, which stands above it" % (name, dep)
+    high = 60 + 62 * len(BANDS)
+    p = Picture("The crates, each band on the ones below it", high)
+    p.text(20, 30, "The crates: each leans on its own band and on those below. Blue: code and its proofs. Green: laws alone.", 14, SOFT)
+    for i, (label, names) in enumerate(BANDS):
+        y = 48 + 62 * i
+        p.text(20, y + 29, label, 13, SOFT)
+        need = [width_of(name, 14) + 22 for name in names]
+        x = 196
+        for name, w in zip(names, need):
+            p.box(x, y, w, 46, name, GREEN if name in LAWS else BLUE, 14)
+            x += w + 8
+        assert x <= RIGHT + 8, label
+        p.line(20, y + 54, RIGHT, y + 54)
+    return p.done()
+
+
+PICTURES = {"volume.svg": volume, "commit.svg": commit, "crates.svg": crates}
 
 if __name__ == "__main__":
     here = os.path.dirname(os.path.abspath(__file__))

@@ -116,7 +116,7 @@ fn format_line(volume: &mut [u8], s: Session, size: u32, seed: u64) -> Told
             formatted: true,
             created: s.created,
         },
-        reply: Reply::Number(store::chunks(made) as u64),
+        reply: Reply::Number(made.chunks() as u64),
     }
 }
 

@@ -4,9 +4,11 @@
     docs/faults.py            all of them, some minutes; prints a table, status 1 if one is not refused
     docs/faults.py CRATE..    those of these crates
 
-It proves what stands below the crates once, then each fault by itself, as a must-fail edit (`rt must-fail`). docs/FAULTS.md has the
-last table that it printed. It is not part of ./test. The first ones are the faults that tests/oracle/mutants puts into the Rust.
+It proves what stands below the crates once, then each fault by itself, as a must-fail edit (`rt must-fail`). Beside the list below it takes
+the edits in crates/*/faults: those of docs/PROOFS.md that would make the gate too long. docs/FAULTS.md has the last table that it printed.
+It is not part of ./test. The first of the list are the faults that tests/oracle/mutants puts into the Rust.
 """
+import glob
 import os
 import re
 import shutil
@@ -61,6 +63,7 @@ def main():
     root = os.path.dirname(os.path.dirname(os.path.abspath(__file__)))
     os.chdir(root)
     wanted = [f for f in FAULTS if not sys.argv[1:] or f[0] in sys.argv[1:]]
+    further = [p for p in sorted(glob.glob("crates/*/faults/*.edit")) if not sys.argv[1:] or p.split("/")[1] in sys.argv[1:]]
     bad = 0
     with tempfile.TemporaryDirectory() as scratch:
         for name in ("crates", "crates.txt"):
@@ -79,17 +82,23 @@ def main():
             os.makedirs(folder, exist_ok=True)
             with open(os.path.join(folder, name + ".edit"), "w", encoding="utf-8") as f:
                 f.write(edit_text(old, new))
-        crates = sorted({f[0] for f in wanted})
+        for path in further:
+            folder = os.path.join(scratch, "crates", path.split("/")[1], "must-fail")
+            os.makedirs(folder, exist_ok=True)
+            shutil.copy(path, folder)
+        crates = sorted({f[0] for f in wanted} | {p.split("/")[1] for p in further})
         run = subprocess.run(["rt", "must-fail", *crates], cwd=scratch, capture_output=True, text=True)
         said = dict(re.findall(r"must-fail (\S+): (.*)", run.stdout + run.stderr))
+    rows = [(crate, name, f"{what} (`{name}`)") for crate, name, what, _, _ in wanted]
+    rows += [(p.split("/")[1], os.path.basename(p)[: -len(".edit")], f"`{os.path.basename(p)[: -len('.edit')]}`") for p in further]
     print("| crate | fault | the prover |\n|---|---|---|")
-    for crate, name, what, _, _ in wanted:
+    for crate, name, what in rows:
         verdict = said.get(f"{crate}/{name}", "no answer")
         first = re.search(r"first at ([^;)]*)", verdict)
         refused = verdict.startswith("refused")
         bad |= not refused
-        print(f"| {crate} | {what} (`{name}`) | {'refused, first at ' + first.group(1) if refused and first else verdict} |")
-    print(f"\n{sum(said.get(f'{c}/{n}', '').startswith('refused') for c, n, _, _, _ in wanted)} of {len(wanted)} refused")
+        print(f"| {crate} | {what} | {'refused, first at ' + first.group(1) if refused and first else verdict} |")
+    print(f"\n{sum(said.get(f'{c}/{n}', '').startswith('refused') for c, n, _ in rows)} of {len(rows)} refused")
     return 1 if bad else 0
 
 

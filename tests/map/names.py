@@ -57,7 +57,7 @@ def misplaced(cell, title):
             yield f"{item} in crate {crate}"
     if title.startswith("refused edit"):
         for crate, group in re.findall(rf"\b([a-z_]+) {GROUP}", cell):
-            yield from (f"edit {n} of {crate}" for n in in_group(group) if not os.path.exists(f"crates/{crate}/must-fail/{n}.edit"))
+            yield from (f"edit {n} of {crate}" for n in in_group(group) if not any(os.path.exists(f"crates/{crate}/{place}/{n}.edit") for place in ("must-fail", "faults")))
 
 
 words, edits = sources("crates")

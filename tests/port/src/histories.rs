@@ -65,8 +65,9 @@ pub fn forged(m: &mut Maker) {
 impl Maker {
     /// Few chunks, so that the store is often full; now and then two or three table sectors.
     fn small_volume(&mut self) {
+        let any = self.any_geometry();
         let r = &mut self.r;
-        let (sectors, size) = match r.below(16) {
+        let (sectors, size) = any.unwrap_or_else(|| match r.below(16) {
             0 => (64 + r.pick(&[127, 128, 129, 200, 257]), 1),
             1 => (64 + 2 * r.pick(&[128, 129]), 2),
             2 => (64 + r.below(4), 1 + r.below(3)),
@@ -75,7 +76,7 @@ impl Maker {
                 let size = 1 + r.below(4);
                 (64 + size * (1 + r.below(9)) + r.below(size), size)
             }
-        };
+        });
         let fill = r.pick(&["zero", "zero", "ff", "rand"]);
         let extra = r.pick(&[0, 0, 0, 1, 511]);
         let lines = [

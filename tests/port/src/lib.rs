@@ -1,11 +1,13 @@
 //! The port beside the Rust: a script runs on the Rust, and each call that the
-//! port has is put to both with the same bytes, handles and buffers.
+//! port has is put to both with the same bytes, handles and buffers; and the calls
+//! of C firmware to the C functions and the Rust on copies of the volume.
 pub mod bridge;
+pub mod firmware;
 pub mod histories;
 pub mod make;
 use bridge::Told;
 use driver::script::{Session, words};
-use std::collections::{BTreeMap, VecDeque};
+use std::collections::{BTreeMap, BTreeSet, VecDeque};
 use std::panic::{AssertUnwindSafe, catch_unwind};
 
 /// The calls that are put to both, with every refusal that each can give.
@@ -24,6 +26,10 @@ pub const CALLS: &[(&str, &[u32])] = &[
     ("sync", &[3, 4, 5, 6, 7, 10, 11, 12]),
     ("delete", &[1, 3, 4, 5, 6, 7, 9, 11, 12]),
     ("delete_oldest", &[1, 3, 4, 5, 6, 7, 11, 12]),
+    ("store_mount", &[2, 4, 5, 6, 7]),
+    ("store_format", &[2, 4, 6, 12]),
+    ("store_delete", &[1, 2, 4, 5, 6, 7, 9, 12]),
+    ("store_list", &[1, 2, 4, 5, 6, 7]),
 ];
 
 /// A panic of the Rust in a call is an answer and prints nothing; any other prints where.
@@ -37,21 +43,24 @@ pub fn quiet() {
 
 /// How often each call was accepted (0) or refused with each number.
 #[derive(Default)]
-pub struct Tally(pub BTreeMap<(&'static str, u32), u64>);
+pub struct Tally {
+    counts: BTreeMap<(&'static str, u32), u64>,
+    /// Sectors, and those of a chunk, of the accepted formats.
+    geometries: BTreeSet<(u64, u32)>,
+}
 
 impl Tally {
     pub fn calls(&self) -> u64 {
         self.of(|_| true, |_| true)
     }
-    fn count(&mut self, call: &str, text: &str) {
+    fn count(&mut self, call: &str, refusal: u32) {
         let call = if call == "appendn" { "append" } else { call };
         let call = CALLS.iter().find(|c| c.0 == call).unwrap().0;
-        let refusal = text.strip_prefix("no ").map_or(0, |t| t.split(' ').next().unwrap().parse().unwrap());
-        *self.0.entry((call, refusal)).or_default() += 1;
+        *self.counts.entry((call, refusal)).or_default() += 1;
     }
     /// The calls with these names, and those of them with these answers.
     fn of(&self, call: impl Fn(&str) -> bool, answer: impl Fn(u32) -> bool) -> u64 {
-        self.0.iter().filter(|((c, r), _)| call(c) && answer(*r)).map(|(_, n)| n).sum()
+        self.counts.iter().filter(|((c, r), _)| call(c) && answer(*r)).map(|(_, n)| n).sum()
     }
     /// A line for each call, and one for all: accepted, and refused as NUMBER:COUNT.
     pub fn show(&self) -> String {
@@ -62,6 +71,7 @@ impl Tally {
             format!("{name}: {all} calls, {accepted} accepted, refused {}", refused.join(" "))
         };
         let mut text: Vec<_> = CALLS.iter().map(|(call, _)| line(call, &|c| c == *call)).collect();
+        text.push(format!("geometries: {}", self.geometries.len()));
         text.push(line("no difference", &|_| true));
         text.join("\n")
     }
@@ -70,7 +80,7 @@ impl Tally {
         let mut none = vec![];
         for (call, refusals) in CALLS {
             for r in [0].iter().chain(*refusals) {
-                if !self.0.contains_key(&(*call, *r)) {
+                if !self.counts.contains_key(&(*call, *r)) {
                     none.push(format!("{call} {r}"));
                 }
             }
@@ -88,10 +98,16 @@ pub struct Stop {
 /// A script as it runs on both.
 struct Play<'a> {
     session: Session,
+    /// The Rust for the calls of C, which are on copies of the volume.
+    copies: Session,
     tally: &'a mut Tally,
 }
 
-impl Play<'_> {
+impl<'a> Play<'a> {
+    fn new(tally: &'a mut Tally) -> Self {
+        Play { session: Session::new(true), copies: Session::new(true), tally }
+    }
+
     /// Runs a line; what it prints, or what differs.
     fn line(&mut self, line: &str) -> Result<String, String> {
         let w = words(line);
@@ -101,10 +117,18 @@ impl Play<'_> {
             Some(&"echo" | &"trace" | &"rule3") => return Ok(String::new()),
             _ => {}
         }
+        if let Some(told) = w.first().and_then(|_| firmware::ask(&self.session, &mut self.copies, &w)) {
+            let (call, refusal) = told?;
+            self.tally.count(call, refusal);
+        }
         let port = w.first().and_then(|_| bridge::ask(&self.session, &w));
         let text = self.session.line(line).unwrap_or_default();
         if let Some(port) = port {
-            self.tally.count(w[0], &text);
+            let refusal = text.strip_prefix("no ").map_or(0, |t| t.split(' ').next().unwrap().parse().unwrap());
+            self.tally.count(w[0], refusal);
+            if let (("format", 0), Some(s)) = ((w[0], refusal), &self.session.st.store) {
+                self.tally.geometries.insert((self.session.st.m.sectors(), s.chunk_sectors()));
+            }
             let rust = Told::rust(&self.session, w[0], &text);
             if let Some(why) = rust.differs(&port, &self.session.st.m.volume) {
                 return Err(why);
@@ -175,7 +199,7 @@ pub fn spelled(lines: Vec<String>) -> Vec<String> {
 
 /// Runs a script. A line `= TEXT` is the answer to the lines before it.
 pub fn play<'a>(lines: impl Iterator<Item = &'a str>, tally: &mut Tally) -> Result<(), Stop> {
-    let mut play = Play { session: Session::new(true), tally };
+    let mut play = Play::new(tally);
     let mut printed: VecDeque<String> = VecDeque::new();
     let (mut answers, mut last) = (false, 0);
     for (k, line) in lines.enumerate() {
@@ -204,7 +228,8 @@ pub fn play<'a>(lines: impl Iterator<Item = &'a str>, tally: &mut Tally) -> Resu
 
 /// A script with the answers that it prints, for a first recording.
 pub fn answered<'a>(lines: impl Iterator<Item = &'a str>) -> Result<Vec<String>, Stop> {
-    let mut play = Play { session: Session::new(true), tally: &mut Tally::default() };
+    let mut tally = Tally::default();
+    let mut play = Play::new(&mut tally);
     let mut out = vec![];
     for (k, line) in lines.enumerate().filter(|(_, l)| !l.starts_with("= ")) {
         let text = play.line(line).map_err(|why| Stop { line: k + 1, why })?;

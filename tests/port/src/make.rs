@@ -173,16 +173,24 @@ impl Maker {
         if self.r.one_in(12) { self.r.pick(BAD_DIRS) } else { self.r.pick(DIRS) }
     }
 
-    fn volume(&mut self, kind: Kind) {
+    /// Any geometry of up to 600 sectors, in a third of the rounds; small chunks often.
+    pub fn any_geometry(&mut self) -> Option<(u64, u64)> {
         let r = &mut self.r;
-        let (sectors, size) = match r.below(12) {
+        let top = 1 << r.below(10);
+        r.one_in(3).then(|| (64 + r.below(537), 1 + r.below(top)))
+    }
+
+    fn volume(&mut self, kind: Kind) {
+        let any = self.any_geometry();
+        let r = &mut self.r;
+        let (sectors, size) = any.unwrap_or_else(|| match r.below(12) {
             0 => (64 + r.pick(&[127, 128, 129, 256, 257, 300]), 1),
             1 => (64 + 2 * r.pick(&[127, 128, 129]), 2),
             2 if r.one_in(4) => (64 + r.pick(&[2047, 2048, 2049]), 1),
             3 => (64 + r.pick(&[0, 1, 2, 3]), 1 + r.below(3)),
             4 => (64 + 512 + r.below(600), r.pick(&[511, 512, 300])),
             _ => (64 + r.pick(&[8, 16, 40, 64, 90]), 1 + r.below(6)),
-        };
+        });
         let fill = if kind == Kind::Random { "rand" } else { r.pick(&["zero", "zero", "ff", "rand"]) };
         let extra = r.pick(&[0, 0, 0, 1, 511]);
         let lines = [

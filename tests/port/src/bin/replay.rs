@@ -1,6 +1,6 @@
 //! Runs recorded scripts on the Rust and the port:   replay FILE..
 //! Fails at the first difference, if a call or a refusal that it can give did
-//! not occur, or if there were fewer than 15,000 calls.
+//! not occur, or if there were fewer than 20,000 calls.
 use port::{Tally, play};
 
 fn main() {
@@ -19,8 +19,8 @@ fn main() {
         println!("{file}: {} calls, no difference", tally.calls() - before);
     }
     let missing = tally.missing();
-    if !missing.is_empty() || tally.calls() < 15_000 {
-        println!("{} calls, 15,000 expected; answers that did not occur: {}", tally.calls(), missing.join(", "));
+    if !missing.is_empty() || tally.calls() < 20_000 {
+        println!("{} calls, 20,000 expected; answers that did not occur: {}", tally.calls(), missing.join(", "));
         std::process::exit(1);
     }
     println!("{}", tally.show());

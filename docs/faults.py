@@ -5,8 +5,8 @@
     docs/faults.py CRATE..    those of these crates
 
 It proves what stands below the crates once, then each fault by itself, as a must-fail edit (`rt must-fail`). Beside the list below it takes
-the edits in crates/*/faults: those of docs/PROOFS.md that would make the gate too long. docs/FAULTS.md has the last table that it printed.
-It is not part of ./test. The first of the list are the faults that tests/oracle/mutants puts into the Rust.
+the edits in crates/*/faults: those of docs/PROOFS.md that would make the gate too long. It is not part of ./test. The first of the list are
+the faults that tests/oracle/mutants puts into the Rust.
 """
 import glob
 import os

@@ -93,7 +93,7 @@ rolledOut vol m st ap partial records =
     (stopped v (g .ans .medium) (g .ans .store) ap Full))
     (stopped v (g .ans .medium) (g .ans .store) ap)
 
--- another chunk. A link has no place for a position past 32,767: no call reaches it (docs/DIFFERENCES.md)
+-- another chunk. A link has no place for a position past 32,767: no call is known to reach it (docs/DIFFERENCES.md)
 unfoldable pub extendOf : List ℕ → Medium → Store → Appender → Bool → ℕ → AppOut
 extendOf vol m st ap partial records =
     pick (leb 32767 (ap .position)) (stopped vol m st ap Corrupt)

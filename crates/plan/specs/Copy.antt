@@ -69,7 +69,7 @@ moveOf p vol m k =
     (pick (not (changesOf (p .edit) k) && listed p k (getD (p .store .head .crcs) k 0)) unread
     (onDone (checkOf vol m (p .store) k) (dueMove p k (dueBytes p vol k)) bad))
 
--- one body sector: h is the header so far
+-- what one body sector leaves: the volume, and the answer with the header so far
 pub record StepOut : Type 0 where
   pub vol : List ℕ
   pub ans : Stepped

@@ -43,10 +43,6 @@ module _ (w : World) (b : Book) (k : Keeps w b) (left : ℕ) where
   abbrev Stood : Terms → World → List Step → Type 0
   Stood t w′ ss = EachStep Distinct ss → Keeps w′ (enteredAll t (map (λ (s : Step). s .kind) ss) b)
 
-  none-stood : (t : Terms) (w′ : World) → Keeps w′ b → Stood t w′ []
-  unfolding enteredAll
-  none-stood t w′ p h = p
-
   -- ---- delete
 
   module _ (t : Terms) where

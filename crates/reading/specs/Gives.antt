@@ -1,4 +1,4 @@
--- 01, "Book": each file read from its start gives exactly the book's payloads, in order, with no hole, then end. Assumes nothing.
+-- Demand 3: each file read from its start gives exactly the book's payloads, in order, with no hole, then end. Assumes nothing.
 use Prim.Native.Nat.{ℕ, _≤_}
 use mathlib.Core.Path.{_≡_}
 use mathlib.Core.List.{List, [], _∷_}

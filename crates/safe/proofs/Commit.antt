@@ -32,17 +32,13 @@ use Rattle.commit.proofs.Absent.{commit-first}
 use Rattle.commit.proofs.Keeps.{sane-after}
 use Rattle.safe.specs.Copy.{Good, Tied}
 use Rattle.safe.specs.Mounts.{Newest}
-use Rattle.safe.specs.Inv.{Inv, planOf, CommitDistinct, CommitLiteral, CommitStopped, CommitMade}
+use Rattle.safe.specs.Inv.{Inv, planOf, CommitDistinct, CommitStopped, CommitMade}
 use Rattle.safe.proofs.Frame.{clash, kept-none, used-none, body-beside}
 use Rattle.safe.proofs.Copy.{copy-frame, copy-used, copy-stopped, copy-finished}
-use Rattle.safe.proofs.Sums.{literal-distinct, finished-body}
+use Rattle.safe.proofs.Sums.{finished-body}
 use Rattle.safe.proofs.Current.{stands-choice, current-choice}
 use Rattle.safe.proofs.Bodies.{sound-tied}
 use Rattle.safe.proofs.Invs.{inv-held, kept-records, stopped-inv, finished-inv}
-
--- the mission's premise implies the weak one
-pub literal-commit : (edit : Edit) (name vol : List ℕ) (m : Medium) (st : Store) → CommitLiteral edit name vol m st → CommitDistinct edit name vol m st
-literal-commit edit name vol m st = literal-distinct (planOf edit name vol m st) vol m
 
 -- ---- the header after an edit has its widths
 

@@ -47,9 +47,6 @@ use Rattle.safe.proofs.Invs.{inv-numbered, bytes-numbered, kept-records
 abbrev both : List ℕ → Copies
 both vol = bothOf (copyOf vol 0) (copyOf vol 32)
 
-not-ours : {A : Type 0} {d : Decoded} {h : Header} → isOurs (d .kind) ≡ false → d ≡ ours h → A
-not-ours f e = no-way (sym f ∙ ap (λ (x : Decoded). isOurs (x .kind)) e)
-
 -- a copy beside the one written is of a smaller generation
 pub copy-older : (vol : List ℕ) (g : Header) → copyOf vol (baseOf (1 - copyFor (both vol))) ≡ ours g → g .generation ≤ newestOf (both vol)
 unfolding copyFor newestOf newestB baseOf pick

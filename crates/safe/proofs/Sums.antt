@@ -22,12 +22,8 @@ use Rattle.header.specs.Header.{InRange}
 use Rattle.header.proofs.Range.{no-way}
 use Rattle.plan.specs.Edit.{changesOf}
 use Rattle.plan.specs.Copy.{Plan, Move, unread, held, isFormat, listed, dueBytes, dueMove, moveOf, unwritten}
-use Rattle.safe.specs.Copy.{targetAt, bodyCount, Tied, Distinct, Literal, withCrcs, Made, Finished}
+use Rattle.safe.specs.Copy.{targetAt, bodyCount, Tied, Distinct, withCrcs, Made, Finished}
 use Rattle.safe.proofs.Moves.{due-format}
-
--- where the bytes due are held, no two that differ have one checksum
-pub literal-distinct : (p : Plan) (vol : List ℕ) (m : Medium) → Literal p vol m → Distinct p vol m
-literal-distinct p vol m same k l u e = same k l u
 
 -- a format leaves no sector unwritten
 pub format-distinct : (p : Plan) (vol : List ℕ) (m : Medium) → isFormat (p .edit) ≡ true → Distinct p vol m

@@ -19,7 +19,7 @@ use Rattle.plan.specs.declared.Edit.{Edit}
 use Rattle.plan.specs.Copy.{Plan, Skipped, Out, dueBytes, unwritten, skippedFrom, lastOf, copyOut}
 use Rattle.commit.specs.Commit.{commitOf}
 use Rattle.safe.specs.Copy.{targetAt, bodyCount}
-use Rattle.safe.specs.Inv.{planOf, CommitDistinct, CommitLiteral}
+use Rattle.safe.specs.Inv.{planOf, CommitDistinct}
 use Rattle.safe.proofs.Frame.{clash}
 
 module _ (p : Plan) (vol : List ℕ) (m : Medium) where
@@ -72,10 +72,6 @@ module _ (edit : Edit) (name vol : List ℕ) (m : Medium) (st : Store) (accepted
       → unwritten (planOf edit name vol m st) vol m k ≡ true → P (at (planOf edit name vol m st) vol m k)
   commit-each P each k l u = (rw commit-lists at each) (at (planOf edit name vol m st) vol m k) (listed (planOf edit name vol m st) vol m _ 0 k (omega arith) (omega arith) u)
 
-  -- the weak premise, and the mission's
   pub commit-distinct : ((s : Skipped) → List·Memᴰ s (commitOf edit name vol m st .skipped) → crc32Of (s .held) ≡ crc32Of (s .due) → s .held ≡ s .due)
       → CommitDistinct edit name vol m st
   commit-distinct each k l u = commit-each (λ (s : Skipped). crc32Of (s .held) ≡ crc32Of (s .due) → s .held ≡ s .due) each k l u
-
-  pub commit-literal : ((s : Skipped) → List·Memᴰ s (commitOf edit name vol m st .skipped) → s .held ≡ s .due) → CommitLiteral edit name vol m st
-  commit-literal each k l u = commit-each (λ (s : Skipped). s .held ≡ s .due) each k l u

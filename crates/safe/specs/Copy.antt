@@ -48,10 +48,6 @@ Distinct p vol m =
     (k : ℕ) → k < bodyCount p → unwritten p vol m k ≡ true
     → crc32Of (sectorAt vol (targetAt p k)) ≡ crc32Of (dueBytes p vol k) → sectorAt vol (targetAt p k) ≡ dueBytes p vol k
 
--- the same as demand 3 words it: such a sector holds the bytes that are due
-abbrev pub Literal : Plan → List ℕ → Medium → Type 0
-Literal p vol m = (k : ℕ) → k < bodyCount p → unwritten p vol m k ≡ true → sectorAt vol (targetAt p k) ≡ dueBytes p vol k
-
 -- ---- what is left
 
 -- a header with other checksums

@@ -21,7 +21,7 @@ use Rattle.plan.specs.Edit.{changesOf, editOf, headAfter}
 use Rattle.plan.specs.Copy.{Plan, Out}
 use Rattle.commit.specs.Commit.{commitPlan}
 use Rattle.safe.specs.Frame.{Kept, Used}
-use Rattle.safe.specs.Copy.{Distinct, Literal, withCrcs}
+use Rattle.safe.specs.Copy.{Distinct, withCrcs}
 use Rattle.safe.specs.Mounts.{Sound}
 
 -- every sector reads
@@ -49,12 +49,9 @@ planOf edit name vol m st = commitPlan (currentOf vol m) edit name st
 abbrev pub edited : Edit → List ℕ → ℕ → List ℕ → List ℕ
 edited edit name k s = pick (changesOf edit k) (editOf edit name k s) s
 
--- the premise on the body sectors that this commit leaves unwritten: no two that differ there have one checksum; and the same as demand 3 words it
+-- the premise on the body sectors that this commit leaves unwritten: no two that differ there have one checksum
 abbrev pub CommitDistinct : Edit → List ℕ → List ℕ → Medium → Store → Type 0
 CommitDistinct edit name vol m st = Distinct (planOf edit name vol m st) vol m
-
-abbrev pub CommitLiteral : Edit → List ℕ → List ℕ → Medium → Store → Type 0
-CommitLiteral edit name vol m st = Literal (planOf edit name vol m st) vol m
 
 -- refused, however many writes were made: the old store
 pub record CommitStopped (vol : List ℕ) (m : Medium) (st : Store) (o : Out) : Type 0 where

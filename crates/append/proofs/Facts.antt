@@ -2,29 +2,23 @@
 use mathlib.Core.Path.{_≡_, refl, sym, _∙_}
 use mathlib.Core.Bool.{Bool, true, false, not, _&&_, _||_, false≢true}
 use mathlib.Core.List.{List}
-use Prim.Native.Nat.{ℕ, _+_, _*_, _^_, _≤_, _<_}
-use native.Mathlib.Nat.{mul-le-mul}
+use Prim.Native.Nat.{ℕ, _≤_, _<_}
 use native.Mathlib.Omega.{arith}
 use borrow.Author.Tests.{ltb-true, leb-true, eqb-true, not-true}
 use lib.Dec.{eqb, leb, ltb}
 use lib.ListN.{length}
 use Rattle.le.proofs.Choices.{pick-true, pick-false}
+use Rattle.le.proofs.Bools.{and-true, where-true}
 use Rattle.medium.specs.declared.Error.the-variants.{Handle, Stale}
 use Rattle.medium.specs.declared.Outcome.the-variants.{Done, No}
 use Rattle.medium.specs.Sector.{sectorsOf}
+use Rattle.medium.proofs.Laws.{not-done}
 use Rattle.names.specs.Names.{dirOk}
 use Rattle.handles.specs.declared.Store.{Store}
 use Rattle.handles.specs.Handles.{storeOk}
-use Rattle.handles.proofs.Laws.{and-true}
-use Rattle.plan.proofs.Keeps.{not-done}
 use Rattle.append.specs.declared.Appender.{Appender}
 use Rattle.append.specs.Appender.{dirBytes, tailOk, isClosed, fillOk, appenderOk, writes, live, noAppender, Fit}
 use Rattle.append.specs.Calls.{mayWrite}
-
-pub number-small : (position size index : ℕ) → position ≤ 32767 → size ≤ 512 → index ≤ 512 → position * size + index < 2 ^ 32
-number-small position size index p s i =
-    let q : position * size ≤ 32767 * 512 = mul-le-mul p s in
-    omega arith
 
 -- a buffer that is not closed has room
 room : (fill : ℕ) (b : Bool) → (ltb fill 486 || (eqb fill 486 && b)) ≡ true → (fill ≤ 486) × (b ≡ false → fill < 486)
@@ -37,10 +31,6 @@ room fill b e = go (ltb fill 486) refl
         let g = and-true (eqb fill 486) b f in
         let h : fill ≡ 486 = eqb-true fill 486 (g .0) in
         (omega arith, λ n. absurd (false≢true (sym n ∙ g .1)))
-
-either : (a b : Bool) → (not a || b) ≡ true → a ≡ true → b ≡ true
-either true b e q = e
-either false b e q = absurd (false≢true q)
 
 module _ (a : Appender) (st : Store) (e : appenderOk a st ≡ true) where
   rolling : Bool
@@ -77,7 +67,7 @@ module _ (a : Appender) (st : Store) (e : appenderOk a st ≡ true) where
         fill = room (a .fill) (isClosed (a .tail)) (filled .0) .0;
         full = full;
         tail = filled .1;
-        dir = λ rolls. leb-true _ _ (and-true (leb (a .dir .length) 40) (dirOk (dirBytes (a .dir))) (either (a .rolls) d (filled .2) rolls) .0);
+        dir = λ rolls. leb-true _ _ (and-true (leb (a .dir .length) 40) (dirOk (dirBytes (a .dir))) (where-true (a .rolls) d (filled .2) rolls) .0);
       }
 
   pub appender-room : isClosed (a .tail) ≡ false → a .fill < 486

@@ -14,34 +14,28 @@ use Rattle.medium.specs.declared.Error.the-variants.{Corrupt, Full}
 use Rattle.medium.specs.declared.Medium.{Medium}
 use Rattle.medium.specs.declared.Outcome.the-variants.{Done}
 use Rattle.medium.specs.Sector.{sectorsOf, WriteOut}
-use Rattle.medium.proofs.Laws.{onDone-keeps}
+use Rattle.medium.proofs.Laws.{onDone-keeps, not-done}
+use Rattle.medium.proofs.Frame.{write-spends, write-kept}
 use Rattle.handles.specs.declared.Store.{Store}
+use Rattle.handles.specs.Handles.{isOpen, openId}
 use Rattle.handles.proofs.Laws.{Held, store-facts}
-use Rattle.table.specs.declared.Pick.{Pick}
-use Rattle.table.specs.declared.Pick.the-variants as free
 use Rattle.table.specs.Table.{freeOf}
 use Rattle.table.proofs.Nearest.{free-range}
+use Rattle.table.proofs.Decides.{onPick-keeps}
 use Rattle.record.specs.Record.{numberAt, dataAt, recordOf, writeRecordOf}
 use Rattle.record.proofs.Laws.{data-inside}
 use Rattle.record.proofs.RoundTrip.{length-record}
 use Rattle.plan.specs.declared.Edit.the-variants.{Extend}
 use Rattle.plan.specs.Copy.{Out}
-use Rattle.plan.proofs.Keeps.{write-spends, write-length, not-done}
 use Rattle.commit.specs.Commit.{commitOf}
-use Rattle.remove.specs.Remove.{GoneOut, removeOldestOf, isOpen, openId}
+use Rattle.remove.specs.Remove.{GoneOut, removeOldestOf}
 use Rattle.remove.proofs.Keeps.{Good, Stands, stands-none, stands-more, commit-stands, OutStands, GoneStands, oldest-stands}
 use Rattle.append.specs.declared.Appender.{Appender}
 use Rattle.append.specs.declared.Tail.{Tail}
 use Rattle.append.specs.declared.Tail.the-variants.{At, Reopened, Closed}
 use Rattle.append.specs.Appender.{dirBytes, tailOk, Fit}
-use Rattle.append.specs.Flush.{AppOut, stopped, andThen, linkOut, onPick, rolledOut, extendOf, recordOut, onTail, writeOut, flushOf}
+use Rattle.append.specs.Flush.{AppOut, stopped, andThen, linkOut, rolledOut, extendOf, recordOut, onTail, writeOut, flushOf}
 use Rattle.append.proofs.Then.{Next}
-
-pub onPick-keeps : {A : Type 0} (P : A → Type 0) (p : Pick) (f : Error → A) (a : A) (g : ℕ → A) → ((e : Error) → P (f e)) → P a → ((c : ℕ) → p ≡ free.At c → P (g c)) → P (onPick p f a g)
-unfolding onPick
-onPick-keeps P (free.Refused e) f a g x y z = x e
-onPick-keeps P free.Nothing f a g x y z = y
-onPick-keeps P (free.At c) f a g x y z = z c refl
 
 pub onTail-keeps : {A : Type 0} (P : A → Type 0) (t : Tail) (f g : ℕ → A) (a : A) → ((i : ℕ) → t ≡ At i → P (f i)) → ((n : ℕ) → t ≡ Reopened n → P (g n)) → P a → P (onTail t f g a)
 unfolding onTail
@@ -124,7 +118,7 @@ module _ (vol : List ℕ) (m : Medium) (st : Store) (a : Appender) (good : Good 
       let bytes : List ℕ = recordOf (st .head .id) (a .id) number payload in
       let n : length bytes ≡ 512 = length-record (st .head .id) (a .id) number payload (payload-short (a .fill) (a .buffer) (fit .fill)) in
       let w : WriteOut = writeRecordOf vol m st (a .id) (a .chunk) index number payload in
-      let size : length (w .vol) ≡ length vol = write-length vol m at bytes n (data-inside st (a .chunk) index (sectorsOf vol) (fit .chunk) h (held .head .room)) in
+      let size : length (w .vol) ≡ length vol = write-kept vol m at bytes n (data-inside st (a .chunk) index (sectorsOf vol) (fit .chunk) h (held .head .room)) .size in
       let k : Stands vol m st (w .vol) (w .ans .medium) st =
       record {
         size = size;

@@ -10,46 +10,37 @@ use Rattle.medium.specs.declared.Error.{Error}
 use Rattle.medium.specs.declared.Medium.{Medium}
 use Rattle.medium.specs.declared.Outcome.{Outcome}
 use Rattle.medium.specs.declared.Outcome.the-variants.{Done, No}
-use Rattle.medium.specs.Refusal.{outcomeOf}
 use Rattle.medium.specs.Sector.{sectorsOf}
-use Rattle.medium.proofs.Laws.{onDone-keeps}
+use Rattle.medium.proofs.Laws.{onDone-keeps, onDone-no, onDone-done}
+use Rattle.medium.specs.Frame.{Spends}
+use Rattle.medium.proofs.Frame.{spends-none}
 use Rattle.handles.specs.declared.Store.{Store}
 use Rattle.handles.specs.Handles.{storeOk}
-use Rattle.plan.proofs.Keeps.{Spends, spends-none}
-use Rattle.remove.proofs.Ways.{onDone-no}
 use Rattle.remove.proofs.Keeps.{Good, Stands}
 use Rattle.append.specs.declared.Appender.{Appender}
 use Rattle.append.specs.declared.Flushed.{Flushed}
-use Rattle.append.specs.Flush.{AppOut, appendOf, flushOf, syncOf}
-use Rattle.append.specs.Calls.{mayWrite, AppCall, callOf, offered, appendCall, syncCall}
-use Rattle.append.proofs.Then.{GivesA, along, onDone-done}
+use Rattle.append.specs.Flush.{AppOut, stopped, appendOf, flushOf, syncOf}
+use Rattle.append.specs.Calls.{mayWrite, appAnswer, AppCall, callOf, offered, appendCall, syncCall}
+use Rattle.append.proofs.Then.{GivesA, along}
 use Rattle.append.proofs.Facts.{May, may-facts}
 use Rattle.append.proofs.Runs.{Puts, append-puts, sync-puts}
 use Rattle.append.proofs.Owns.{Bound, bound, Owned, append-owned, sync-owned}
 
--- a call's volume, answer, medium record and handles are what a definition gives
+-- a call's volume and what it tells are what a definition gives
 abbrev pub Offers : List ℕ → Flushed → AppCall → Type 0
-Offers v r c = (v ≡ c .vol) × (outcomeOf (r .outcome) ≡ c .answer) × (r .medium ≡ c .medium) × (r .store ≡ c .store) × (r .appender ≡ c .appender)
+Offers v r c = (v ≡ c .vol) × (appAnswer r ≡ c .call)
 
-offers-of : {v : List ℕ} {r : Flushed} (o : AppOut) (c : AppCall) → GivesA v r o → callOf o ≡ c → Offers v r c
-offers-of o c g e = (
-  g .0 ∙ ap (λ (x : AppCall). x .vol) e,
-  ap (λ (f : Flushed). outcomeOf (f .outcome)) (g .1) ∙ ap (λ (x : AppCall). x .answer) e,
-  ap (λ (f : Flushed). f .medium) (g .1) ∙ ap (λ (x : AppCall). x .medium) e,
-  ap (λ (f : Flushed). f .store) (g .1) ∙ ap (λ (x : AppCall). x .store) e,
-  ap (λ (f : Flushed). f .appender) (g .1) ∙ ap (λ (x : AppCall). x .appender) e,
-)
+pub offers-of : {v : List ℕ} {r : Flushed} {o : AppOut} {c : AppCall} → GivesA v r o → callOf o ≡ c → Offers v r c
+offers-of g e = (g .0 ∙ ap (λ (x : AppCall). x .vol) e, ap appAnswer (g .1) ∙ ap (λ (x : AppCall). x .call) e)
 
 module _ (vol : List ℕ) (m : Medium) (st : Store) (a : Appender) (o : AppOut) {c : Outcome} (asked : c ≡ mayWrite vol st a) where
   pub offer-refused : {e : Error} {r : Flushed} → c ≡ No e → r ≡ record { outcome = No e; medium = m; store = st; appender = a } → Offers vol r (offered vol m st a o)
   unfolding offered
-  offer-refused {e} {r} d h =
-      let q : offered vol m st a o ≡ _ = onDone-no _ _ (sym asked ∙ d) in
-      rw (h, q) (refl, refl, refl, refl, refl)
+  offer-refused {e} d h = offers-of {o = stopped vol m st a e} (refl, h) (sym (onDone-no _ _ (sym asked ∙ d)))
 
   pub offer-done : {v : List ℕ} {r : Flushed} → c ≡ Done → GivesA v r o → Offers v r (offered vol m st a o)
   unfolding offered
-  offer-done d g = offers-of o _ g (sym (onDone-done _ _ (sym asked ∙ d)))
+  offer-done d g = offers-of {o = o} g (sym (onDone-done _ _ (sym asked ∙ d)))
 
 -- ---- sync
 
@@ -67,13 +58,13 @@ module _ (vol : List ℕ) (m : Medium) (st : Store) (a : Appender) where
 
 pub record Hands (vol : List ℕ) (m : Medium) (st : Store) (a : Appender) (c : AppCall) : Type 0 where
   pub size : length (c .vol) ≡ length vol
-  pub medium : Spends m (c .medium)
-  pub ok : storeOk (c .store) (sectorsOf (c .vol)) ≡ true
-  pub id : c .store .head .id ≡ st .head .id
-  pub chunks : c .store .head .chunks ≡ st .head .chunks
-  pub chunk : c .store .head .chunk ≡ st .head .chunk
-  pub writer : c .store .writer ≡ st .writer
-  pub appender : Bound a (c .appender)
+  pub medium : Spends m (c .call .medium)
+  pub ok : storeOk (c .call .store) (sectorsOf (c .vol)) ≡ true
+  pub id : c .call .store .head .id ≡ st .head .id
+  pub chunks : c .call .store .head .chunks ≡ st .head .chunks
+  pub chunk : c .call .store .head .chunk ≡ st .head .chunk
+  pub writer : c .call .store .writer ≡ st .writer
+  pub appender : Bound a (c .call .appender)
 
 module _ (vol : List ℕ) (m : Medium) (st : Store) (a : Appender) (good : Good vol st) (full : length (a .buffer) ≡ 486) where
   hands : (o : AppOut) → (May vol st a → (Puts vol m st o) × (Owned st a o)) → Hands vol m st a (offered vol m st a o)

@@ -9,18 +9,20 @@ use Rattle.medium.specs.declared.Error.{Error}
 use Rattle.medium.specs.declared.Medium.{Medium}
 use Rattle.medium.proofs.Laws.{onDone-keeps}
 use Rattle.handles.specs.declared.Store.{Store}
+use Rattle.handles.specs.Handles.{isOpen, openId}
 use Rattle.table.specs.Table.{freeOf}
+use Rattle.table.proofs.Decides.{onPick-keeps}
 use Rattle.plan.specs.declared.Edit.the-variants.{Extend}
 use Rattle.plan.specs.Copy.{Out}
 use Rattle.commit.specs.Commit.{commitOf}
 use Rattle.commit.proofs.Keeps.{commit-keeps}
-use Rattle.remove.specs.Remove.{GoneOut, removeOldestOf, isOpen, openId}
+use Rattle.remove.specs.Remove.{GoneOut, removeOldestOf}
 use Rattle.remove.proofs.Keeps.{Good, GoneStands, oldest-stands, spared-writer}
 use Rattle.append.specs.declared.Appender.{Appender}
 use Rattle.append.specs.Appender.{dirBytes, Fit}
 use Rattle.append.specs.Flush.{AppOut, stopped, andThen, linkOut, rolledOut, extendOf, recordOut, writeOut, flushOf, pushed, putByte, appendOf, syncOf}
 use Rattle.append.proofs.Then.{Next}
-use Rattle.append.proofs.Keeps.{onPick-keeps, onTail-keeps}
+use Rattle.append.proofs.Keeps.{onTail-keeps}
 use Rattle.append.proofs.Runs.{Puts, byte-puts}
 
 -- the same appender, wherever it stands now

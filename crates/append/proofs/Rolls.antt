@@ -8,11 +8,12 @@ use borrow.Author.Tests.{ltb-true}
 use lib.Dec.{leb, ltb}
 use lib.ListN.{length, take, drop, length-take}
 use Rattle.le.specs.Part.{part}
+use Rattle.le.proofs.Bools.{and-true}
 use Rattle.medium.specs.declared.Medium.{Medium}
 use Rattle.medium.specs.Sector.{sectorsOf}
 use Rattle.handles.specs.declared.Store.{Store}
 use Rattle.handles.specs.Handles.{storeOk}
-use Rattle.handles.proofs.Laws.{store-facts, and-true}
+use Rattle.handles.proofs.Laws.{store-facts}
 use Rattle.remove.specs.declared.Gone.{Gone}
 use Rattle.remove.specs.Remove.{removeOldestOf}
 use Rattle.remove.proofs.Ways.{GivesG}

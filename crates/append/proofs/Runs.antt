@@ -21,7 +21,7 @@ use Rattle.remove.proofs.Keeps.{Good, stands-none}
 use Rattle.append.specs.declared.Appender.{Appender}
 use Rattle.append.specs.declared.Flushed.{Flushed}
 use Rattle.append.specs.Appender.{Fit}
-use Rattle.append.specs.Flush.{AppOut, done, after, andThen, flushOf, pushed, putByte, appendOf, syncOf, withRun, runOf}
+use Rattle.append.specs.Flush.{AppOut, done, after, andThen, flushOf, holding, pushed, putByte, appendOf, syncOf, withRun, runOf}
 use Rattle.append.proofs.Then.{GivesA, Same, along, then-done, then-no, then-nothing, append-parts}
 use Rattle.append.proofs.Keeps.{Goes, goes-more, flush-goes, flush-empties}
 
@@ -38,28 +38,13 @@ over-more i b bs l h =
     let f : suc i + length bs ≤ length (set l i b) = rw n (omega arith) in
     rw add-one (sym (sets-eq bs (set l i b) (suc i) f) ∙ sets-eq (b ∷ bs) l i h)
 
-abbrev filledWith : Appender → ℕ → List ℕ → Appender
-filledWith a n buffer =
-    record {
-      token = a .token;
-      slot = a .slot;
-      id = a .id;
-      chunk = a .chunk;
-      position = a .position;
-      tail = a .tail;
-      fill = n;
-      buffer = buffer;
-      rolls = a .rolls;
-      dir = a .dir;
-    }
-
 run-none : (a : Appender) → a .fill ≤ length (a .buffer) → withRun [] a ≡ a
-run-none a h = let z : a .fill + 0 ≡ a .fill = omega arith in ap₂ (λ (n : ℕ) (l : List ℕ). filledWith a n l) z (over-none (a .fill) (a .buffer) h)
+run-none a h = let z : a .fill + 0 ≡ a .fill = omega arith in ap₂ (holding a) z (over-none (a .fill) (a .buffer) h)
 
 run-more : (b : ℕ) (bs : List ℕ) (a : Appender) → a .fill + suc (length bs) ≤ length (a .buffer) → withRun bs (pushed b a) ≡ withRun (b ∷ bs) a
 run-more b bs a h =
     let z : a .fill + 1 + length bs ≡ a .fill + suc (length bs) = omega arith in
-    ap₂ (λ (n : ℕ) (l : List ℕ). filledWith a n l) z (over-more (a .fill) b bs (a .buffer) h)
+    ap₂ (holding a) z (over-more (a .fill) b bs (a .buffer) h)
 
 -- ---- the bytes
 

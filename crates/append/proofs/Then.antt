@@ -6,10 +6,9 @@ use Rattle.medium.specs.declared.Error.{Error}
 use Rattle.medium.specs.declared.Medium.{Medium}
 use Rattle.medium.specs.declared.Outcome.{Outcome}
 use Rattle.medium.specs.declared.Outcome.the-variants.{Done, No}
-use Rattle.medium.specs.Refusal.{onDone}
+use Rattle.medium.proofs.Laws.{onDone-no, onDone-done}
 use Rattle.handles.specs.declared.Store.{Store}
 use Rattle.plan.specs.Copy.{Step}
-use Rattle.remove.proofs.Ways.{onDone-no}
 use Rattle.append.specs.declared.Appender.{Appender}
 use Rattle.append.specs.declared.Flushed.{Flushed}
 use Rattle.append.specs.Flush.{AppOut, after, andThen, done, putByte, appendOf}
@@ -26,10 +25,6 @@ along g e = (g .0 ∙ ap (λ (o : AppOut). o .vol) e, g .1 ∙ ap (λ (o : AppOu
 
 pub along-same : {v : List ℕ} {r : Flushed} (x y : AppOut) → GivesA v r x → Same x y → GivesA v r y
 along-same x y g e = (g .0 ∙ e .0, g .1 ∙ e .1)
-
-pub onDone-done : {A : Type 0} {o : Outcome} (a : A) (f : Error → A) → o ≡ Done → onDone o a f ≡ a
-unfolding onDone
-onDone-done a f q = rw q
 
 abbrev pub Next : Type 0
 Next = List ℕ → Medium → Store → Appender → AppOut

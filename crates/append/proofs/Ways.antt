@@ -13,10 +13,12 @@ use Rattle.medium.specs.declared.Medium.{Medium}
 use Rattle.medium.specs.declared.Outcome.the-variants.{Done, No}
 use Rattle.medium.specs.declared.Written.{Written}
 use Rattle.medium.specs.Refusal.{onDone}
+use Rattle.medium.proofs.Laws.{onDone-done}
 use Rattle.handles.specs.declared.Store.{Store}
+use Rattle.handles.specs.Handles.{isOpen, openId}
 use Rattle.table.specs.declared.Pick.{Pick}
 use Rattle.table.specs.declared.Pick.the-variants as free
-use Rattle.table.specs.Table.{freeOf}
+use Rattle.table.specs.Table.{freeOf, onPick}
 use Rattle.record.specs.Record.{numberAt, writeRecordOf}
 use Rattle.plan.specs.declared.Committed.{Committed}
 use Rattle.plan.specs.declared.Edit.the-variants.{Extend}
@@ -24,15 +26,15 @@ use Rattle.commit.specs.Commit.{commitOf}
 use Rattle.commit.proofs.Steps.{GivesW}
 use Rattle.commit.proofs.Commits.{GivesC}
 use Rattle.remove.specs.declared.Gone.{Gone}
-use Rattle.remove.specs.Remove.{removeOldestOf, isOpen, openId}
+use Rattle.remove.specs.Remove.{removeOldestOf}
 use Rattle.remove.proofs.Ways.{GivesG}
 use Rattle.append.specs.declared.Appender.{Appender}
 use Rattle.append.specs.declared.Flushed.{Flushed}
 use Rattle.append.specs.declared.Tail.{Tail}
 use Rattle.append.specs.declared.Tail.the-variants.{At, Reopened, Closed}
 use Rattle.append.specs.Appender.{dirBytes}
-use Rattle.append.specs.Flush.{AppOut, andThen, movedTo, linkOut, onPick, rolledOut, extendOf, filed, recordOut, onTail, writeOut, closedOf, flushOf}
-use Rattle.append.proofs.Then.{GivesA, along, onDone-done, then-done, then-no}
+use Rattle.append.specs.Flush.{AppOut, andThen, movedTo, linkOut, rolledOut, extendOf, filed, recordOut, onTail, writeOut, closedOf, flushOf}
+use Rattle.append.proofs.Then.{GivesA, along, then-done, then-no}
 
 abbrev pub refusal : Error → Medium → Store → Appender → Flushed
 refusal e m st a = record { outcome = No e; medium = m; store = st; appender = a }

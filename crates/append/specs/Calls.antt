@@ -2,7 +2,7 @@
 -- then 11. What a refusal leaves is what stands so far. Assumes nothing.
 use Prim.Native.Nat.{ℕ, _-_}
 use mathlib.Core.Bool.{_&&_}
-use mathlib.Core.List.{List, []}
+use mathlib.Core.List.{List}
 use lib.Dec.{leb}
 use Rattle.le.specs.Choice.{pick}
 use Rattle.medium.specs.declared.Error.the-variants.{Handle, Stale}
@@ -15,40 +15,38 @@ use Rattle.handles.specs.declared.Store.{Store}
 use Rattle.handles.specs.Handles.{storeOk}
 use Rattle.plan.specs.Copy.{Step}
 use Rattle.append.specs.declared.Appender.{Appender}
+use Rattle.append.specs.declared.Flushed.{Flushed}
 use Rattle.append.specs.declared.Room.{Room}
 use Rattle.append.specs.declared.Room.the-variants as room
 use Rattle.append.specs.Appender.{appenderOk, live}
-use Rattle.append.specs.Flush.{AppOut, appendOf, syncOf}
+use Rattle.append.specs.Flush.{AppOut, stopped, appendOf, syncOf}
 
 -- the store value and the appender pass refusal 3, and the appender is the one that this store opened last
 unfoldable pub mayWrite : List ℕ → Store → Appender → Outcome
 mayWrite vol st ap = pick (storeOk st (sectorsOf vol) && appenderOk ap st) (pick (live st ap) Done (No Stale)) (No Handle)
 
--- what such a call settles: the volume, the answer, the handles, the medium record, and the steps for 01's book
-pub record AppCall : Type 0 where
-  pub vol : List ℕ
+-- what such a call tells, as 01 has it: the answer, the medium record and the handles
+pub record AppTold : Type 0 where
   pub answer : Answer (Unit {0})
   pub medium : Medium
   pub store : Store
   pub appender : Appender
+
+abbrev pub appAnswer : Flushed → AppTold
+appAnswer r = record { answer = outcomeOf (r .outcome); medium = r .medium; store = r .store; appender = r .appender }
+
+-- what it gives: the volume, what it tells, and the steps that it made
+pub record AppCall : Type 0 where
+  pub vol : List ℕ
+  pub call : AppTold
   pub steps : List Step
 
 abbrev pub callOf : AppOut → AppCall
-callOf o =
-    record {
-      vol = o .vol;
-      answer = outcomeOf (o .ans .outcome);
-      medium = o .ans .medium;
-      store = o .ans .store;
-      appender = o .ans .appender;
-      steps = o .steps;
-    }
+callOf o = record { vol = o .vol; call = appAnswer (o .ans); steps = o .steps }
 
 -- the work, unless the call is refused before it
 unfoldable pub offered : List ℕ → Medium → Store → Appender → AppOut → AppCall
-offered vol m st ap o =
-    onDone (mayWrite vol st ap) (callOf o)
-    (λ e. record { vol = vol; answer = refused (numberOf e); medium = m; store = st; appender = ap; steps = [] })
+offered vol m st ap o = onDone (mayWrite vol st ap) (callOf o) (λ e. callOf (stopped vol m st ap e))
 
 -- ---- append
 

@@ -13,14 +13,13 @@ use Rattle.medium.specs.declared.Outcome.the-variants.{Done, No}
 use Rattle.medium.specs.Refusal.{onDone}
 use Rattle.medium.specs.Sector.{WriteOut}
 use Rattle.handles.specs.declared.Store.{Store}
-use Rattle.table.specs.declared.Pick.{Pick}
-use Rattle.table.specs.declared.Pick.the-variants as free
-use Rattle.table.specs.Table.{freeOf}
+use Rattle.handles.specs.Handles.{isOpen, openId}
+use Rattle.table.specs.Table.{freeOf, onPick}
 use Rattle.record.specs.Record.{numberAt, writeRecordOf}
 use Rattle.plan.specs.declared.Edit.the-variants.{Extend}
-use Rattle.plan.specs.Copy.{Step, rolledOver, extended, recorded, Out, stepsOf}
+use Rattle.plan.specs.Copy.{Skipped, Step, rolledOver, extended, recorded, Out, stepsOf}
 use Rattle.commit.specs.Commit.{commitOf}
-use Rattle.remove.specs.Remove.{GoneOut, removeOldestOf, isOpen, openId}
+use Rattle.remove.specs.Remove.{GoneOut, removeOldestOf}
 use Rattle.append.specs.declared.Appender.{Appender}
 use Rattle.append.specs.declared.Flushed.{Flushed}
 use Rattle.append.specs.declared.Tail.{Tail}
@@ -47,23 +46,33 @@ unfoldable pub andThen : AppOut → (List ℕ → Medium → Store → Appender 
 andThen o next =
     onDone (o .ans .outcome) (after (o .steps) (next (o .vol) (o .ans .medium) (o .ans .store) (o .ans .appender))) (λ e. o)
 
--- ---- extending
+-- ---- the same appender, elsewhere
 
--- an appender at the start of its next chunk
-abbrev pub movedTo : ℕ → Appender → Appender
-movedTo c ap =
+-- in a chunk at a position, its next record by the tail, with so many bytes of the buffer unwritten
+abbrev pub standing : Appender → ℕ → ℕ → Tail → ℕ → List ℕ → Appender
+standing ap chunk position tail fill buffer =
     record {
       token = ap .token;
       slot = ap .slot;
       id = ap .id;
-      chunk = c;
-      position = ap .position + 1;
-      tail = At 0;
-      fill = ap .fill;
-      buffer = ap .buffer;
+      chunk = chunk;
+      position = position;
+      tail = tail;
+      fill = fill;
+      buffer = buffer;
       rolls = ap .rolls;
       dir = ap .dir;
     }
+
+-- where it is, with other bytes unwritten
+abbrev pub holding : Appender → ℕ → List ℕ → Appender
+holding ap fill buffer = standing ap (ap .chunk) (ap .position) (ap .tail) fill buffer
+
+-- ---- extending
+
+-- an appender at the start of its next chunk
+abbrev pub movedTo : ℕ → Appender → Appender
+movedTo c ap = standing ap c (ap .position + 1) (At 0) (ap .fill) (ap .buffer)
 
 -- the chunk is linked to the file, and where the old one was reopened that one is marked with its records, in one commit
 unfoldable pub linkOut : List ℕ → Medium → Store → Appender → Bool → ℕ → ℕ → AppOut
@@ -75,23 +84,22 @@ linkOut vol m st ap partial records c =
       steps = stepsOf extended o;
     }
 
-unfoldable pub onPick : {A : Type 0} → Pick → (Error → A) → A → (ℕ → A) → A
-onPick (free.Refused e) f a g = f e
-onPick free.Nothing f a g = a
-onPick (free.At c) f a g = g c
+-- the step of a rollover
+abbrev pub rolling : List Skipped → List Step
+rolling skipped = (record { kind = rolledOver; skipped = skipped }) ∷ []
 
--- no chunk is free: the oldest file of the rollover's directory goes, the open file spared, and extending once more must find one
+-- room is lacking, and the oldest file of the rollover's directory went: what is next follows. None went: 10. Refused, the appender is the one given
+abbrev pub afterGone : GoneOut → Appender → (List ℕ → Medium → Store → AppOut) → AppOut
+afterGone g ap next =
+    onDone (g .ans .outcome)
+    (pick (g .ans .any) (after (rolling (g .skipped)) (next (g .vol) (g .ans .medium) (g .ans .store))) (stopped (g .vol) (g .ans .medium) (g .ans .store) ap Full))
+    (stopped (g .vol) (g .ans .medium) (g .ans .store) ap)
+
+-- no chunk is free: the open file is spared, and extending once more must find one
 unfoldable pub rolledOut : List ℕ → Medium → Store → Appender → Bool → ℕ → AppOut
 rolledOut vol m st ap partial records =
-    let g : GoneOut = removeOldestOf vol m st (dirBytes (ap .dir)) (isOpen (st .writer)) (openId (st .writer)) in
-    let v : List ℕ = g .vol in
-    onDone (g .ans .outcome)
-    (pick (g .ans .any)
-    (after ((record { kind = rolledOver; skipped = g .skipped }) ∷ [])
-    (onPick (freeOf v (g .ans .medium) (g .ans .store)) (stopped v (g .ans .medium) (g .ans .store) ap)
-    (stopped v (g .ans .medium) (g .ans .store) ap Corrupt) (linkOut v (g .ans .medium) (g .ans .store) ap partial records)))
-    (stopped v (g .ans .medium) (g .ans .store) ap Full))
-    (stopped v (g .ans .medium) (g .ans .store) ap)
+    afterGone (removeOldestOf vol m st (dirBytes (ap .dir)) (isOpen (st .writer)) (openId (st .writer))) ap
+    (λ v n s. onPick (freeOf v n s) (stopped v n s ap) (stopped v n s ap Corrupt) (linkOut v n s ap partial records))
 
 -- another chunk. A link has no place for a position past 32,767: no call is known to reach it (docs/DIFFERENCES.md)
 unfoldable pub extendOf : List ℕ → Medium → Store → Appender → Bool → ℕ → AppOut
@@ -105,19 +113,7 @@ extendOf vol m st ap partial records =
 
 -- record `index` of the chunk is written: the buffer keeps its bytes, with none of them unwritten
 abbrev pub filed : ℕ → Appender → Appender
-filed index ap =
-    record {
-      token = ap .token;
-      slot = ap .slot;
-      id = ap .id;
-      chunk = ap .chunk;
-      position = ap .position;
-      tail = At (index + 1);
-      fill = 0;
-      buffer = ap .buffer;
-      rolls = ap .rolls;
-      dir = ap .dir;
-    }
+filed index ap = standing ap (ap .chunk) (ap .position) (At (index + 1)) 0 (ap .buffer)
 
 unfoldable pub recordOut : ℕ → List ℕ → Medium → Store → Appender → AppOut
 recordOut index vol m st ap =
@@ -141,19 +137,7 @@ writeOut vol m st ap =
 
 -- any error in flushing closes the appender
 abbrev pub closedOf : Appender → Appender
-closedOf ap =
-    record {
-      token = ap .token;
-      slot = ap .slot;
-      id = ap .id;
-      chunk = ap .chunk;
-      position = ap .position;
-      tail = Closed;
-      fill = ap .fill;
-      buffer = ap .buffer;
-      rolls = ap .rolls;
-      dir = ap .dir;
-    }
+closedOf ap = standing ap (ap .chunk) (ap .position) Closed (ap .fill) (ap .buffer)
 
 abbrev pub closing : AppOut → Error → AppOut
 closing o e =
@@ -168,20 +152,9 @@ flushOf vol m st ap = let o : AppOut = writeOut vol m st ap in onDone (o .ans .o
 
 -- ---- append and sync
 
+-- with a byte more
 abbrev pub pushed : ℕ → Appender → Appender
-pushed b ap =
-    record {
-      token = ap .token;
-      slot = ap .slot;
-      id = ap .id;
-      chunk = ap .chunk;
-      position = ap .position;
-      tail = ap .tail;
-      fill = ap .fill + 1;
-      buffer = set (ap .buffer) (ap .fill) b;
-      rolls = ap .rolls;
-      dir = ap .dir;
-    }
+pushed b ap = holding ap (ap .fill + 1) (set (ap .buffer) (ap .fill) b)
 
 -- a byte, and the record that it fills
 unfoldable pub putByte : ℕ → List ℕ → Medium → Store → Appender → AppOut
@@ -197,19 +170,7 @@ syncOf vol m st ap = pick (eqb (ap .fill) 0) (done vol m st ap) (flushOf vol m s
 
 -- a run of bytes in the buffer, as the code puts them: proofs/Runs says that they go as one by one
 abbrev pub withRun : List ℕ → Appender → Appender
-withRun bytes ap =
-    record {
-      token = ap .token;
-      slot = ap .slot;
-      id = ap .id;
-      chunk = ap .chunk;
-      position = ap .position;
-      tail = ap .tail;
-      fill = ap .fill + length bytes;
-      buffer = over (ap .fill) bytes (ap .buffer);
-      rolls = ap .rolls;
-      dir = ap .dir;
-    }
+withRun bytes ap = holding ap (ap .fill + length bytes) (over (ap .fill) bytes (ap .buffer))
 
 -- the bytes that fit before a record is full
 unfoldable pub runOf : ℕ → ℕ → ℕ

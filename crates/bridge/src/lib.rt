@@ -24,11 +24,7 @@ pub extern "C" fn port_mount(
 {
     let m = *medium;
     let r = store::mount(volume, numbers::medium_in(m));
-    let s = r.store;
-    let h = s.head;
-    let c = h.crcs;
-    *crcs = c;
-    *store = numbers::store_words(s);
+    numbers::put_store(r.store, store, crcs);
     *medium = numbers::medium_words(r.medium);
     let o = r.outcome;
     numbers::code(o)

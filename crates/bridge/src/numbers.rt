@@ -104,6 +104,16 @@ pub fn store_words(s: Store) -> [u64; 10]
     }
 }
 
+// A store over the row and the checksums that were lent for it.
+pub fn put_store(s: Store, store: &mut [u64; 10], crcs: &mut [u32; 24])
+    ensures { λ _. ⌜ (now (store .exit) ≡ storeWords s) × (now (crcs .exit) ≡ s .head .crcs) ⌝ }
+{
+    let h = s.head;
+    let c = h.crcs;
+    *crcs = c;
+    *store = store_words(s);
+}
+
 // 0, or the number of a refusal.
 pub fn code(o: Outcome) -> u32
     ensures { λ r. ⌜ r ≡ codeOf (outcomeOf o) ⌝ }

@@ -10,7 +10,7 @@ use Rattle.medium.specs.Refusal.{Answer, ok, refused}
 use Rattle.append.specs.declared.Appender.{Appender}
 use Rattle.append.specs.declared.Tail.{Tail}
 use Rattle.append.specs.declared.Tail.the-variants.{At, Reopened, Closed}
-use Rattle.append.specs.Calls.{AppCall, appendCall, syncCall, roomCall}
+use Rattle.append.specs.Calls.{AppTold, AppCall, appendCall, syncCall, roomCall}
 use Rattle.store.specs.Opening.{createCall, openCall}
 use Rattle.store.specs.Writing.{WriteCall, formatCall, deleteCall, Went, none, went, OldestCall, oldestCall}
 use Rattle.bridge.specs.Numbers.{codeOf, narrowOf, mediumOf, mediumWords, storeOf, storeWords, numberWords}
@@ -102,13 +102,13 @@ oldestAt vol m st crcs dir lent = oldestWords lent (oldestCall vol (mediumOf m) 
 abbrev pub appWords : AppCall → List ℕ × ℕ × List ℕ × List ℕ × List ℕ × List ℕ × List ℕ × List ℕ
 appWords r = (
   r .vol,
-  codeOf (r .answer),
-  storeWords (r .store),
-  r .store .head .crcs,
-  appenderWords (r .appender),
-  r .appender .buffer,
-  r .appender .dir .bytes,
-  mediumWords (r .medium),
+  codeOf (r .call .answer),
+  storeWords (r .call .store),
+  r .call .store .head .crcs,
+  appenderWords (r .call .appender),
+  r .call .appender .buffer,
+  r .call .appender .dir .bytes,
+  mediumWords (r .call .medium),
 )
 
 unfoldable pub appendAt : List ℕ → List ℕ → List ℕ → List ℕ → List ℕ → List ℕ → List ℕ → List ℕ → List ℕ × ℕ × List ℕ × List ℕ × List ℕ × List ℕ × List ℕ × List ℕ
@@ -126,7 +126,7 @@ roomAt ap buffer dir = (codeOf (roomCall (appenderOf ap buffer dir)), numberWord
 unfoldable pub createAt : List ℕ → List ℕ → List ℕ → List ℕ → List ℕ → ℕ → List ℕ → List ℕ × ℕ × List ℕ × List ℕ × List ℕ × List ℕ × List ℕ × List ℕ
 createAt vol m st crcs name rolls dir = appWords (createCall vol (mediumOf m) (storeOf st crcs) name (not (eqb rolls 0)) dir)
 
-abbrev pub openWords : AppCall → ℕ × List ℕ × List ℕ × List ℕ × List ℕ × List ℕ × List ℕ
+abbrev pub openWords : AppTold → ℕ × List ℕ × List ℕ × List ℕ × List ℕ × List ℕ × List ℕ
 openWords r = (
   codeOf (r .answer),
   storeWords (r .store),
@@ -138,4 +138,4 @@ openWords r = (
 )
 
 unfoldable pub openAt : List ℕ → List ℕ → List ℕ → List ℕ → List ℕ → ℕ → List ℕ → ℕ × List ℕ × List ℕ × List ℕ × List ℕ × List ℕ × List ℕ
-openAt vol m st crcs name rolls dir = openWords (openCall vol (mediumOf m) (storeOf st crcs) name (not (eqb rolls 0)) dir)
+openAt vol m st crcs name rolls dir = openWords (openCall vol (mediumOf m) (storeOf st crcs) name (not (eqb rolls 0)) dir .call)

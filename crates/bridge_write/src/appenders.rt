@@ -101,6 +101,23 @@ pub fn appender_words(a: Appender) -> [u64; 10]
     ]
 }
 
+// An appender over the row and the bytes that were lent for it.
+pub fn put_appender(
+    a: Appender,
+    appender: &mut [u64; 10],
+    buffer: &mut [u8; 486],
+    dir: &mut [u8; 40],
+)
+    ensures { λ _. ⌜ (now (appender .exit) ≡ appenderWords a) × (now (buffer .exit) ≡ a .buffer) × (now (dir .exit) ≡ a .dir .bytes) ⌝ }
+{
+    let over = a.dir;
+    let b = a.buffer;
+    let d = over.bytes;
+    *buffer = b;
+    *dir = d;
+    *appender = appender_words(a);
+}
+
 // The length of the name that went; 0 where none did.
 fn gone_length(g: Gone) -> usize
     ensures { λ r. ⌜ (part 0 r (g .name) ≡ wentName (goneAnswer g .answer)) × (r ≡ length (wentName (goneAnswer g .answer))) × (r ≤ 40) ⌝ }

@@ -22,11 +22,7 @@ pub extern "C" fn port_format(
 {
     let m = *medium;
     let r = store::format(volume, numbers::medium_in(m), size, seed);
-    let s = r.store;
-    let h = s.head;
-    let c = h.crcs;
-    *crcs = c;
-    *store = numbers::store_words(s);
+    numbers::put_store(r.store, store, crcs);
     *medium = numbers::medium_words(r.medium);
     let o = r.outcome;
     numbers::code(o)
@@ -46,11 +42,7 @@ pub extern "C" fn port_delete(
     let w = *store;
     let c = *crcs;
     let r = store::delete(volume, numbers::medium_in(m), numbers::store_in(w, c), name);
-    let s = r.store;
-    let h = s.head;
-    let k = h.crcs;
-    *crcs = k;
-    *store = numbers::store_words(s);
+    numbers::put_store(r.store, store, crcs);
     *medium = numbers::medium_words(r.medium);
     let o = r.outcome;
     numbers::code(o)
@@ -74,11 +66,7 @@ pub extern "C" fn port_delete_oldest(
     let c = *crcs;
     let g = *gone;
     let r = store::delete_oldest(volume, numbers::medium_in(m), numbers::store_in(w, c), dir);
-    let s = r.store;
-    let h = s.head;
-    let k = h.crcs;
-    *crcs = k;
-    *store = numbers::store_words(s);
+    numbers::put_store(r.store, store, crcs);
     *medium = numbers::medium_words(r.medium);
     *answer = appenders::gone_words(r);
     *gone = appenders::gone_name(r, g);
@@ -111,19 +99,9 @@ pub extern "C" fn port_append(
         numbers::store_in(w, c),
         bytes,
     );
-    let s = r.store;
-    let h = s.head;
-    let k = h.crcs;
-    *crcs = k;
-    *store = numbers::store_words(s);
+    numbers::put_store(r.store, store, crcs);
     *medium = numbers::medium_words(r.medium);
-    let a = r.appender;
-    let f = a.buffer;
-    let over = a.dir;
-    let g = over.bytes;
-    *buffer = f;
-    *dir = g;
-    *appender = appenders::appender_words(a);
+    appenders::put_appender(r.appender, appender, buffer, dir);
     let o = r.outcome;
     numbers::code(o)
 }
@@ -148,19 +126,9 @@ pub extern "C" fn port_sync(
     let d = *dir;
     let ap = appenders::appender_in(v, b, d);
     let r = ap.sync(volume, numbers::medium_in(m), numbers::store_in(w, c));
-    let s = r.store;
-    let h = s.head;
-    let k = h.crcs;
-    *crcs = k;
-    *store = numbers::store_words(s);
+    numbers::put_store(r.store, store, crcs);
     *medium = numbers::medium_words(r.medium);
-    let a = r.appender;
-    let f = a.buffer;
-    let over = a.dir;
-    let g = over.bytes;
-    *buffer = f;
-    *dir = g;
-    *appender = appenders::appender_words(a);
+    appenders::put_appender(r.appender, appender, buffer, dir);
     let o = r.outcome;
     numbers::code(o)
 }

@@ -31,19 +31,9 @@ pub extern "C" fn port_create(
         rolls != 0,
         dir,
     );
-    let s = r.store;
-    let h = s.head;
-    let k = h.crcs;
-    *crcs = k;
-    *store = numbers::store_words(s);
+    numbers::put_store(r.store, store, crcs);
     *medium = numbers::medium_words(r.medium);
-    let a = r.appender;
-    let f = a.buffer;
-    let d = a.dir;
-    let g = d.bytes;
-    *buffer = f;
-    *over = g;
-    *appender = appenders::appender_words(a);
+    appenders::put_appender(r.appender, appender, buffer, over);
     let o = r.outcome;
     numbers::code(o)
 }
@@ -74,19 +64,9 @@ pub extern "C" fn port_open_append(
         rolls != 0,
         dir,
     );
-    let s = r.store;
-    let h = s.head;
-    let k = h.crcs;
-    *crcs = k;
-    *store = numbers::store_words(s);
+    numbers::put_store(r.store, store, crcs);
     *medium = numbers::medium_words(r.medium);
-    let a = r.appender;
-    let f = a.buffer;
-    let d = a.dir;
-    let g = d.bytes;
-    *buffer = f;
-    *over = g;
-    *appender = appenders::appender_words(a);
+    appenders::put_appender(r.appender, appender, buffer, over);
     let o = r.outcome;
     numbers::code(o)
 }

@@ -24,8 +24,8 @@ use Rattle.header.specs.Header.{encodeOf}
 use Rattle.header.specs.Copies.{currentOf}
 use Rattle.plan.specs.declared.Committed.{Committed}
 use Rattle.plan.specs.declared.Edit.{Edit}
-use Rattle.plan.specs.declared.Stepped.{Stepped}
-use Rattle.plan.specs.Copy.{skippedFrom, Plan, StepOut, stepOf, bodyFrom, Out, lastOf, copyOut}
+use Rattle.plan.specs.declared.BodyWritten.{BodyWritten}
+use Rattle.plan.specs.Copy.{skippedFrom, Plan, BodyOut, bodySectorOf, bodyFrom, Out, lastOf, copyOut}
 use Rattle.plan.proofs.Keeps.{Ready, body-stays}
 use Rattle.commit.specs.Commit.{isCurrent, commitPlan, commitOf}
 use Rattle.commit.proofs.Steps.{Gives, GivesW}
@@ -33,13 +33,13 @@ use Rattle.commit.proofs.Steps.{Gives, GivesW}
 abbrev pub GivesC : List ℕ → Committed → Out → Type 0
 GivesC vol a o = (vol ≡ o .vol) × (a ≡ o .ans)
 
-pub along : {v : List ℕ} {s : Stepped} {x y : StepOut} → Gives v s x → x ≡ y → Gives v s y
-along g e = (g .0 ∙ ap (λ (o : StepOut). o .vol) e, g .1 ∙ ap (λ (o : StepOut). o .ans) e)
+pub along : {v : List ℕ} {s : BodyWritten} {x y : BodyOut} → Gives v s x → x ≡ y → Gives v s y
+along g e = (g .0 ∙ ap (λ (o : BodyOut). o .vol) e, g .1 ∙ ap (λ (o : BodyOut). o .ans) e)
 
 -- ---- the loop over the body: from here the definition gives what it gives from the start
 
 module _ (p : Plan) (n k : ℕ) (vol : List ℕ) (m : Medium) (h : Header) where
-  module _ (below : k < n) {vol' : List ℕ} {s : Stepped} (g : Gives vol' s (stepOf p vol m h k)) where
+  module _ (below : k < n) {vol' : List ℕ} {s : BodyWritten} (g : Gives vol' s (bodySectorOf p vol m h k)) where
     less : n - k ≡ suc (n - (k + 1))
     less = omega arith
 
@@ -50,8 +50,8 @@ module _ (p : Plan) (n k : ℕ) (vol : List ℕ) (m : Medium) (h : Header) where
     pub stop : {e : Error} → s .outcome ≡ No e → Gives vol' s (bodyFrom p (n - k) k vol m h)
     unfolding bodyFrom onDone
     stop d =
-        let o : stepOf p vol m h k .ans .outcome ≡ _ = told (ap (λ (a : Stepped). a .outcome) (g .1)) d in
-        let q : stepOf p vol m h k ≡ bodyFrom p (n - k) k vol m h = rw (less, o) in
+        let o : bodySectorOf p vol m h k .ans .outcome ≡ _ = told (ap (λ (a : BodyWritten). a .outcome) (g .1)) d in
+        let q : bodySectorOf p vol m h k ≡ bodyFrom p (n - k) k vol m h = rw (less, o) in
         along g q
 
   pub ended : n ≤ k → Gives vol (record { outcome = Done; medium = m; head = h }) (bodyFrom p (n - k) k vol m h)
@@ -66,10 +66,10 @@ pub fits-still : (st : Store) (v w : List ℕ) → length w ≡ length v → sto
 fits-still st v w e ok = rw e ok
 
 -- the body leaves the count of chunks, so that the header made can be written
-pub body-chunks : (p : Plan) (vol : List ℕ) (m : Medium) {v : List ℕ} {b : Stepped} → Gives v b (bodyFrom p (bodyOf (p .head .chunks)) 0 vol m (p .head)) → Ready p vol
+pub body-chunks : (p : Plan) (vol : List ℕ) (m : Medium) {v : List ℕ} {b : BodyWritten} → Gives v b (bodyFrom p (bodyOf (p .head .chunks)) 0 vol m (p .head)) → Ready p vol
     → p .head .chunks ≤ 2048 → b .head .chunks ≡ p .head .chunks
 body-chunks p vol m g r most =
-    ap (λ (s : Stepped). s .head .chunks) (g .1)
+    ap (λ (s : BodyWritten). s .head .chunks) (g .1)
     ∙ ap (λ (h : Header). h .chunks) (body-stays p (bodyOf (p .head .chunks)) 0 vol m (p .head) r (omega arith) .numbers)
 
 -- ---- the copy: its first image, the body, the whole header
@@ -79,7 +79,7 @@ module _ (p : Plan) (vol : List ℕ) (m : Medium) {at : ℕ} {vz : List ℕ} {z 
   unfolding copyOut onDone
   first-refused d = rw (← ha, ← (gz .0), ← (gz .1), d) (refl, refl)
 
-  module _ (dz : z .outcome ≡ Done) {vb : List ℕ} {b : Stepped} (gb : Gives vb b (bodyFrom p (bodyOf (p .head .chunks)) 0 vz (z .medium) (p .head))) where
+  module _ (dz : z .outcome ≡ Done) {vb : List ℕ} {b : BodyWritten} (gb : Gives vb b (bodyFrom p (bodyOf (p .head .chunks)) 0 vz (z .medium) (p .head))) where
     pub body-refused : {e : Error} → b .outcome ≡ No e → GivesC vb (record { outcome = No e; medium = b .medium; store = p .store }) (copyOut p vol m)
     unfolding copyOut onDone
     body-refused d = rw (← ha, ← (gz .0), ← (gz .1), dz, ← (gb .0), ← (gb .1), d) (refl, refl)

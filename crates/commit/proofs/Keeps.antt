@@ -15,19 +15,20 @@ use Rattle.medium.specs.declared.Medium.{Medium}
 use Rattle.medium.specs.declared.Outcome.{Outcome}
 use Rattle.medium.specs.declared.Outcome.the-variants.{Done, No}
 use Rattle.medium.specs.Sector.{sectorsOf}
-use Rattle.medium.proofs.Laws.{onDone-keeps}
+use Rattle.medium.proofs.Laws.{onDone-keeps, not-done}
+use Rattle.medium.specs.Frame.{Spends}
+use Rattle.medium.proofs.Frame.{spends-none}
 use Rattle.handles.specs.declared.Header.{Header}
 use Rattle.handles.specs.declared.Store.{Store}
 use Rattle.handles.specs.Handles.{saneOf, storeOk}
 use Rattle.handles.proofs.Laws.{Sane, Held, store-facts}
 use Rattle.header.specs.declared.answers.Current.{Current}
 use Rattle.header.specs.Copies.{currentOf}
-use Rattle.header.proofs.Ways.{listing}
+use Rattle.header.specs.Header.{withCrcs}
 use Rattle.plan.specs.declared.Edit.{Edit}
 use Rattle.plan.specs.declared.Edit.the-variants.{Format, Create, Extend, Remove}
 use Rattle.plan.specs.Edit.{nextAfter, cursorAfter, headAfter}
 use Rattle.plan.specs.Copy.{Out}
-use Rattle.plan.proofs.Keeps.{Spends, spends-none, not-done}
 use Rattle.plan.proofs.Whole.{Copied, copy-copied}
 use Rattle.commit.specs.Commit.{isCurrent, commitPlan, commitOf}
 
@@ -54,7 +55,7 @@ next-after (Create slot id chunk) h n = λ q. omega arith
 next-after (Extend slot position next last partial records) h n = n
 next-after (Remove slot) h n = n
 
-cursor-after : (e : Edit) (h : Header) → 1 ≤ h .chunks → h .cursor < h .chunks → cursorAfter e h < h .chunks
+pub cursor-after : (e : Edit) (h : Header) → 1 ≤ h .chunks → h .cursor < h .chunks → cursorAfter e h < h .chunks
 unfolding cursorAfter
 cursor-after Format h p c = c
 cursor-after (Create slot id chunk) h p c = mod-lt (chunk + 1) p
@@ -62,7 +63,7 @@ cursor-after (Extend slot position next last partial records) h p c = mod-lt (ne
 cursor-after (Remove slot) h p c = c
 
 -- whatever its checksums
-pub sane-after : (e : Edit) (h : Header) (sectors : ℕ) (crcs : List ℕ) → Sane h sectors → saneOf (listing (headAfter e h) crcs) sectors ≡ true
+pub sane-after : (e : Edit) (h : Header) (sectors : ℕ) (crcs : List ℕ) → Sane h sectors → saneOf (withCrcs (headAfter e h) crcs) sectors ≡ true
 unfolding headAfter
 sane-after e h sectors crcs s =
     sane-from _ sectors
@@ -94,7 +95,7 @@ pub record Kept (edit : Edit) (vol : List ℕ) (m : Medium) (st : Store) (o : Ou
   pub count : length (o .ans .store .head .crcs) ≡ 24
   pub writer : o .ans .store .writer ≡ st .writer
   pub refused : (e : Error) → o .ans .outcome ≡ No e → o .ans .store ≡ st
-  pub accepted : o .ans .outcome ≡ Done → (o .ans .store .copy ≡ 1 - st .copy) × (o .ans .store .head ≡ listing (headAfter edit (st .head)) (o .ans .store .head .crcs))
+  pub accepted : o .ans .outcome ≡ Done → (o .ans .store .copy ≡ 1 - st .copy) × (o .ans .store .head ≡ withCrcs (headAfter edit (st .head)) (o .ans .store .head .crcs))
 
 module _ (edit : Edit) (name vol : List ℕ) (m : Medium) (st : Store) (ok : storeOk st (sectorsOf vol) ≡ true) (count : length (st .head .crcs) ≡ 24) where
   old : (o : Out) {e : Error} → length (o .vol) ≡ length vol → Spends m (o .ans .medium) → o .ans .store ≡ st → o .ans .outcome ≡ No e → Kept edit vol m st o
@@ -118,16 +119,16 @@ module _ (edit : Edit) (name vol : List ℕ) (m : Medium) (st : Store) (ok : sto
   copied c o k = go (o .ans .outcome) refl
     where
       go : (r : Outcome) → o .ans .outcome ≡ r → Kept edit vol m st o
-      go (No e) q = old o (k .size) (k .medium) (k .refused e q) q
+      go (No e) q = old o (k .frame .size) (k .medium) (k .refused e q) q
       go Done q =
           let f : Held st (sectorsOf vol) = store-facts st (sectorsOf vol) ok in
-          let n : o .ans .store .head ≡ listing (headAfter edit (st .head)) (o .ans .store .head .crcs) = k .numbers q in
+          let n : o .ans .store .head ≡ withCrcs (headAfter edit (st .head)) (o .ans .store .head .crcs) = k .numbers q in
           let s : saneOf (o .ans .store .head) (sectorsOf vol) ≡ true = ap (λ (x : Header). saneOf x (sectorsOf vol)) n ∙ sane-after edit (st .head) (sectorsOf vol) _ (f .head) in
           let p : o .ans .store .copy < 2 = rw (k .copy q) (omega arith) in
           record {
-            size = k .size;
+            size = k .frame .size;
             medium = k .medium;
-            ok = rw (k .size) (ok-from (o .ans .store) (sectorsOf vol) p s);
+            ok = rw (k .frame .size) (ok-from (o .ans .store) (sectorsOf vol) p s);
             copy = p;
             id = ap (λ (x : Header). x .id) n;
             chunks = ap (λ (x : Header). x .chunks) n;

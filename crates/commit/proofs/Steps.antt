@@ -1,5 +1,5 @@
--- What a step gives, by the way that it goes: a law for each return of `step`, over plain values, whose premises are what the callees ensure and
--- what the tests say. Assumes nothing.
+-- What a body sector gives, by the way that it goes: a law for each return of `write_body_sector`, over plain values, whose premises are what the
+-- callees ensure and what the tests say. Assumes nothing.
 use mathlib.Core.Path.{_≡_, refl, ap, _∙_}
 use mathlib.Core.Bool.{Bool, true, false, not, _&&_}
 use mathlib.Core.List.{List}
@@ -22,12 +22,12 @@ use Rattle.handles.specs.declared.Header.{Header}
 use Rattle.handles.specs.declared.Store.{Store}
 use Rattle.handles.specs.Body.{bodyAt, checkOf}
 use Rattle.handles.specs.Handles.{baseOf}
-use Rattle.plan.specs.declared.Stepped.{Stepped}
+use Rattle.plan.specs.declared.BodyWritten.{BodyWritten}
 use Rattle.plan.specs.Edit.{changesOf, editOf}
-use Rattle.plan.specs.Copy.{Plan, unread, held, put, bad, StepOut, dueBytes, listed, dueMove, isFormat, moveOf, withCrc, actOf, stepOf}
+use Rattle.plan.specs.Copy.{Plan, unread, matched, put, bad, BodyOut, dueBytes, lists, dueMove, isFormat, moveOf, withCrc, actOf, bodySectorOf}
 
 -- the volume and the answer are what a definition gives
-abbrev pub Gives : List ℕ → Stepped → StepOut → Type 0
+abbrev pub Gives : List ℕ → BodyWritten → BodyOut → Type 0
 Gives vol a o = (vol ≡ o .vol) × (a ≡ o .ans)
 
 abbrev pub GivesW : List ℕ → Written → WriteOut → Type 0
@@ -71,41 +71,41 @@ check-read vol m st k e = go (readOf m (bodyAt st k)) _ e
     go Done x q = refl
     go (No r) x q = q
 
--- ---- a step
+-- ---- one body sector
 
 module _ (p : Plan) (vol : List ℕ) (m : Medium) (h : Header) (k : ℕ) (edits : isFormat (p .edit) ≡ false) {b l : Bool} (hb : b ≡ changesOf (p .edit) k)
-    (hl : l ≡ (p .known && eqb (getD (p .held) k 0) (getD (p .store .head .crcs) k 0))) where
+    (hl : l ≡ (p .known && eqb (getD (p .listed) k 0) (getD (p .store .head .crcs) k 0))) where
   move : moveOf p vol m k ≡ pick (not b && l) unread (onDone (checkOf vol m (p .store) k) (dueMove p k (dueBytes p vol k)) bad)
-  unfolding moveOf listed pick
+  unfolding moveOf lists pick
   move = rw (edits, ← hb, ← hl)
 
-  pub skipped : (not b && l) ≡ true → Gives vol (record { outcome = Done; medium = m; head = h }) (stepOf p vol m h k)
-  unfolding stepOf actOf pick
+  pub skipped : (not b && l) ≡ true → Gives vol (record { outcome = Done; medium = m; head = h }) (bodySectorOf p vol m h k)
+  unfolding bodySectorOf actOf pick
   skipped t = rw (move, t) (refl, refl)
 
   module _ (t : (not b && l) ≡ false) {o : Outcome} (ho : o ≡ checkOf vol m (p .store) k) where
-    pub refused : {e : Error} → o ≡ No e → Gives vol (record { outcome = No e; medium = m; head = h }) (stepOf p vol m h k)
-    unfolding stepOf actOf pick onDone
+    pub refused : {e : Error} → o ≡ No e → Gives vol (record { outcome = No e; medium = m; head = h }) (bodySectorOf p vol m h k)
+    unfolding bodySectorOf actOf pick onDone
     refused q = rw (move, t, told ho q) (refl, refl)
 
     module _ (d : o ≡ Done) (z : List ℕ) {s s' : List ℕ} {c : ℕ} {l' : Bool}
         (hs : s ≡ leftIn vol m z (bodyAt (p .store) k)) (hs' : s' ≡ pick b (editOf (p .edit) (p .name) k s) s)
-        (hc : c ≡ crc32Of s') (hl' : l' ≡ (p .known && eqb (getD (p .held) k 0) c)) where
+        (hc : c ≡ crc32Of s') (hl' : l' ≡ (p .known && eqb (getD (p .listed) k 0) c)) where
       due : s' ≡ dueBytes p vol k
       unfolding dueBytes onDone
       due =
           let r : s ≡ sectorAt vol (bodyAt (p .store) k) = hs ∙ rw (check-read vol m (p .store) k (told ho d)) in
           hs' ∙ rw (r, hb)
 
-      decided : moveOf p vol m k ≡ pick l' (held c) (put c s')
-      unfolding pick onDone dueMove listed
+      decided : moveOf p vol m k ≡ pick l' (matched c) (put c s')
+      unfolding pick onDone dueMove lists
       decided = rw (move, t, told ho d, ← due, ← hc, ← hl')
 
-      pub kept : l' ≡ true → Gives vol (record { outcome = Done; medium = m; head = withCrc h k c }) (stepOf p vol m h k)
-      unfolding stepOf actOf pick
+      pub kept : l' ≡ true → Gives vol (record { outcome = Done; medium = m; head = withCrc h k c }) (bodySectorOf p vol m h k)
+      unfolding bodySectorOf actOf pick
       kept q = rw (decided, q) (refl, refl)
 
       pub written : {base : ℕ} {vol' : List ℕ} {w : Written} → l' ≡ false → base ≡ baseOf (p .copy) → GivesW vol' w (writeOf vol m (base + 1 + k) s')
-          → Gives vol' (record { outcome = w .outcome; medium = w .medium; head = withCrc h k c }) (stepOf p vol m h k)
-      unfolding stepOf actOf pick
+          → Gives vol' (record { outcome = w .outcome; medium = w .medium; head = withCrc h k c }) (bodySectorOf p vol m h k)
+      unfolding bodySectorOf actOf pick
       written q ha g = rw (decided, q, ← ha, ← (g .0), ← (g .1)) (refl, refl)

@@ -39,7 +39,7 @@ commitPlan c edit name st =
       edit = edit;
       name = name;
       known = c .known;
-      held = c .held;
+      listed = c .listed;
     }
 
 unfoldable pub commitOf : Edit → List ℕ → List ℕ → Medium → Store → Out

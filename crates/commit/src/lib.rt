@@ -5,9 +5,9 @@ use header::Current;
 use medium::Error;
 use medium::Medium;
 use medium::Outcome;
+use plan::BodyWritten;
 use plan::Committed;
 use plan::Edit;
-use plan::Stepped;
 ghost use mathlib.Core.Path.{_≡_};
 ghost use mathlib.Core.Bool.{true, false, _&&_};
 ghost use Prim.Native.Nat.{_+_, _^_, _<_, _≤_};
@@ -21,7 +21,7 @@ ghost use Rattle.medium.specs.Sector.{sectorsOf, sectorAt, readOf};
 ghost use Rattle.handles.specs.Body.{bodyAt, checkOf};
 ghost use Rattle.handles.specs.Handles.{bodyOf, storeOk};
 ghost use Rattle.plan.specs.Edit.{Fits, headAfter};
-ghost use Rattle.plan.specs.Copy.{isFormat, stepOf, bodyFrom, copyOut};
+ghost use Rattle.plan.specs.Copy.{isFormat, bodySectorOf, bodyFrom, copyOut};
 ghost use Rattle.commit.specs.Commit.{sameHead, isCurrent, commitPlan, commitOf};
 
 fn same_crcs(a: [u32; 24], b: [u32; 24]) -> bool
@@ -92,12 +92,12 @@ fn read_body(
     Outcome::No(Error::Corrupt)
 }
 
-// What a body sector that is not written leaves.
-fn left(medium: Medium, head: Header) -> Stepped
-    ensures { λ r. ⌜ r ≡ record { outcome = Done; medium = medium; head = head } ⌝ }
+// What the body has come to: the header so far.
+fn so_far(outcome: Outcome, medium: Medium, head: Header) -> BodyWritten
+    ensures { λ r. ⌜ r ≡ record { outcome = outcome; medium = medium; head = head } ⌝ }
 {
-    Stepped {
-        outcome: Outcome::Done,
+    BodyWritten {
+        outcome,
         medium,
         head,
     }
@@ -115,7 +115,7 @@ fn refused(e: Error, medium: Medium, store: Store) -> Committed
 }
 
 // One body sector: left unread, or read, checked, edited, and written to the other copy unless its header lists the checksum.
-fn step(
+fn write_body_sector(
     volume: &mut [u8],
     medium: Medium,
     store: Store,
@@ -124,42 +124,34 @@ fn step(
     edit: Edit,
     name: &[u8],
     k: usize,
-) -> Stepped
+) -> BodyWritten
     requires { ⌜ (store .copy < 2) × (64 ≤ sectorsOf (now volume)) × (k < 24) × (Fits edit (store .head .chunks)) × (isFormat edit ≡ false) × (length (now name) ≤ 40) ⌝ }
-    ensures { λ r. ⌜ (now (volume .exit) ≡ stepOf (commitPlan found edit (now (name .entry)) store) (now (volume .entry)) medium head k .vol) × (r ≡ stepOf (commitPlan found edit (now (name .entry)) store) (now (volume .entry)) medium head k .ans) ⌝ }
+    ensures { λ r. ⌜ (now (volume .exit) ≡ bodySectorOf (commitPlan found edit (now (name .entry)) store) (now (volume .entry)) medium head k .vol) × (r ≡ bodySectorOf (commitPlan found edit (now (name .entry)) store) (now (volume .entry)) medium head k .ans) ⌝ }
 {
     let own = store.head;
     let changing = plan::changes(edit, k);
     let known = found.known;
-    let theirs = found.held[k];
+    let theirs = found.listed[k];
     if !changing & lists(known, theirs, own.crcs[k]) {
-        return left(medium, head);
+        return so_far(Outcome::Done, medium, head);
     }
     let mut sector = [0u8; 512];
     let o = read_body(&volume[..], medium, store, k, &mut sector);
     if let Outcome::No(e) = o {
-        return Stepped {
-            outcome: Outcome::No(e),
-            medium,
-            head,
-        };
+        return so_far(Outcome::No(e), medium, head);
     }
     plan::edited(changing, edit, name, k, own.chunks, &mut sector);
     let crc = crc_of(&sector);
     let mut next = head;
     next.crcs[k] = crc;
     if lists(known, theirs, crc) {
-        return left(medium, next);
+        return so_far(Outcome::Done, medium, next);
     }
     let at = handles::base(1 - store.copy) + 1 + (k as u64);
     let w = medium::write_sector(&mut *volume, medium, at, &sector);
     let outcome = w.outcome;
     let after = w.medium;
-    Stepped {
-        outcome,
-        medium: after,
-        head: next,
-    }
+    so_far(outcome, after, next)
 }
 
 // The body sectors in order, up to a refusal.
@@ -170,7 +162,7 @@ fn write_body(
     found: Current,
     edit: Edit,
     name: &[u8],
-) -> Stepped
+) -> BodyWritten
     requires { ⌜ (storeOk store (sectorsOf (now volume)) ≡ true) × (store .head .generation + 1 < 2 ^ 64) × (Fits edit (store .head .chunks)) × (isFormat edit ≡ false) × (length (now name) ≤ 40) ⌝ }
     ensures { λ r. ⌜ (now (volume .exit) ≡ bodyFrom (commitPlan found edit (now (name .entry)) store) (bodyOf (store .head .chunks)) 0 (now (volume .entry)) medium (headAfter edit (store .head)) .vol) × (r ≡ bodyFrom (commitPlan found edit (now (name .entry)) store) (bodyOf (store .head .chunks)) 0 (now (volume .entry)) medium (headAfter edit (store .head)) .ans) ⌝ }
 {
@@ -180,7 +172,7 @@ fn write_body(
     let mut m = medium;
     let mut k = 0;
     while k < n {
-        let s = step(&mut *volume, m, store, found, head, edit, name, k);
+        let s = write_body_sector(&mut *volume, m, store, found, head, edit, name, k);
         let o = s.outcome;
         if let Outcome::No(_) = o {
             return s;
@@ -189,11 +181,7 @@ fn write_body(
         head = s.head;
         k += 1;
     }
-    Stepped {
-        outcome: Outcome::Done,
-        medium: m,
-        head,
-    }
+    so_far(Outcome::Done, m, head)
 }
 
 // The other copy written anew: its header zeroed, the body, the new header.

@@ -13,19 +13,19 @@ use Rattle.le.specs.Field.{getLe}
 use Rattle.le.specs.Part.{part, over, zeros}
 use Rattle.le.proofs.Choices.{pick-keeps-by, pick-true, pick-false}
 use Rattle.le.proofs.Fields.{length-put, get-put, put-before, put-after}
-use Rattle.le.proofs.Parts.{length-over, length-zeros, part-add, part-over, part-after}
+use Rattle.le.proofs.Parts.{length-over, length-zeros, part-add, part-over, part-after, part-zeros}
+use Rattle.le.proofs.Bools.{and-true}
 use Rattle.runs.specs.Run.{allZero}
+use Rattle.runs.proofs.Tests.{zeros-pass, zero-zeros}
 use Rattle.names.specs.Names.{nameOk, textLen}
 use Rattle.names.proofs.Laws.{text-short, name-some, name-short, name-padded}
 use Rattle.medium.specs.declared.Error.{Error}
 use Rattle.medium.specs.declared.Medium.{Medium}
 use Rattle.medium.proofs.Laws.{onDone-keeps}
 use Rattle.handles.specs.declared.Store.{Store}
-use Rattle.handles.proofs.Laws.{and-true}
 use Rattle.directory.specs.declared.Slot.{Slot}
 use Rattle.directory.specs.declared.Slot.the-variants.{Refused, Free, File}
 use Rattle.directory.specs.Entry.{entryBytes, lenOf, entryOk, entryOf, entryAt, slotAt}
-use Rattle.directory.proofs.Bytes.{zeros-pass, zero-zeros, part-zeros}
 
 -- ---- what an entry tells
 

@@ -1,4 +1,3 @@
-pub mod Bytes
 pub mod Places
 pub mod Entries
 pub mod Answers
@@ -6,3 +5,4 @@ pub mod Scans
 pub mod RowParts
 pub mod Ranges
 pub mod Edges
+pub mod Decides

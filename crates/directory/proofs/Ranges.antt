@@ -11,11 +11,12 @@ use lib.Seq.{drop-drop}
 use Rattle.le.specs.Part.{part}
 use Rattle.le.proofs.Choices.{pick-keeps, pick-keeps-by}
 use Rattle.le.proofs.Parts.{length-over, drop-over}
+use Rattle.le.proofs.Bools.{and-true}
 use Rattle.runs.specs.Run.{sameBytes}
+use Rattle.runs.proofs.Tests.{same-true}
 use Rattle.names.specs.Names.{nameOk, inDir}
 use Rattle.medium.specs.declared.Medium.{Medium}
 use Rattle.handles.specs.declared.Store.{Store}
-use Rattle.handles.proofs.Laws.{and-true}
 use Rattle.directory.specs.declared.Found.{Found}
 use Rattle.directory.specs.declared.Found.the-variants as found
 use Rattle.directory.specs.declared.Looked.{Looked}
@@ -28,7 +29,6 @@ use Rattle.directory.specs.declared.Slot.the-variants as slot
 use Rattle.directory.specs.Entry.{entryOf, entryAt, slotAt}
 use Rattle.directory.specs.Rows.{rowOf, Made, rowMade, listing, rowsOf}
 use Rattle.directory.specs.Scan.{finding, findOf, freeSeen, fileSeen, looking, lookOf, olderOf, seeking, oldestOf}
-use Rattle.directory.proofs.Bytes.{same-true}
 use Rattle.directory.proofs.Entries.{found-file, slot-file, slot-free}
 use Rattle.directory.proofs.RowParts.{length-row}
 use Rattle.directory.proofs.Scans.{Left, scan-keeps}

@@ -11,6 +11,7 @@ use Rattle.medium.specs.declared.Outcome.{Outcome}
 use Rattle.medium.specs.declared.Outcome.the-variants.{Done, No}
 use Rattle.handles.specs.declared.Store.{Store}
 use Rattle.walk.specs.Walk.{next}
+use Rattle.directory.specs.declared.Rows.{Rows}
 use Rattle.directory.specs.Scan.{Visitor, scanOf}
 
 -- a row: the name with zeros to 40, the id and the chunks
@@ -29,6 +30,10 @@ rowMade name id chunks s = record { rows = over (48 * s .count) (rowOf name id c
 pub record RowsOut : Type 0 where
   pub outcome : Outcome
   pub made : Made
+
+-- the answer, beside what the lent rows hold
+abbrev pub rowsTold : Rows → List ℕ → RowsOut
+rowsTold r rows = record { outcome = r .outcome; made = record { rows = rows; count = r .count } }
 
 -- the files in a directory, with the counts of their slots
 abbrev pub listing : List ℕ → List ℕ → Visitor Made RowsOut

@@ -91,3 +91,13 @@ seeking dir keeping keep =
 
 unfoldable pub oldestOf : List ℕ → Medium → Store → List ℕ → Bool → ℕ → OldestFile
 oldestOf vol m st dir keeping keep = scanOf (seeking dir keeping keep) vol m st (record { any = false; slot = 0; id = 0; len = 0 })
+
+-- ---- decisions by what a walk answers. They stay shut in proofs
+
+unfoldable pub onFound : {A : Type 0} → Found → (Error → A) → (ℕ → ℕ → A) → A
+onFound (found.Refused e) f g = f e
+onFound (found.At slot id) f g = g slot id
+
+unfoldable pub onLooked : {A : Type 0} → Looked → (Error → A) → (Seen → A) → A
+onLooked (looked.Refused e) f g = f e
+onLooked (looked.Done s) f g = g s

@@ -13,7 +13,7 @@ ghost use Rattle.medium.specs.Sector.{sectorsOf};
 ghost use Rattle.handles.specs.Handles.{baseOf};
 ghost use Rattle.directory.specs.Entry.{entryBytes, entryOf, entryAt, slotAt};
 ghost use Rattle.directory.specs.Scan.{findOf, freeSeen, fileSeen, lookOf, olderOf, oldestOf};
-ghost use Rattle.directory.specs.Rows.{rowOf, rowsOf};
+ghost use Rattle.directory.specs.Rows.{rowOf, rowsTold, rowsOf};
 
 // What a slot holds: the name of a file is the first `len` bytes of its entry.
 pub enum Slot {
@@ -288,7 +288,7 @@ pub fn list_rows(
     rows: &mut [u8],
 ) -> Rows
     requires { ⌜ (64 ≤ sectorsOf (now volume)) × (64 ≤ length (now counts)) × (3072 ≤ length (now rows)) ⌝ }
-    ensures { λ r. ⌜ (now (rows .exit) ≡ rowsOf (now (volume .entry)) medium store (now (dir .entry)) (now (counts .entry)) (now (rows .entry)) .made .rows) × (r .outcome ≡ rowsOf (now (volume .entry)) medium store (now (dir .entry)) (now (counts .entry)) (now (rows .entry)) .outcome) × (r .count ≡ rowsOf (now (volume .entry)) medium store (now (dir .entry)) (now (counts .entry)) (now (rows .entry)) .made .count) ⌝ }
+    ensures { λ r. ⌜ rowsTold r (now (rows .exit)) ≡ rowsOf (now (volume .entry)) medium store (now (dir .entry)) (now (counts .entry)) (now (rows .entry)) ⌝ }
 {
     let mut count: usize = 0;
     let mut next: usize = 0;

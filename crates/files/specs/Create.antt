@@ -2,26 +2,22 @@
 use Prim.Native.Nat.{ℕ, zero, suc, _-_, _^_}
 use mathlib.Core.Path.{_≡_}
 use mathlib.Core.Bool.{true, false}
-use mathlib.Core.List.{List, [], _∷_}
+use mathlib.Core.List.{List}
 use lib.Dec.{eqb}
 use Rattle.le.specs.Choice.{pick}
-use Rattle.medium.specs.declared.Error.{Error}
 use Rattle.medium.specs.declared.Error.the-variants.{Corrupt, Exists, Full, Spent}
 use Rattle.medium.specs.declared.Medium.{Medium}
 use Rattle.medium.specs.Refusal.{onDone}
 use Rattle.handles.specs.declared.Store.{Store}
-use Rattle.directory.specs.declared.Looked.{Looked}
-use Rattle.directory.specs.declared.Looked.the-variants as looked
-use Rattle.directory.specs.declared.Seen.{Seen}
-use Rattle.directory.specs.Scan.{lookOf}
-use Rattle.table.specs.Table.{freeOf}
+use Rattle.directory.specs.Scan.{lookOf, onLooked}
+use Rattle.table.specs.Table.{freeOf, onPick}
 use Rattle.plan.specs.declared.Edit.the-variants.{Create}
-use Rattle.plan.specs.Copy.{rolledOver, created, Skipped, Step, Out, stepsOf}
+use Rattle.plan.specs.Copy.{created, Skipped, Out, stepsOf}
 use Rattle.commit.specs.Commit.{commitOf}
-use Rattle.remove.specs.Remove.{GoneOut, removeOldestOf}
+use Rattle.remove.specs.Remove.{removeOldestOf}
 use Rattle.append.specs.declared.Tail.the-variants.{At}
-use Rattle.append.specs.Appender.{dirBytes}
-use Rattle.append.specs.Flush.{AppOut, after, onPick}
+use Rattle.append.specs.Appender.{dirBytes, noAppender}
+use Rattle.append.specs.Flush.{AppOut, after, rolling, afterGone}
 use Rattle.files.specs.declared.Rollover.{Rollover}
 use Rattle.files.specs.declared.Turn.{Turn}
 use Rattle.files.specs.Opened.{refusedAt, openedOut}
@@ -32,45 +28,32 @@ Next = List ℕ → Medium → Store → AppOut
 
 -- the entry and the first link in one commit; the last id is refused before it
 unfoldable pub makeOut : List ℕ → Rollover → List ℕ → Medium → Store → ℕ → ℕ → AppOut
-makeOut name over vol m st slot chunk =
+makeOut name rollover vol m st slot chunk =
     let id : ℕ = st .head .«next_id» in
     let o : Out = commitOf (Create slot id chunk) name vol m st in
     pick (eqb id (2 ^ 32 - 1)) (refusedAt vol m st Spent)
     (onDone (o .ans .outcome)
-    (after (stepsOf created o) (openedOut (o .vol) (o .ans .medium) (o .ans .store) slot id chunk 0 (At 0) over))
+    (after (stepsOf created o) (openedOut (o .vol) (o .ans .medium) (o .ans .store) slot id chunk 0 (At 0) rollover))
     (refusedAt (o .vol) (o .ans .medium) (o .ans .store)))
-
--- the step of a rollover
-abbrev pub rolling : List Skipped → List Step
-rolling skipped = (record { kind = rolledOver; skipped = skipped }) ∷ []
 
 -- a slot or chunk is lacking: the oldest file of the rollover's directory goes, whichever is open, and then `next`
 unfoldable pub overOut : Rollover → Next → List ℕ → Medium → Store → AppOut
-overOut over next vol m st =
-    let g : GoneOut = removeOldestOf vol m st (dirBytes (over .dir)) false 0 in
-    pick (over .rolls)
-    (onDone (g .ans .outcome)
-    (pick (g .ans .any) (after (rolling (g .skipped)) (next (g .vol) (g .ans .medium) (g .ans .store))) (refusedAt (g .vol) (g .ans .medium) (g .ans .store) Full))
-    (refusedAt (g .vol) (g .ans .medium) (g .ans .store)))
-    (refusedAt vol m st Full)
+overOut rollover next vol m st =
+    pick (rollover .rolls) (afterGone (removeOldestOf vol m st (dirBytes (rollover .dir)) false 0) noAppender next) (refusedAt vol m st Full)
 
 -- one round: all of the directory is looked through, and the table only if a slot is free
-unfoldable pub onLooked : Looked → (Error → AppOut) → (Seen → AppOut) → AppOut
-onLooked (looked.Refused e) f g = f e
-onLooked (looked.Done s) f g = g s
-
 unfoldable pub roundOut : List ℕ → Rollover → Next → List ℕ → Medium → Store → AppOut
-roundOut name over next vol m st =
+roundOut name rollover next vol m st =
     onLooked (lookOf vol m st name) (refusedAt vol m st)
     (λ s. pick (s .exists) (refusedAt vol m st Exists)
     (pick (s .free)
-    (onPick (freeOf vol m st) (refusedAt vol m st) (overOut over next vol m st) (makeOut name over vol m st (s .slot)))
-    (overOut over next vol m st)))
+    (onPick (freeOf vol m st) (refusedAt vol m st) (overOut rollover next vol m st) (makeOut name rollover vol m st (s .slot)))
+    (overOut rollover next vol m st)))
 
 -- two rounds; rolled over twice is 7
 unfoldable pub createFrom : ℕ → List ℕ → Rollover → List ℕ → Medium → Store → AppOut
-createFrom zero name over vol m st = refusedAt vol m st Corrupt
-createFrom (suc n) name over vol m st = roundOut name over (createFrom n name over) vol m st
+createFrom zero name rollover vol m st = refusedAt vol m st Corrupt
+createFrom (suc n) name rollover vol m st = roundOut name rollover (createFrom n name rollover) vol m st
 
 abbrev pub createOf : List ℕ → Rollover → List ℕ → Medium → Store → AppOut
 createOf = createFrom 2

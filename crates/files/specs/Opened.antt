@@ -29,7 +29,7 @@ writtenBy token id st = record { copy = st .copy; head = st .head; writer = Open
 
 -- a new appender of a file, with nothing unwritten
 abbrev pub newAppender : ℕ → ℕ → ℕ → ℕ → ℕ → Tail → Rollover → Appender
-newAppender token slot id chunk position tail over =
+newAppender token slot id chunk position tail rollover =
     record {
       token = token;
       slot = slot;
@@ -39,10 +39,10 @@ newAppender token slot id chunk position tail over =
       tail = tail;
       fill = 0;
       buffer = zeros 486;
-      rolls = over .rolls;
-      dir = over .dir;
+      rolls = rollover .rolls;
+      dir = rollover .dir;
     }
 
 unfoldable pub openedOut : List ℕ → Medium → Store → ℕ → ℕ → ℕ → ℕ → Tail → Rollover → AppOut
-openedOut vol m st slot id chunk position tail over =
-    done vol (withToken m) (writtenBy (nextToken m) id st) (newAppender (nextToken m) slot id chunk position tail over)
+openedOut vol m st slot id chunk position tail rollover =
+    done vol (withToken m) (writtenBy (nextToken m) id st) (newAppender (nextToken m) slot id chunk position tail rollover)

@@ -74,14 +74,14 @@ pub fn opened(
     chunk: u32,
     position: u32,
     tail: Tail,
-    over: Rollover,
+    rollover: Rollover,
 ) -> Flushed
-    ensures { λ r. ⌜ r ≡ openedOut [] medium store slot id chunk position tail over .ans ⌝ }
+    ensures { λ r. ⌜ r ≡ openedOut [] medium store slot id chunk position tail rollover .ans ⌝ }
 {
     let m = with_token(medium);
     let token = m.token;
     let s = written_by(token, id, store);
-    let dir = over.dir;
+    let dir = rollover.dir;
     let appender = Appender {
         token,
         slot,
@@ -91,7 +91,7 @@ pub fn opened(
         tail,
         fill: 0,
         buffer: [0u8; 486],
-        rolls: over.rolls,
+        rolls: rollover.rolls,
         dir,
     };
     Flushed {
@@ -110,12 +110,12 @@ fn make(
     medium: Medium,
     store: Store,
     name: &[u8],
-    over: Rollover,
+    rollover: Rollover,
     slot: usize,
     chunk: u32,
 ) -> Flushed
     requires { ⌜ (storeOk store (sectorsOf (now volume)) ≡ true) × (length (now name) ≤ 40) × (slot < 64) × (chunk < store .head .chunks) ⌝ }
-    ensures { λ r. ⌜ (now (volume .exit) ≡ makeOut (now (name .entry)) over (now (volume .entry)) medium store slot chunk .vol) × (r ≡ makeOut (now (name .entry)) over (now (volume .entry)) medium store slot chunk .ans) ⌝ }
+    ensures { λ r. ⌜ (now (volume .exit) ≡ makeOut (now (name .entry)) rollover (now (volume .entry)) medium store slot chunk .vol) × (r ≡ makeOut (now (name .entry)) rollover (now (volume .entry)) medium store slot chunk .ans) ⌝ }
 {
     let id = store.head.next_id;
     if id == 0xffff_ffff {
@@ -129,7 +129,7 @@ fn make(
     if let Outcome::No(e) = o {
         return refused(e, m, s);
     }
-    opened(m, s, slot, id, chunk, 0, Tail::At(0), over)
+    opened(m, s, slot, id, chunk, 0, Tail::At(0), rollover)
 }
 
 // What a round comes to: the answer, or what stands for another round after the oldest file went.
@@ -163,14 +163,14 @@ fn rolled_over(medium: Medium, store: Store) -> Turn
 }
 
 // A slot or chunk is lacking: the oldest file of the rollover's directory goes, whichever is open.
-fn roll(volume: &mut [u8], medium: Medium, store: Store, over: Rollover) -> Turn
-    requires { ⌜ (storeOk store (sectorsOf (now volume)) ≡ true) × (over .rolls ≡ true → over .dir .length ≤ 40) ⌝ }
-    ensures { λ r. ⌜ Turned (now (volume .exit)) r (λ next. overOut over next (now (volume .entry)) medium store) ⌝ }
+fn roll(volume: &mut [u8], medium: Medium, store: Store, rollover: Rollover) -> Turn
+    requires { ⌜ (storeOk store (sectorsOf (now volume)) ≡ true) × (rollover .rolls ≡ true → rollover .dir .length ≤ 40) ⌝ }
+    ensures { λ r. ⌜ Turned (now (volume .exit)) r (λ next. overOut rollover next (now (volume .entry)) medium store) ⌝ }
 {
-    if !over.rolls {
+    if !rollover.rolls {
         return ended(refused(Error::Full, medium, store));
     }
-    let dir = over.dir;
+    let dir = rollover.dir;
     let bytes = dir.bytes;
     let n = dir.length;
     let g = remove::remove_oldest(volume, medium, store, &bytes[0..n], false, 0);
@@ -187,9 +187,9 @@ fn roll(volume: &mut [u8], medium: Medium, store: Store, over: Rollover) -> Turn
 }
 
 // All of the directory is looked through, and the table only if a slot is free.
-fn round(volume: &mut [u8], medium: Medium, store: Store, name: &[u8], over: Rollover) -> Turn
-    requires { ⌜ (storeOk store (sectorsOf (now volume)) ≡ true) × (length (now name) ≤ 40) × (over .rolls ≡ true → over .dir .length ≤ 40) ⌝ }
-    ensures { λ r. ⌜ Turned (now (volume .exit)) r (λ next. roundOut (now (name .entry)) over next (now (volume .entry)) medium store) ⌝ }
+fn round(volume: &mut [u8], medium: Medium, store: Store, name: &[u8], rollover: Rollover) -> Turn
+    requires { ⌜ (storeOk store (sectorsOf (now volume)) ≡ true) × (length (now name) ≤ 40) × (rollover .rolls ≡ true → rollover .dir .length ≤ 40) ⌝ }
+    ensures { λ r. ⌜ Turned (now (volume .exit)) r (λ next. roundOut (now (name .entry)) rollover next (now (volume .entry)) medium store) ⌝ }
 {
     let found = directory::look(&volume[..], medium, store, name);
     match found {
@@ -199,14 +199,14 @@ fn round(volume: &mut [u8], medium: Medium, store: Store, name: &[u8], over: Rol
                 return ended(refused(Error::Exists, medium, store));
             }
             if !seen.free {
-                return roll(volume, medium, store, over);
+                return roll(volume, medium, store, rollover);
             }
             let p = table::free_chunk(&volume[..], medium, store);
             match p {
                 Pick::Refused(e) => ended(refused(e, medium, store)),
-                Pick::Nothing => roll(volume, medium, store, over),
+                Pick::Nothing => roll(volume, medium, store, rollover),
                 Pick::At(chunk) => {
-                    let x = make(volume, medium, store, name, over, seen.slot, chunk);
+                    let x = make(volume, medium, store, name, rollover, seen.slot, chunk);
                     ended(x)
                 }
             }
@@ -220,19 +220,19 @@ pub fn create(
     medium: Medium,
     store: Store,
     name: &[u8],
-    over: Rollover,
+    rollover: Rollover,
 ) -> Flushed
-    requires { ⌜ (storeOk store (sectorsOf (now volume)) ≡ true) × (length (now name) ≤ 40) × (over .rolls ≡ true → over .dir .length ≤ 40) ⌝ }
-    ensures { λ r. ⌜ (now (volume .exit) ≡ createOf (now (name .entry)) over (now (volume .entry)) medium store .vol) × (r ≡ createOf (now (name .entry)) over (now (volume .entry)) medium store .ans) ⌝ }
+    requires { ⌜ (storeOk store (sectorsOf (now volume)) ≡ true) × (length (now name) ≤ 40) × (rollover .rolls ≡ true → rollover .dir .length ≤ 40) ⌝ }
+    ensures { λ r. ⌜ (now (volume .exit) ≡ createOf (now (name .entry)) rollover (now (volume .entry)) medium store .vol) × (r ≡ createOf (now (name .entry)) rollover (now (volume .entry)) medium store .ans) ⌝ }
 {
-    let first = round(&mut *volume, medium, store, name, over);
+    let first = round(&mut *volume, medium, store, name, rollover);
     let x = first.answer;
     if !first.again {
         return x;
     }
     let m = x.medium;
     let s = x.store;
-    let second = round(volume, m, s, name, over);
+    let second = round(volume, m, s, name, rollover);
     let y = second.answer;
     if !second.again {
         return y;

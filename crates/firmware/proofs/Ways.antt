@@ -1,5 +1,5 @@
 -- The calls, by the way that they go: a law for each return, over plain values. Assumes nothing.
-use mathlib.Core.Path.{_≡_, refl, sym, ap, _∙_}
+use mathlib.Core.Path.{_≡_}
 use mathlib.Core.Bool.{Bool, true, false, not}
 use mathlib.Core.List.{List}
 use Prim.Native.Nat.{ℕ, _≤_, _<_}
@@ -12,15 +12,15 @@ use Rattle.medium.specs.declared.Error.{Error}
 use Rattle.medium.specs.declared.Error.the-variants.{Name, Range}
 use Rattle.medium.specs.declared.Medium.{Medium}
 use Rattle.medium.specs.declared.Outcome.the-variants.{Done, No}
-use Rattle.medium.specs.Refusal.{numberOf, outcomeOf}
+use Rattle.medium.specs.Refusal.{numberOf, onOk, outcomeOf}
 use Rattle.header.specs.Copies.{mountOf}
 use Rattle.header.proofs.Accepted.{mount-ok}
 use Rattle.store.specs.Asked.{askedOf}
 use Rattle.store.specs.declared.StoreAnswer.{StoreAnswer}
 use Rattle.store.specs.declared.ListAnswer.{ListAnswer}
-use Rattle.store.specs.Reading.{StoreCall, storeAnswer, mountCall, listAnswer, listCall}
+use Rattle.store.specs.Reading.{storeAnswer, mountCall, listAnswer, listCall}
 use Rattle.store.specs.Writing.{formatCall, deleteCall}
-use Rattle.firmware.specs.Calls.{codeOf, giving, onOk, chunksTold, mountHost, formatHost, deleteTold, deleteHost, listTold, listHost}
+use Rattle.firmware.specs.Calls.{codeOf, giving, mountHost, formatHost, deleteHost, listHost}
 
 -- ---- mount and format
 

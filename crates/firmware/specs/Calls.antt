@@ -9,7 +9,7 @@ use Rattle.le.specs.Part.{zeros}
 use Rattle.names.specs.Names.{nameOk, dirOk}
 use Rattle.medium.specs.declared.Error.the-variants as no
 use Rattle.medium.specs.declared.Medium.{Medium}
-use Rattle.medium.specs.Refusal.{Answer, ok, refused, numberOf}
+use Rattle.medium.specs.Refusal.{Answer, ok, refused, numberOf, onOk}
 use Rattle.store.specs.Reading.{StoreCall, mountCall, ListCall, listCall}
 use Rattle.store.specs.Writing.{WriteCall, formatCall, deleteCall}
 
@@ -22,11 +22,6 @@ codeOf (refused n) = n
 abbrev pub giving : Answer Unit → ℕ → Answer ℕ
 giving (ok _) n = ok n
 giving (refused e) n = refused e
-
--- a where a call is accepted, else f of its number. It stays shut in proofs
-unfoldable pub onOk : {A : Type 0} → Answer Unit → A → (ℕ → A) → A
-onOk (ok _) a f = a
-onOk (refused e) a f = f e
 
 -- the three medium numbers (token 0)
 abbrev pub mediumOf : ℕ → ℕ → ℕ → Medium
@@ -54,7 +49,7 @@ unfoldable pub deleteHost : List ℕ → Medium → List ℕ → ℕ × List ℕ
 deleteHost vol m name =
     let s : StoreCall = mountCall vol m in
     pick (nameOk name)
-    (onOk (s .answer) (deleteTold (deleteCall vol (s .medium) (s .store) name)) (λ n. (n, vol)))
+    (onOk (s .answer) (λ _. deleteTold (deleteCall vol (s .medium) (s .store) name)) (λ n. (n, vol)))
     (numberOf no.Name, vol)
 
 -- ---- list: rows
@@ -68,5 +63,5 @@ listHost vol m dir rows =
     let s : StoreCall = mountCall vol m in
     pick (ltb (length rows) 3072) (numberOf no.Range, rows)
     (pick (dirOk dir)
-    (onOk (s .answer) (listTold (listCall vol (s .medium) (s .store) dir (zeros 64) rows)) (λ n. (n, rows)))
+    (onOk (s .answer) (λ _. listTold (listCall vol (s .medium) (s .store) dir (zeros 64) rows)) (λ n. (n, rows)))
     (numberOf no.Name, rows))

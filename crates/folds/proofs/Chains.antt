@@ -2,7 +2,7 @@
 use Prim.Native.Nat.{ℕ, _+_, _-_, _<_, _≤_}
 use mathlib.Core.Path.{_≡_, refl, sym, ap, ap₂, _∙_, subst}
 use mathlib.Core.Logic.{_≢_}
-use mathlib.Core.Bool.{Bool, true, false, _||_}
+use mathlib.Core.Bool.{Bool, true, false}
 use mathlib.Core.List.{List}
 use native.Mathlib.Nat.{le-refl}
 use native.Mathlib.Omega.{arith}
@@ -11,6 +11,7 @@ use lib.Dec.{eqb, ltb}
 use lib.ListN.{length}
 use Rattle.le.specs.Choice.{pick}
 use Rattle.le.proofs.Choices.{pick-keeps-by, pick-true}
+use Rattle.le.proofs.Bools.{or-false, or-right}
 use Rattle.medium.specs.declared.Medium.{Medium}
 use Rattle.handles.specs.declared.Store.{Store}
 use Rattle.table.specs.declared.Link.{Link}
@@ -26,7 +27,7 @@ use Rattle.layout.proofs.Facts.{case, same-link, free≢linked, link-slot, one-
 use Rattle.folds.specs.Checked.{Checked}
 use Rattle.folds.specs.Chain.{chainFor}
 use Rattle.folds.proofs.Walked.{table-views}
-use Rattle.folds.proofs.Numbered.{tally-start, neither}
+use Rattle.folds.proofs.Numbered.{tally-start}
 use Rattle.folds.proofs.Chunks.{ofSlot, counts-free, counts-here, counts-other, owns, at-link, Met, met-free, met-link}
 
 -- a step of the chain's first chunk is one of the chunk at position 0
@@ -37,9 +38,6 @@ first-mine s c l f e = rw (eq-eqb (l .slot) s e)
 first-other : (s c : ℕ) (l : Link) (f : Place) → l .slot ≢ s → locateStep s 0 c l f ≡ f
 unfolding locateStep pick
 first-other s c l f e = rw (ne-eqb (l .slot) s e)
-
-or-true : (a b : Bool) → (a || b) ≡ true → a ≡ false → b ≡ true
-or-true a b e q = rw q at e
 
 module _ (vol : List ℕ) (st : Store) (G : ℕ → List Segment) (good : Good (diskOf vol st) G) (s : ℕ) (h : s < 64) (some : 1 ≤ length (G s)) where
   abbrev at : ℕ → ℕ
@@ -94,17 +92,17 @@ module _ (vol : List ℕ) (st : Store) (G : ℕ → List Segment) (good : Good (
       top-held : (b : Bool) → higher l t ≡ b → (pick b (l .position) (t .top) < length (G s)) × (at (pick b (l .position) (t .top)) ≡ pick b c (t .last))
       unfolding pick
       top-held true x = (inFile, there)
-      top-held false x = let z : t .count ≡ 0 → ⊥ = eqb-false _ _ (neither (eqb (t .count) 0) (ltb (t .top) (l .position)) x .0) in p .top (omega arith)
+      top-held false x = let z : t .count ≡ 0 → ⊥ = eqb-false _ _ (or-false (eqb (t .count) 0) (ltb (t .top) (l .position)) x .0) in p .top (omega arith)
 
       position-most : l .position ≤ top′
       position-most =
           pick-keeps-by (λ (n : ℕ). l .position ≤ n) (higher l t) (l .position) (t .top) (λ x. le-refl _)
-          (λ x. ltb-false _ _ (neither (eqb (t .count) 0) (ltb (t .top) (l .position)) x .1))
+          (λ x. ltb-false _ _ (or-false (eqb (t .count) 0) (ltb (t .top) (l .position)) x .1))
 
       top-most : 1 ≤ t .count → t .top ≤ top′
       top-most k =
           pick-keeps-by (λ (n : ℕ). t .top ≤ n) (higher l t) (l .position) (t .top)
-          (λ x. let y : t .top < l .position = ltb-true _ _ (or-true (eqb (t .count) 0) (ltb (t .top) (l .position)) x (ne-eqb (t .count) 0 (omega arith))) in omega arith)
+          (λ x. let y : t .top < l .position = ltb-true _ _ (or-right (eqb (t .count) 0) (ltb (t .top) (l .position)) x (ne-eqb (t .count) 0 (omega arith))) in omega arith)
           (λ x. le-refl _)
 
       at-mine : Chain (c + 1) (chainMore c l t)

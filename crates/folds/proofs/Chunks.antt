@@ -7,23 +7,21 @@ use mathlib.Core.List.{List}
 use native.Mathlib.Omega.{arith}
 use borrow.Author.Tests.{eqb-true, eq-eqb}
 use lib.Dec.{eqb}
-use lib.ListN.{length, getD, set, drop, length-set, getD-replicate, List·getD-append}
+use lib.ListN.{length, getD, set, drop, length-set, List·getD-append}
 use lib.Seq.{getD-set-same, getD-set-other}
 use Rattle.le.specs.Part.{over, zeros}
 use Rattle.le.proofs.Choices.{pick-keeps-by}
-use Rattle.le.proofs.Parts.{length-zeros, length-over}
-use Rattle.medium.specs.declared.Error.{Error}
+use Rattle.le.proofs.Parts.{length-zeros, length-over, getD-zeros}
+use Rattle.le.proofs.Bools.{and-true}
 use Rattle.medium.specs.declared.Medium.{Medium}
 use Rattle.medium.specs.declared.Outcome.the-variants.{Done}
 use Rattle.handles.specs.declared.Store.{Store}
-use Rattle.handles.proofs.Laws.{and-true}
 use Rattle.table.specs.declared.Link.{Link}
 use Rattle.table.specs.declared.LinkAt.the-variants as link
-use Rattle.table.specs.declared.Pick.{Pick}
 use Rattle.table.specs.declared.Pick.the-variants as free
 use Rattle.table.specs.declared.Place.{Place}
 use Rattle.table.specs.declared.Place.the-variants as place
-use Rattle.table.specs.Table.{linksOf, sought, locateStep, locateV, locateOf, freeStep, freeV, freeOf, Counted, countV, countOf}
+use Rattle.table.specs.Table.{linksOf, sought, locateStep, locateV, locateOf, freeOf, Counted, countV, countOf}
 use Rattle.table.proofs.Nearest.{Nearest, free-nearest, free-range}
 use Rattle.layout.specs.Views.{diskOf, linkView}
 use Rattle.layout.specs.Segments.{Segment, segmentAt, linkFor, isOf, tally, Good}
@@ -32,13 +30,9 @@ use Rattle.folds.specs.Checked.{Checked}
 use Rattle.folds.proofs.Walked.{link-reads, table-views}
 use Rattle.folds.proofs.Numbered.{tally-yes, tally-no, tally-start}
 
-getD-zeros : (n i : ℕ) → i < n → getD (zeros n) i 0 ≡ 0
-unfolding zeros
-getD-zeros n i h = getD-replicate n i 0 0 h
-
 getD-cleared : (l : List ℕ) (s : ℕ) → s < 64 → getD (over 0 (zeros 64) l) s 0 ≡ 0
 unfolding over
-getD-cleared l s h = List·getD-append (zeros 64) (drop (0 + length (zeros 64)) l) 0 s (rw (length-zeros 64) h) ∙ getD-zeros 64 s h
+getD-cleared l s h = List·getD-append (zeros 64) (drop (0 + length (zeros 64)) l) 0 s (rw (length-zeros 64) h) ∙ getD-zeros 64 s
 
 -- ---- how many chunks below n are a slot's, with chunk n
 
@@ -108,25 +102,6 @@ module _ (vol : List ℕ) (m : Medium) (st : Store) (ok : Checked vol m st) (G :
   free-chunk {c} e =
       let h = free-range vol m st e in
       (h, sym (link-reads vol m st ok c (in-table h)) ∙ subst (Nearest vol m st (linksOf (st .head .chunks))) e (free-nearest vol m st) .0)
-
-  -- no refusal comes
-  abbrev Unrefused : Pick → Type 0
-  Unrefused p = (e : Error) → p ≡ free.Refused e → ⊥
-
-  step-unrefused : (cursor chunks i : ℕ) (p : Pick) → Unrefused p → Unrefused (freeStep cursor chunks i p)
-  unfolding freeStep
-  step-unrefused cursor chunks i (free.Refused e) h = h
-  step-unrefused cursor chunks i free.Nothing h = λ e q. let z : _≡_ {A = ℕ} 0 1 = cc in omega arith
-  step-unrefused cursor chunks i (free.At b) h =
-      pick-keeps-by Unrefused _ (free.At i) (free.At b) (λ t e q. let z : _≡_ {A = ℕ} 0 1 = cc in omega arith) (λ t. h)
-
-  pub free-passes : (e : Error) → freeOf vol m st ≡ free.Refused e → ⊥
-  unfolding freeOf
-  free-passes =
-      let r = table-views vol m st ok G good (freeV (st .head .cursor) (st .head .chunks)) (λ c t. Unrefused t)
-      (λ c t h p q. step-unrefused (st .head .cursor) (st .head .chunks) c t p) (λ c l t h p q. p)
-      free.Nothing (λ e q. let z : _≡_ {A = ℕ} 0 1 = cc in omega arith) in
-      λ e q. r .2 e (sym (r .1) ∙ q)
 
   -- ---- the chunk at a position of a file
 

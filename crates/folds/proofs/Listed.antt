@@ -2,7 +2,7 @@
 use Prim.Native.Nat.{ℕ, _+_, _-_, _*_, _<_, _≤_}
 use mathlib.Core.Path.{_≡_, refl, sym, ap, _∙_}
 use mathlib.Core.Bool.{Bool, true, false}
-use mathlib.Core.List.{List, [], _++_}
+use mathlib.Core.List.{List, _++_}
 use native.Mathlib.Omega.{arith}
 use borrow.Author.Count.{below-more, below-none}
 use lib.ListN.{length, getD, take, length-append}
@@ -11,7 +11,6 @@ use Rattle.le.specs.Field.{leBytes}
 use Rattle.le.specs.Part.{part, over, zeros}
 use Rattle.le.proofs.Choices.{pick-keeps-by}
 use Rattle.le.proofs.Parts.{length-zeros, length-over, part-over, part-before}
-use Rattle.runs.specs.Run.{startsWith}
 use Rattle.names.specs.Names.{nameOk, textLen, inDir}
 use Rattle.names.proofs.Laws.{name-short, name-padded}
 use Rattle.medium.specs.declared.Medium.{Medium}
@@ -27,11 +26,6 @@ use Rattle.folds.specs.Rows.{listedIn}
 use Rattle.folds.proofs.Walked.{scan-views}
 use Rattle.folds.proofs.Named.{view-file}
 use Rattle.folds.proofs.Numbered.{tally-yes, tally-no, tally-start, placed, placed-here, placed-below}
-
--- every name is in the root
-pub in-root : (n : List ℕ) → inDir [] n ≡ true
-unfolding startsWith
-in-root n = refl
 
 module _ (vol : List ℕ) (st : Store) (dir counts : List ℕ) where
   abbrev listed : ℕ → Bool

@@ -1,20 +1,17 @@
 -- What `find` and create's look answer, by the entries of the slots. Assumes nothing.
 use Prim.Native.Nat.{ℕ, _+_, _<_, _≤_}
-use mathlib.Core.Path.{_≡_, refl, sym, ap, ap₂, _∙_, subst}
+use mathlib.Core.Path.{_≡_, refl, sym, ap, ap₂, _∙_}
 use mathlib.Core.Bool.{true, false, false≢true}
-use mathlib.Core.List.{List, [], _∷_}
+use mathlib.Core.List.{List}
 use native.Mathlib.Omega.{arith}
 use borrow.Author.Count.{below-more, below-none}
-use borrow.Author.Tests.{eq-eqb}
 use lib.ListN.{length}
 use Rattle.le.specs.Part.{part}
 use Rattle.le.proofs.Choices.{pick-keeps-by}
 use Rattle.runs.specs.Run.{sameBytes}
-use Rattle.medium.specs.declared.Error.{Error}
-use Rattle.medium.specs.declared.Error.the-variants.{NotFound}
+use Rattle.runs.proofs.Tests.{same-true, same-self}
 use Rattle.medium.specs.declared.Medium.{Medium}
 use Rattle.handles.specs.declared.Store.{Store}
-use Rattle.directory.specs.declared.Found.{Found}
 use Rattle.directory.specs.declared.Found.the-variants as found
 use Rattle.directory.specs.declared.Looked.{Looked}
 use Rattle.directory.specs.declared.Looked.the-variants as looked
@@ -23,7 +20,6 @@ use Rattle.directory.specs.declared.Slot.{Slot}
 use Rattle.directory.specs.declared.Slot.the-variants as slot
 use Rattle.directory.specs.Entry.{entryOf, entryAt}
 use Rattle.directory.specs.Scan.{finding, findOf, freeSeen, fileSeen, looking, lookOf}
-use Rattle.directory.proofs.Bytes.{same-true}
 use Rattle.directory.proofs.Entries.{found-file}
 use Rattle.directory.proofs.Ranges.{FileAt, FreeAt, find-name, look-free}
 use Rattle.directory.proofs.Scans.{Left}
@@ -32,11 +28,6 @@ use Rattle.layout.specs.Segments.{Segment, Good}
 use Rattle.layout.proofs.Facts.{vacant≢named, named≢broken, same-name, same-id}
 use Rattle.folds.specs.Checked.{Checked}
 use Rattle.folds.proofs.Walked.{slot-reads, scan-views}
-
-pub same-self : (l : List ℕ) → sameBytes l l ≡ true
-unfolding sameBytes
-same-self [] = refl
-same-self (x ∷ xs) = rw (eq-eqb x x refl) (same-self xs)
 
 -- ---- an entry as the directory's laws have it, and as a view
 
@@ -103,23 +94,6 @@ module _ (vol : List ℕ) (m : Medium) (st : Store) (ok : Checked vol m st) (G :
     where
       there : (k : ℕ) → k ≡ s → diskOf vol st .entry k ≡ named name i
       there k x = rw x e
-
-  -- without one the refusal is 9, and no other comes
-  abbrev NotThere : Found → Type 0
-  NotThere (found.Refused e) = e ≡ NotFound
-  NotThere (found.At s i) = Unit
-
-  only-missing : (name : List ℕ) → NotThere (findOf vol m st name)
-  unfolding findOf
-  only-missing name =
-      scan-views vol m st ok (finding name) (λ k t. Unit) NotThere (good .whole) (λ k t b p q. tt)
-      (λ k t n id b p q. pick-keeps-by (Left (λ u. Unit) NotThere) (sameBytes name n) _ _ (λ same. tt) (λ other. tt))
-      (λ t p. refl) tt tt
-
-  pub find-missing : (name : List ℕ) {e : Error} → findOf vol m st name ≡ found.Refused e
-      → (e ≡ NotFound) × ((s i : ℕ) → s < 64 → diskOf vol st .entry s ≡ named name i → ⊥)
-  find-missing name {e} q =
-      (subst NotThere q (only-missing name), λ s i h v. let w = find-there name s i h v in let z : _≡_ {A = ℕ} 0 1 = cc in omega arith)
 
   -- ---- create's look
 

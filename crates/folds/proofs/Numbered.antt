@@ -1,7 +1,7 @@
--- A count with one number more, a function with one value replaced, and a test that fails. Assumes nothing.
+-- A count with one number more, and a function with one value replaced. Assumes nothing.
 use Prim.Native.Nat.{ℕ, _+_, _<_}
-use mathlib.Core.Path.{_≡_, refl, sym, _∙_}
-use mathlib.Core.Bool.{Bool, true, false, _||_, false≢true}
+use mathlib.Core.Path.{_≡_, refl, _∙_}
+use mathlib.Core.Bool.{Bool, true, false}
 use native.Mathlib.Numerals.{add-one}
 use native.Mathlib.Omega.{arith}
 use borrow.Author.Tests.{eq-eqb, ne-eqb}
@@ -36,8 +36,3 @@ placed-here f k x = pick-true x (f k) (eq-eqb k k refl)
 pub placed-below : (f : ℕ → ℕ) (k x j : ℕ) → j < k → placed f k x j ≡ f j
 unfolding placed
 placed-below f k x j h = pick-false x (f j) (ne-eqb j k (omega arith))
-
--- neither part of a test that fails
-pub neither : (a b : Bool) → (a || b) ≡ false → (a ≡ false) × (b ≡ false)
-neither true b e = absurd (false≢true (sym e))
-neither false b e = (refl, e)

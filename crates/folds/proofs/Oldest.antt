@@ -10,10 +10,10 @@ use borrow.Author.Tests.{not-true, ltb-true, ltb-false}
 use lib.Dec.{eqb, ltb}
 use lib.ListN.{length}
 use Rattle.le.proofs.Choices.{pick-keeps-by}
+use Rattle.le.proofs.Bools.{and-true, or-false}
 use Rattle.names.specs.Names.{inDir}
 use Rattle.medium.specs.declared.Medium.{Medium}
 use Rattle.handles.specs.declared.Store.{Store}
-use Rattle.handles.proofs.Laws.{and-true}
 use Rattle.directory.specs.declared.Old.{Old}
 use Rattle.directory.specs.declared.OldestFile.the-variants as oldest
 use Rattle.directory.specs.Scan.{olderOf, seeking, oldestOf}
@@ -22,7 +22,6 @@ use Rattle.layout.specs.Segments.{Segment, Good}
 use Rattle.layout.proofs.Facts.{vacant≢named, same-name, same-id, true≢false}
 use Rattle.folds.specs.Checked.{Checked}
 use Rattle.folds.proofs.Walked.{scan-views}
-use Rattle.folds.proofs.Numbered.{neither}
 
 both-false : (a b : Bool) → (a && b) ≡ false → a ≡ true → b ≡ false
 both-false true b e q = e
@@ -91,8 +90,8 @@ module _ (vol : List ℕ) (st : Store) (dir : List ℕ) (keeping : Bool) (keep :
         taken (a .0) (λ e. ltb-true i (old .id) (rw e at (a .1))))
         (λ t.
         passed k old p
-        (λ e n′ i′ v g. true≢false (rw e refl) (neither (not (old .any)) (ltb i (old .id)) (both-false (test n i) _ t (goes-test n′ i′ v g)) .0))
-        (λ e n′ i′ v g. rw (← same-id q v) (ltb-false i (old .id) (neither (not (old .any)) (ltb i (old .id)) (both-false (test n i) _ t (goes-test n′ i′ v g)) .1))))
+        (λ e n′ i′ v g. true≢false (rw e refl) (or-false (not (old .any)) (ltb i (old .id)) (both-false (test n i) _ t (goes-test n′ i′ v g)) .0))
+        (λ e n′ i′ v g. rw (← same-id q v) (ltb-false i (old .id) (or-false (not (old .any)) (ltb i (old .id)) (both-false (test n i) _ t (goes-test n′ i′ v g)) .1))))
 
 pub oldest-view : (vol : List ℕ) (m : Medium) (st : Store) → Checked vol m st → (G : ℕ → List Segment) → Good (diskOf vol st) G → (dir : List ℕ) (keeping : Bool) (keep : ℕ)
     → (old : Old) × (oldestOf vol m st dir keeping keep ≡ oldest.Done old) × Olds vol st dir keeping keep 64 old

@@ -9,13 +9,10 @@ use native.Mathlib.Omega.{arith}
 use lib.Dec.{eqb, ltb}
 use borrow.Author.Tests.{ltb-true, ltb-false}
 use Rattle.le.specs.Part.{part}
-use Rattle.le.proofs.Choices.{pick-keeps}
 use Rattle.medium.specs.declared.Medium.{Medium}
-use Rattle.medium.specs.declared.Outcome.{Outcome}
-use Rattle.medium.specs.declared.Outcome.the-variants.{Done}
-use Rattle.medium.specs.Refusal.{onDone}
+use Rattle.medium.proofs.Laws.{onDone-done}
 use Rattle.handles.specs.declared.Store.{Store}
-use Rattle.handles.specs.Body.{checkOf, dueOf}
+use Rattle.handles.proofs.Laws.{due-done}
 use Rattle.walk.specs.Walk.{Step, visits}
 use Rattle.walk.proofs.Laws.{walk-keeps}
 use Rattle.directory.specs.declared.Slot.{Slot}
@@ -47,8 +44,8 @@ module _ (vol : List ℕ) (m : Medium) (st : Store) (ok : Checked vol m st) wher
   -- ---- a slot and a link are what their bytes say
 
   pub slot-reads : (i : ℕ) → i < 64 → slotAt vol m st i ≡ entryOf (entryAt vol st i)
-  unfolding slotAt dueOf onDone
-  slot-reads i h = rw (pick-keeps (λ (o : Outcome). o ≡ Done) (eqb (i % 8) 0) (checkOf vol m st (i / 8)) Done (ok (i / 8) (omega arith)) refl)
+  unfolding slotAt
+  slot-reads i h = onDone-done _ _ (due-done vol m st (eqb (i % 8) 0) (i / 8) (ok (i / 8) (omega arith)))
 
   pub link-reads : (c : ℕ) → c < linksOf (st .head .chunks) → linkAt vol m st c ≡ linkView vol st c
   unfolding linkView

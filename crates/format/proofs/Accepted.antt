@@ -1,5 +1,5 @@
--- What an accepted format hands out: a store that passes refusal 3, whose header a sector can hold and whose id is its own. Assumes nothing.
-use mathlib.Core.Path.{_≡_, refl, sym, ap, _∙_}
+-- What an accepted format hands out: a store that passes refusal 3 and whose header a sector can hold. Assumes nothing.
+use mathlib.Core.Path.{_≡_, refl, ap}
 use mathlib.Core.Bool.{true, _&&_}
 use mathlib.Core.List.{List}
 use Prim.Native.Nat.{ℕ, _+_, _-_, _^_, _≤_, _<_}
@@ -7,29 +7,25 @@ use native.Mathlib.Omega.{arith}
 use borrow.Author.Tests.{lt-ltb, eqb-false, leb-true}
 use lib.Dec.{eqb, leb}
 use Rattle.le.proofs.Choices.{pick-keeps-by}
-use Rattle.medium.specs.declared.Error.{Error}
+use Rattle.le.proofs.Bools.{and-true}
 use Rattle.medium.specs.declared.Medium.{Medium}
-use Rattle.medium.specs.declared.Outcome.the-variants.{Done, No}
+use Rattle.medium.specs.declared.Outcome.the-variants.{Done}
 use Rattle.medium.specs.Sector.{sectorsOf, WriteOut, writeOf}
-use Rattle.medium.proofs.Laws.{onDone-keeps}
+use Rattle.medium.proofs.Laws.{onDone-keeps, not-done}
 use Rattle.handles.specs.declared.Header.{Header}
 use Rattle.handles.specs.declared.Store.{Store}
 use Rattle.handles.specs.declared.Writer.the-variants.{Nobody}
 use Rattle.handles.specs.Handles.{bodyOf, baseOf, storeOk, noStore}
-use Rattle.handles.proofs.Laws.{and-true}
+use Rattle.handles.proofs.Laws.{next-fits}
 use Rattle.header.specs.declared.answers.Copies.{Copies}
-use Rattle.header.specs.Copies.{headersOf, copyOf}
-use Rattle.header.specs.Header.{encodeOf, unmarkedOf, ours, Bytes, InRange}
+use Rattle.header.specs.Copies.{headersOf}
+use Rattle.header.specs.Header.{encodeOf, unmarkedOf, Bytes, InRange}
 use Rattle.header.proofs.Accepted.{Both, headers-both}
-use Rattle.plan.specs.Copy.{StepOut, Out, lastOf, copyOut}
-use Rattle.format.specs.Format.{chunksOf, copyFor, newestOf, taken, idFor, formatHead, Zeroed, formatPlan, madeOf, formatOver, formatOf}
+use Rattle.plan.specs.Copy.{BodyOut, Out, lastOf, copyOut}
+use Rattle.format.specs.Format.{chunksOf, copyFor, newestOf, formatHead, Zeroed, formatPlan, madeOf, formatOver, formatOf}
 use Rattle.format.proofs.Crcs.{head-zeroed}
 use Rattle.format.proofs.Numbers.{copy-lt, head-sane, head-range, newest-lt}
-use Rattle.format.proofs.Ids.{id-fresh, not-taken}
 use Rattle.format.proofs.Writes.{zeroedFrom, zero-head}
-
-not-done : {A : Type 0} {e : Error} → No e ≡ Done → A
-not-done q = let z : _≡_ {A = ℕ} 0 1 = cc in absurd (let f : ⊥ = omega arith in f)
 
 -- ---- the store is the one that was written
 
@@ -40,7 +36,7 @@ pub made-store : (copy : ℕ) (h : Header) → Zeroed h → (vol : List ℕ) (m 
 unfolding copyOut lastOf formatPlan noStore
 made-store copy h sums vol m =
     let z : WriteOut = writeOf vol m (baseOf copy) (unmarkedOf h) in
-    let b : StepOut = zeroedFrom copy h (bodyOf (h .chunks)) 0 (z .vol) (z .ans .medium) in
+    let b : BodyOut = zeroedFrom copy h (bodyOf (h .chunks)) 0 (z .vol) (z .ans .medium) in
     let e : b .ans .head ≡ h = zero-head copy h sums (bodyOf (h .chunks)) 0 (z .vol) (z .ans .medium) (omega arith) in
     onDone-keeps Right (z .ans .outcome) _ _
     (λ _. onDone-keeps Right (b .ans .outcome) _ _
@@ -111,17 +107,5 @@ module _ (size seed : ℕ) (vol : List ℕ) (m : Medium) (accepted : formatOf si
   pub format-range : Bytes vol → InRange (storeAfter size seed vol m .head)
   format-range small =
       let g : newestOf (headersOf vol m) < 2 ^ 64 = rw (both .same) (newest-lt vol small (both .enough)) in
-      let l : newestOf (headersOf vol m) + 1 < 2 ^ 64 = below (newestOf (headersOf vol m)) g (facts .less) in
+      let l : newestOf (headersOf vol m) + 1 < 2 ^ 64 = next-fits (newestOf (headersOf vol m)) g (facts .less) in
       rw (facts .store) (head-range (headersOf vol m) m (sectorsOf vol) size seed (facts .size-most) l)
-    where
-      below : (g : ℕ) → g < 2 ^ 64 → (g ≡ 2 ^ 64 - 1 → ⊥) → g + 1 < 2 ^ 64
-      below g h f = omega arith
-
-  -- its id is not 0, and no valid copy that was on the volume has it
-  pub format-id : (storeAfter size seed vol m .head .id ≡ 0 → ⊥) × ((h : Header) → copyOf vol 0 ≡ ours h → h .id ≡ storeAfter size seed vol m .head .id → ⊥) × ((h : Header) → copyOf vol 32 ≡ ours h → h .id ≡ storeAfter size seed vol m .head .id → ⊥)
-  unfolding formatHead
-  format-id =
-      let f = id-fresh (headersOf vol m) m seed in
-      let x : ℕ = idFor (headersOf vol m) m seed in
-      let t = not-taken (copyOf vol 0) (copyOf vol 32) x (ap (λ (c : Copies). taken c x) (sym (both .same)) ∙ f .1) in
-      rw (facts .store) (f .0, t .0, t .1)

@@ -9,13 +9,12 @@ use lib.Dec.{ltb, lit<}
 use lib.ListN.{length, getD, drop, replicate, length-append, length-replicate, getD-replicate, replicate-append-replicate, List·getD-append}
 use lib.Seq.{drop-at, getD-append-add}
 use Rattle.le.specs.Part.{zeros}
-use Rattle.le.proofs.Parts.{length-zeros}
+use Rattle.le.proofs.Parts.{length-zeros, getD-zeros}
 use Rattle.checksum.specs.Crc.{crc32Of}
 use Rattle.checksum.proofs.Steps.{crc32-lt}
 use Rattle.medium.specs.declared.Medium.{Medium}
 use Rattle.handles.specs.Handles.{bodyOf}
 use Rattle.header.specs.declared.answers.Copies.{Copies}
-use Rattle.header.proofs.Words.{getD-zeros}
 use Rattle.format.specs.Format.{zeroCrcs, formatHead, Zeroed}
 
 -- what is left of the zeros

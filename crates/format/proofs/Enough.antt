@@ -9,15 +9,15 @@ use Rattle.le.specs.Part.{zeros}
 use Rattle.medium.specs.declared.Medium.{Medium}
 use Rattle.medium.specs.declared.Outcome.the-variants.{Done}
 use Rattle.medium.specs.Sector.{sectorsOf, spendOf, WriteOut, writeOf}
+use Rattle.medium.proofs.Laws.{onDone-done}
 use Rattle.handles.specs.declared.Header.{Header}
 use Rattle.handles.specs.Handles.{bodyOf, baseOf, noStore}
 use Rattle.header.specs.declared.answers.Copies.{Copies}
 use Rattle.header.specs.Copies.{headersOf}
 use Rattle.header.specs.Header.{encodeOf, unmarkedOf}
-use Rattle.plan.specs.Copy.{StepOut, Out, refusedOut, bodyFrom, lastOf, copyOut}
+use Rattle.plan.specs.Copy.{BodyOut, Out, refusedOut, bodyFrom, lastOf, copyOut}
 use Rattle.format.specs.Format.{chunksOf, copyFor, newestOf, formatHead, Zeroed, formatPlan, madeOf, formatOver, formatOf}
 use Rattle.format.proofs.Crcs.{head-zeroed}
-use Rattle.format.proofs.Ways.{when-done}
 use Rattle.format.proofs.Writes.{zeroedFrom, zeroWrite, zero-more}
 
 -- a write, after which r are left
@@ -34,7 +34,7 @@ module _ (copy : ℕ) (h : Header) (sums : Zeroed h) where
   zero-done (suc n) k r vol m i l =
       let w : WriteOut = zeroWrite copy k vol m in
       let s = write-done vol m (baseOf copy + 1 + k) (zeros 512) {r = n + r} (omega arith) in
-      rw (zero-more copy h sums n k vol m (omega arith), when-done (w .ans .outcome) (zeroedFrom copy h n (k + 1) (w .vol) (w .ans .medium)) _ (s .0))
+      rw (zero-more copy h sums n k vol m (omega arith), onDone-done (zeroedFrom copy h n (k + 1) (w .vol) (w .ans .medium)) _ (s .0))
       (zero-done n (k + 1) r (w .vol) (w .ans .medium) (omega arith) (s .1))
 
   pub made-done : (vol : List ℕ) (m : Medium) → bodyOf (h .chunks) + 2 ≤ m .left → madeOf copy h vol m .ans .outcome ≡ Done
@@ -43,11 +43,11 @@ module _ (copy : ℕ) (h : Header) (sums : Zeroed h) where
       let n : ℕ = bodyOf (h .chunks) in
       let z : WriteOut = writeOf vol m (baseOf copy) (unmarkedOf h) in
       let s₁ = write-done vol m (baseOf copy) (unmarkedOf h) {r = n + 1} (omega arith) in
-      let b : StepOut = zeroedFrom copy h n 0 (z .vol) (z .ans .medium) in
+      let b : BodyOut = zeroedFrom copy h n 0 (z .vol) (z .ans .medium) in
       let s₂ = zero-done n 0 1 (z .vol) (z .ans .medium) (omega arith) (s₁ .1) in
       let w : WriteOut = writeOf (b .vol) (b .ans .medium) (baseOf copy) (encodeOf (b .ans .head)) in
       let s₃ = write-done (b .vol) (b .ans .medium) (baseOf copy) (encodeOf (b .ans .head)) {r = 0} (s₂ .1) in
-      ap (λ (o : Out). o .ans .outcome) (when-done (z .ans .outcome) _ _ (s₁ .0) ∙ when-done (b .ans .outcome) _ _ (s₂ .0) ∙ when-done (w .ans .outcome) _ _ (s₃ .0))
+      ap (λ (o : Out). o .ans .outcome) (onDone-done _ _ (s₁ .0) ∙ onDone-done _ _ (s₂ .0) ∙ onDone-done _ _ (s₃ .0))
 
 -- what the tests let through
 module _ (size seed : ℕ) (vol : List ℕ) (m : Medium) (headers : headersOf vol m .outcome ≡ Done) (least : 1 ≤ size) (most : size ≤ 512) where
@@ -55,7 +55,7 @@ module _ (size seed : ℕ) (vol : List ℕ) (m : Medium) (headers : headersOf vo
   unfolding formatOf pick
   format-over =
       rw (le-leb 1 size least, le-leb size 512 most)
-      (when-done (headersOf vol m .outcome) (formatOver (headersOf vol m) size seed vol m) (refusedOut noStore vol m) headers)
+      (onDone-done (formatOver (headersOf vol m) size seed vol m) (refusedOut noStore vol m) headers)
 
   pub format-is : (chunksOf (sectorsOf vol) size ≡ 0 → ⊥) → (newestOf (headersOf vol m) ≡ 2 ^ 64 - 1 → ⊥)
       → formatOf size seed vol m ≡ madeOf (copyFor (headersOf vol m)) (formatHead (headersOf vol m) m (chunksOf (sectorsOf vol) size) size seed) vol m

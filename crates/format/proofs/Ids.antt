@@ -11,10 +11,10 @@ use lib.Dec.{eqb, lit<}
 use lib.Pow.{pow-pos}
 use Rattle.le.specs.Choice.{pick}
 use Rattle.le.proofs.Choices.{pick-keeps, pick-keeps-by}
+use Rattle.le.proofs.Bools.{and-true, or-false}
 use Rattle.mix.specs.SplitMix.{folded, stage, splitMix}
 use Rattle.medium.specs.declared.Medium.{Medium}
 use Rattle.handles.specs.declared.Header.{Header}
-use Rattle.handles.proofs.Laws.{and-true}
 use Rattle.header.specs.declared.answers.Copies.{Copies}
 use Rattle.header.specs.declared.codec.Decoded.{Decoded}
 use Rattle.header.specs.Header.{ours}
@@ -41,10 +41,6 @@ unfolding idFrom
 id-last c x k es h inv = let n : 4 - k ≡ 0 = omega arith in es ∙ rw n at inv
 
 -- ---- the id is free
-
-or-false : (p q : Bool) → (p || q) ≡ false → (p ≡ false) × (q ≡ false)
-or-false false q e = (refl, e)
-or-false true q e = (e, absurd (let z : _≡_ {A = ℕ} 0 1 = cc in let f : ⊥ = omega arith in f))
 
 or-true : (p q : Bool) → (p || q) ≡ true → (p ≡ true) ⊎ (q ≡ true)
 or-true true q e = inl refl

@@ -8,10 +8,10 @@ use native.Mathlib.Omega.{arith}
 use borrow.Author.Tests.{lt-ltb, le-leb, ne-eqb}
 use lib.Dec.{leb, lit<}
 use Rattle.le.proofs.Choices.{pick-keeps, pick-keeps-by}
+use Rattle.le.proofs.Bools.{and-true}
 use Rattle.medium.specs.declared.Medium.{Medium}
 use Rattle.medium.specs.Sector.{sectorsOf}
 use Rattle.handles.specs.Handles.{bodyOf, saneOf}
-use Rattle.handles.proofs.Laws.{and-true}
 use Rattle.header.specs.declared.answers.Copies.{Copies}
 use Rattle.header.specs.Copies.{isOurs, copyOf, bothOf}
 use Rattle.header.specs.Header.{Bytes, InRange}

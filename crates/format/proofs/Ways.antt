@@ -6,16 +6,16 @@ use Prim.Native.Nat.{ℕ, _-_, _^_, _≤_}
 use borrow.Author.Tests.{eq-eqb, ne-eqb, leb-true, not-true, not-false}
 use lib.Dec.{eqb, leb}
 use Rattle.le.specs.Choice.{pick}
+use Rattle.le.proofs.Bools.{and-true}
 use Rattle.medium.specs.declared.Error.{Error}
 use Rattle.medium.specs.declared.Error.the-variants.{Range, Spent}
 use Rattle.medium.specs.declared.Medium.{Medium}
-use Rattle.medium.specs.declared.Outcome.{Outcome}
 use Rattle.medium.specs.declared.Outcome.the-variants.{Done, No}
 use Rattle.medium.specs.Refusal.{onDone}
 use Rattle.medium.specs.Sector.{sectorsOf}
+use Rattle.medium.proofs.Laws.{onDone-done}
 use Rattle.handles.specs.declared.Header.{Header}
 use Rattle.handles.specs.Handles.{noStore}
-use Rattle.handles.proofs.Laws.{and-true}
 use Rattle.header.specs.declared.answers.Copies.{Copies}
 use Rattle.header.specs.Copies.{headersOf}
 use Rattle.header.proofs.Accepted.{headers-both}
@@ -27,11 +27,6 @@ use Rattle.format.proofs.Crcs.{head-zeroed}
 -- the volume and the answer are those of a definition
 abbrev pub Gives : Out → List ℕ → Committed → Type 0
 Gives o vol r = (vol ≡ o .vol) × (r ≡ o .ans)
-
--- an outcome that is known
-pub when-done : {A : Type 0} (o : Outcome) (a : A) (f : Error → A) → o ≡ Done → onDone o a f ≡ a
-unfolding onDone
-when-done o a f q = rw q
 
 -- ---- once both headers are read: s is the count of sectors, n that of chunks
 
@@ -79,4 +74,4 @@ module _ (size seed : ℕ) (vol : List ℕ) (m : Medium) where
 
     pub whole : {v : List ℕ} {r : Committed} → c .outcome ≡ Done → Gives (formatOver c size seed vol m) v r → Gives (formatOf size seed vol m) v r
     unfolding formatOf pick
-    whole q over = rw (not-false (leb 1 size && leb size 512) t, ← ec, when-done (c .outcome) (formatOver c size seed vol m) (refusedOut noStore vol m) q) over
+    whole q over = rw (not-false (leb 1 size && leb size 512) t, ← ec, onDone-done (formatOver c size seed vol m) (refusedOut noStore vol m) q) over

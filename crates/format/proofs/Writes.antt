@@ -21,19 +21,19 @@ use Rattle.handles.specs.declared.Writer.the-variants.{Nobody}
 use Rattle.handles.specs.Handles.{bodyOf, baseOf, noStore}
 use Rattle.header.specs.Header.{encodeOf, unmarkedOf}
 use Rattle.plan.specs.declared.Committed.{Committed}
-use Rattle.plan.specs.declared.Stepped.{Stepped}
-use Rattle.plan.specs.Copy.{StepOut, isFormat, moveOf, withCrc, actOf, stepOf, bodyFrom, refusedOut, lastOf, copyOut}
+use Rattle.plan.specs.declared.BodyWritten.{BodyWritten}
+use Rattle.plan.specs.Copy.{BodyOut, isFormat, moveOf, withCrc, actOf, bodySectorOf, bodyFrom, refusedOut, lastOf, copyOut}
 use Rattle.format.specs.Format.{Zeroed, formatPlan, madeOf}
 
 -- n body sectors from k on
-abbrev pub zeroedFrom : ℕ → Header → ℕ → ℕ → List ℕ → Medium → StepOut
+abbrev pub zeroedFrom : ℕ → Header → ℕ → ℕ → List ℕ → Medium → BodyOut
 zeroedFrom copy h n k vol m = bodyFrom (formatPlan copy h) n k vol m h
 
 abbrev pub zeroWrite : ℕ → ℕ → List ℕ → Medium → WriteOut
 zeroWrite copy k vol m = writeOf vol m (baseOf copy + 1 + k) (zeros 512)
 
 -- a write beside which the header stays
-abbrev leaving : Header → WriteOut → StepOut
+abbrev leaving : Header → WriteOut → BodyOut
 leaving h w = record { vol = w .vol; ans = record { outcome = w .ans .outcome; medium = w .ans .medium; head = h } }
 
 module _ (copy : ℕ) (h : Header) (sums : Zeroed h) where
@@ -43,23 +43,23 @@ module _ (copy : ℕ) (h : Header) (sums : Zeroed h) where
       let e : set (h .crcs) k (crc32Of (zeros 512)) ≡ h .crcs = rw (← sums k i) (set-getD (h .crcs) k 0) in
       ap (λ (l : List ℕ). record { id = h .id; generation = h .generation; «next_id» = h .«next_id»; cursor = h .cursor; chunks = h .chunks; chunk = h .chunk; crcs = l }) e
 
-  zero-step : (k : ℕ) (vol : List ℕ) (m : Medium) → k < bodyOf (h .chunks) → stepOf (formatPlan copy h) vol m h k ≡ leaving h (zeroWrite copy k vol m)
-  unfolding stepOf moveOf actOf isFormat formatPlan pick
-  zero-step k vol m i = ap (λ (x : Header). leaving x (zeroWrite copy k vol m)) (crc-same k i)
+  zero-sector : (k : ℕ) (vol : List ℕ) (m : Medium) → k < bodyOf (h .chunks) → bodySectorOf (formatPlan copy h) vol m h k ≡ leaving h (zeroWrite copy k vol m)
+  unfolding bodySectorOf moveOf actOf isFormat formatPlan pick
+  zero-sector k vol m i = ap (λ (x : Header). leaving x (zeroWrite copy k vol m)) (crc-same k i)
 
   -- one sector, and the rest where it was written
   pub zero-more : (n k : ℕ) (vol : List ℕ) (m : Medium) → k < bodyOf (h .chunks)
       → zeroedFrom copy h (suc n) k vol m
       ≡ onDone (zeroWrite copy k vol m .ans .outcome) (zeroedFrom copy h n (k + 1) (zeroWrite copy k vol m .vol) (zeroWrite copy k vol m .ans .medium)) (λ e. leaving h (zeroWrite copy k vol m))
   unfolding bodyFrom
-  zero-more n k vol m i = rw (zero-step k vol m i)
+  zero-more n k vol m i = rw (zero-sector k vol m i)
 
   -- the loop over b sectors
   pub zero-start : (vol : List ℕ) (m : Medium) {b : ℕ} → b ≡ bodyOf (h .chunks) → zeroedFrom copy h (b - 0) 0 vol m ≡ zeroedFrom copy h (bodyOf (h .chunks)) 0 vol m
   zero-start vol m e = rw (sub-zero, e)
 
   -- a turn: zeros were written after the header in sector s, and o is what the loop gives
-  module _ (vol : List ℕ) (m : Medium) {b k s : ℕ} {vol′ : List ℕ} {w : Written} {o : StepOut} (eb : b ≡ bodyOf (h .chunks)) (i : k < b) (es : s ≡ baseOf copy)
+  module _ (vol : List ℕ) (m : Medium) {b k s : ℕ} {vol′ : List ℕ} {w : Written} {o : BodyOut} (eb : b ≡ bodyOf (h .chunks)) (i : k < b) (es : s ≡ baseOf copy)
       (ev : vol′ ≡ writeOf vol m (s + 1 + k) (zeros 512) .vol) (ew : w ≡ writeOf vol m (s + 1 + k) (zeros 512) .ans) (inv : zeroedFrom copy h (b - k) k vol m ≡ o) where
     turn : onDone (w .outcome) (zeroedFrom copy h (b - (k + 1)) (k + 1) vol′ (w .medium)) (λ e. record { vol = vol′; ans = record { outcome = w .outcome; medium = w .medium; head = h } }) ≡ o
     turn =
@@ -72,12 +72,12 @@ module _ (copy : ℕ) (h : Header) (sums : Zeroed h) where
 
     pub zero-stop : {e : Error} → w .outcome ≡ No e → (vol′ ≡ o .vol) × (record { outcome = No e; medium = w .medium; head = h } ≡ o .ans)
     unfolding onDone
-    zero-stop q = let t = rw q at turn in (ap (λ (x : StepOut). x .vol) t, ap (λ (x : StepOut). x .ans) t)
+    zero-stop q = let t = rw q at turn in (ap (λ (x : BodyOut). x .vol) t, ap (λ (x : BodyOut). x .ans) t)
 
-  pub zero-end : (vol : List ℕ) (m : Medium) {b k : ℕ} {o : StepOut} → b ≤ k → zeroedFrom copy h (b - k) k vol m ≡ o
+  pub zero-end : (vol : List ℕ) (m : Medium) {b k : ℕ} {o : BodyOut} → b ≤ k → zeroedFrom copy h (b - k) k vol m ≡ o
       → (vol ≡ o .vol) × (record { outcome = Done; medium = m; head = h } ≡ o .ans)
   unfolding bodyFrom
-  zero-end vol m {b} {k} g inv = let n : b - k ≡ 0 = omega arith in let t = rw n at inv in (ap (λ (x : StepOut). x .vol) t, ap (λ (x : StepOut). x .ans) t)
+  zero-end vol m {b} {k} g inv = let n : b - k ≡ 0 = omega arith in let t = rw n at inv in (ap (λ (x : BodyOut). x .vol) t, ap (λ (x : BodyOut). x .ans) t)
 
   -- no step changes the header
   pub zero-head : (n k : ℕ) (vol : List ℕ) (m : Medium) → k + n ≤ bodyOf (h .chunks) → zeroedFrom copy h n k vol m .ans .head ≡ h
@@ -85,7 +85,7 @@ module _ (copy : ℕ) (h : Header) (sums : Zeroed h) where
   zero-head zero k vol m i = refl
   zero-head (suc n) k vol m i =
       rw (zero-more n k vol m (omega arith))
-      (onDone-keeps (λ (o : StepOut). o .ans .head ≡ h) _ _ _ (λ _. zero-head n (k + 1) _ _ (omega arith)) (λ e _. refl))
+      (onDone-keeps (λ (o : BodyOut). o .ans .head ≡ h) _ _ _ (λ _. zero-head n (k + 1) _ _ (omega arith)) (λ e _. refl))
 
 -- ---- the ways through the three parts: each premise is what a call ensures
 
@@ -95,7 +95,7 @@ module _ (copy : ℕ) (h : Header) (vol : List ℕ) (m : Medium) {v : List ℕ} 
   unfolding copyOut formatPlan onDone
   first-refused q er = rw (← ez, q) (ev, er)
 
-  module _ (sums : Zeroed h) (qz : z .outcome ≡ Done) {v₁ : List ℕ} {b : Stepped}
+  module _ (sums : Zeroed h) (qz : z .outcome ≡ Done) {v₁ : List ℕ} {b : BodyWritten}
       (ev₁ : v₁ ≡ zeroedFrom copy h (bodyOf (h .chunks)) 0 v (z .medium) .vol) (eb : b ≡ zeroedFrom copy h (bodyOf (h .chunks)) 0 v (z .medium) .ans) where
     pub body-refused : {e : Error} {r : Committed} → b .outcome ≡ No e → r ≡ refusedOut noStore [] (b .medium) e .ans → (v₁ ≡ madeOf copy h vol m .vol) × (r ≡ madeOf copy h vol m .ans)
     unfolding copyOut formatPlan onDone

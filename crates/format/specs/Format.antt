@@ -79,7 +79,7 @@ Zeroed h = (k : ℕ) → k < bodyOf (h .chunks) → getD (h .crcs) k 0 ≡ crc32
 -- the header without magic first; every body sector is written
 unfoldable pub formatPlan : ℕ → Header → Plan
 formatPlan copy h =
-    record { store = noStore; copy = copy; head = h; first = unmarkedOf h; edit = Format; name = []; known = false; held = zeros 24 }
+    record { store = noStore; copy = copy; head = h; first = unmarkedOf h; edit = Format; name = []; known = false; listed = zeros 24 }
 
 -- the writes: the header without magic, the zeroed body, the whole header
 abbrev pub madeOf : ℕ → Header → List ℕ → Medium → Out

@@ -3,18 +3,16 @@ use handles::Header;
 use handles::Store;
 use handles::Writer;
 use header::Copies;
-use header::Replica;
 use medium::Error;
 use medium::Medium;
 use medium::Outcome;
+use plan::BodyWritten;
 use plan::Committed;
-use plan::Stepped;
 ghost use mathlib.Core.Path.{_≡_};
 ghost use mathlib.Core.List.{[]};
 ghost use Prim.Native.Nat.{_+_, _^_, _<_, _≤_};
 ghost use Rattle.medium.specs.Sector.{sectorsOf};
 ghost use Rattle.handles.specs.Handles.{bodyOf, noStore};
-ghost use Rattle.header.specs.Copies.{isOurs};
 ghost use Rattle.plan.specs.Copy.{refusedOut, bodyFrom};
 ghost use Rattle.format.specs.Format.{chunksOf, newestB, copyFor, newestOf, taken, spareOf, idFrom, zeroCrcs, formatHead, Zeroed, formatPlan, madeOf, formatOver, formatOf};
 
@@ -30,17 +28,6 @@ fn chunks_for(sectors: u64, size: u32) -> u32
     2048
 }
 
-fn is_ours(k: Replica) -> bool
-    ensures { λ r. ⌜ r ≡ isOurs k ⌝ }
-{
-    match k {
-        Replica::Ours => true,
-        Replica::Foreign => false,
-        Replica::Damaged => false,
-        Replica::Absent => false,
-    }
-}
-
 // Whether the newest valid copy is B: at equal generations it is, though mount takes A.
 fn newest_b(c: Copies) -> bool
     ensures { λ r. ⌜ r ≡ newestB c ⌝ }
@@ -49,7 +36,7 @@ fn newest_b(c: Copies) -> bool
     let kb = c.b;
     let x = c.heads[0];
     let y = c.heads[1];
-    is_ours(kb) & (!is_ours(ka) | (x.generation <= y.generation))
+    header::is_ours(kb) & (!header::is_ours(ka) | (x.generation <= y.generation))
 }
 
 // The copy to write: opposite the newest, so that the newest stays until the last write.
@@ -60,7 +47,7 @@ fn copy_for(c: Copies) -> u64
     if newest_b(c) {
         return 0;
     }
-    if is_ours(ka) {
+    if header::is_ours(ka) {
         return 1;
     }
     0
@@ -76,7 +63,7 @@ fn newest(c: Copies) -> u64
     if newest_b(c) {
         return y.generation;
     }
-    if is_ours(ka) {
+    if header::is_ours(ka) {
         return x.generation;
     }
     0
@@ -90,7 +77,7 @@ fn taken(c: Copies, id: u64) -> bool
     let kb = c.b;
     let x = c.heads[0];
     let y = c.heads[1];
-    (is_ours(ka) & (x.id == id)) | (is_ours(kb) & (y.id == id))
+    (header::is_ours(ka) & (x.id == id)) | (header::is_ours(kb) & (y.id == id))
 }
 
 // Two copies have at most two of the ids 1, 2 and 3.
@@ -155,7 +142,7 @@ fn format_head(c: Copies, medium: Medium, chunks: u32, size: u32, seed: u64) -> 
 }
 
 // Zeros in every body sector. The header lists their checksums already, so it stays as it is.
-fn zero_body(volume: &mut [u8], medium: Medium, copy: u64, head: Header) -> Stepped
+fn zero_body(volume: &mut [u8], medium: Medium, copy: u64, head: Header) -> BodyWritten
     requires { ⌜ (64 ≤ sectorsOf (now volume)) × (head .chunks ≤ 2048) × (Zeroed head) ⌝ }
     ensures { λ r. ⌜ (now (volume .exit) ≡ bodyFrom (formatPlan copy head) (bodyOf (head .chunks)) 0 (now (volume .entry)) medium head .vol) × (r ≡ bodyFrom (formatPlan copy head) (bodyOf (head .chunks)) 0 (now (volume .entry)) medium head .ans) ⌝ }
 {
@@ -168,14 +155,14 @@ fn zero_body(volume: &mut [u8], medium: Medium, copy: u64, head: Header) -> Step
         m = w.medium;
         let o = w.outcome;
         if let Outcome::No(e) = o {
-            return Stepped {
+            return BodyWritten {
                 outcome: Outcome::No(e),
                 medium: m,
                 head,
             };
         }
     }
-    Stepped {
+    BodyWritten {
         outcome: Outcome::Done,
         medium: m,
         head,

@@ -1,14 +1,21 @@
--- What a store value that passes refusal 3 tells. Assumes nothing.
+-- The places of the two copies, and what a store value that passes refusal 3 tells. Assumes nothing.
 use mathlib.Core.Path.{_≡_, refl}
-use mathlib.Core.Bool.{Bool, true, false, not, _&&_}
+use mathlib.Core.Bool.{Bool, true}
+use mathlib.Core.List.{List}
 use Prim.Native.Nat.{ℕ, _+_, _-_, _*_, _^_, _≤_, _<_}
 use native.Mathlib.Nat.{mul-le-mul}
 use native.Mathlib.Omega.{arith}
 use borrow.Author.Tests.{ltb-true, leb-true, eqb-false, not-true}
-use lib.Dec.{leb, ltb, eqb}
+use lib.Dec.{eqb, lit≤}
+use Rattle.le.proofs.Choices.{pick-keeps}
+use Rattle.le.proofs.Bools.{and-true}
+use Rattle.medium.specs.declared.Medium.{Medium}
+use Rattle.medium.specs.declared.Outcome.{Outcome}
+use Rattle.medium.specs.declared.Outcome.the-variants.{Done}
 use Rattle.handles.specs.declared.Header.{Header}
 use Rattle.handles.specs.declared.Store.{Store}
-use Rattle.handles.specs.Handles.{saneOf, storeOk}
+use Rattle.handles.specs.Handles.{baseOf, saneOf, storeOk}
+use Rattle.handles.specs.Body.{checkOf, dueOf}
 
 -- the product of two numbers of 32 bits, and 64 more, fit 64 bits
 pub product-fits : (a b : ℕ) → a < 2 ^ 32 → b < 2 ^ 32 → 64 + a * b < 2 ^ 64
@@ -16,13 +23,14 @@ product-fits a b ha hb =
     let p : a * b ≤ (2 ^ 32 - 1) * (2 ^ 32 - 1) = mul-le-mul {n₂ = 2 ^ 32 - 1} {m₂ = 2 ^ 32 - 1} (omega arith) (omega arith) in
     omega arith
 
--- both parts of a test that holds
-pub and-true : (a b : Bool) → (a && b) ≡ true → (a ≡ true) × (b ≡ true)
-and-true true b e = (refl, e)
-and-true false b e = (e, absurd (let z : _≡_ {A = Bool} false true = e in clash z))
-  where
-    clash : false ≡ true → ⊥
-    clash q = let z : _≡_ {A = ℕ} 0 1 = cc in omega arith
+-- a number that is not the last of 64 bits has a next one
+pub next-fits : (g : ℕ) → g < 2 ^ 64 → (g ≡ 2 ^ 64 - 1 → ⊥) → g + 1 < 2 ^ 64
+next-fits g h f = omega arith
+
+-- the header of either copy lies in the first 33 sectors
+pub base-most : (copy : ℕ) → baseOf copy ≤ 32
+unfolding baseOf
+base-most copy = pick-keeps (λ (b : ℕ). b ≤ 32) (eqb copy 0) 0 32 (lit≤ tt) (lit≤ tt)
 
 -- a header that is not foreign on a volume of so many sectors
 pub record Sane (h : Header) (sectors : ℕ) : Type 0 where
@@ -68,3 +76,8 @@ store-facts st sectors e =
     let a = and-true _ _ e in
     let s : Sane (st .head) sectors = sane-facts (st .head) sectors (a .1) in
     record { copy = ltb-true _ _ (a .0); head = s; enough = omega (arith, s .room) }
+
+-- a sector that passes its check passes where a walk enters it and where it does not
+pub due-done : (vol : List ℕ) (m : Medium) (st : Store) (enters : Bool) (k : ℕ) → checkOf vol m st k ≡ Done → dueOf vol m st enters k ≡ Done
+unfolding dueOf
+due-done vol m st enters k e = pick-keeps (λ (o : Outcome). o ≡ Done) enters _ _ e refl

@@ -1,13 +1,13 @@
 -- 01, "Header" and refusal 3: the numbers of a header, and which store values no call accepts. Assumes nothing.
 use Prim.Native.Nat.{ℕ, _+_, _*_, _/_}
-use mathlib.Core.Bool.{Bool, not, _&&_}
-use mathlib.Core.List.{List}
+use mathlib.Core.Bool.{Bool, true, false, not, _&&_}
 use lib.Dec.{ltb, leb, eqb}
 use Rattle.le.specs.Choice.{pick}
 use Rattle.le.specs.Part.{zeros}
 use Rattle.handles.specs.declared.Header.{Header}
 use Rattle.handles.specs.declared.Store.{Store}
-use Rattle.handles.specs.declared.Writer.the-variants.{Nobody}
+use Rattle.handles.specs.declared.Writer.{Writer}
+use Rattle.handles.specs.declared.Writer.the-variants.{Nobody, Open}
 
 -- table sectors = chunks / 128 rounded up
 abbrev pub tableOf : ℕ → ℕ
@@ -32,6 +32,15 @@ saneOf h sectors =
 -- a store value that passes refusal 3
 unfoldable pub storeOk : Store → ℕ → Bool
 storeOk st sectors = ltb (st .copy) 2 && saneOf (st .head) sectors
+
+-- the open file is that of the open appender: whether there is one, and its id
+abbrev pub isOpen : Writer → Bool
+isOpen Nobody = false
+isOpen (Open token id) = true
+
+abbrev pub openId : Writer → ℕ
+openId Nobody = 0
+openId (Open token id) = id
 
 -- zeros where there is no header, and a store value that no call accepts
 unfoldable pub blankOf : Header

@@ -3,10 +3,9 @@ use medium::Error;
 use medium::Medium;
 use medium::Outcome;
 ghost use mathlib.Core.Path.{_≡_};
-ghost use Prim.Native.Nat.{ℕ, _+_, _*_, _<_, _≤_};
-ghost use lib.ListN.{length};
+ghost use Prim.Native.Nat.{_+_, _*_, _<_, _≤_};
 ghost use Rattle.medium.specs.Sector.{sectorsOf};
-ghost use Rattle.handles.specs.Handles.{blankOf, noStore, tableOf, bodyOf, baseOf, saneOf, storeOk};
+ghost use Rattle.handles.specs.Handles.{blankOf, noStore, tableOf, bodyOf, baseOf, saneOf, storeOk, isOpen, openId};
 ghost use Rattle.handles.specs.Body.{checkOf, dueOf};
 
 // One copy's header: store id, generation, next file id, allocation cursor, chunks, sectors per chunk, and one checksum for each body sector.
@@ -57,6 +56,25 @@ pub fn no_store() -> Store
         copy: 0,
         head,
         writer: Writer::Nobody,
+    }
+}
+
+// Whether a file is open, and its id: extending and delete_oldest spare it.
+pub fn is_open(writer: Writer) -> bool
+    ensures { λ r. ⌜ r ≡ isOpen writer ⌝ }
+{
+    match writer {
+        Writer::Nobody => false,
+        Writer::Open { token: _, id: _ } => true,
+    }
+}
+
+pub fn open_id(writer: Writer) -> u32
+    ensures { λ r. ⌜ r ≡ openId writer ⌝ }
+{
+    match writer {
+        Writer::Nobody => 0,
+        Writer::Open { token: _, id } => id,
     }
 }
 

@@ -1,36 +1,26 @@
--- What an accepted mount gives: a valid copy that stands on the volume. And what a written header is read as. Assumes nothing.
+-- What an accepted mount gives: a valid copy that stands on the volume. Assumes nothing.
 use mathlib.Core.Path.{_≡_, refl, sym, ap, _∙_}
 use mathlib.Core.Bool.{true, false, _||_}
 use mathlib.Core.List.{List}
-use mathlib.Core.Logic.{_⊎_}
-use Prim.Native.Nat.{ℕ, _+_, _*_, _≤_, _<_}
-use native.Mathlib.Omega.{arith}
+use Prim.Native.Nat.{ℕ, _*_, _≤_, _<_}
 use borrow.Author.Tests.{lt-ltb, ltb-false}
-use lib.Dec.{eqb, lit<}
-use lib.ListN.{length}
+use lib.Dec.{lit<}
 use Rattle.le.specs.Choice.{pick}
 use Rattle.le.proofs.Choices.{pick-keeps, pick-keeps-by}
-use Rattle.medium.specs.declared.Error.{Error}
-use Rattle.medium.specs.declared.Error.the-variants as no
+use Rattle.le.proofs.Bools.{and-true}
 use Rattle.medium.specs.declared.Medium.{Medium}
-use Rattle.medium.specs.declared.Outcome.the-variants.{Done, No}
-use Rattle.medium.specs.Sector.{sectorsOf, sectorAt, writeAt}
-use Rattle.medium.proofs.Laws.{onDone-keeps, length-sector, length-write, sector-same, sector-other}
+use Rattle.medium.specs.declared.Outcome.the-variants.{Done}
+use Rattle.medium.specs.Sector.{sectorsOf, sectorAt}
+use Rattle.medium.proofs.Laws.{onDone-keeps, length-sector, not-done}
 use Rattle.handles.specs.declared.Header.{Header}
 use Rattle.handles.specs.Handles.{baseOf, saneOf, storeOk}
-use Rattle.handles.proofs.Laws.{and-true, sane-facts}
 use Rattle.header.specs.declared.answers.Copies.{Copies}
 use Rattle.header.specs.declared.answers.Current.{Current}
 use Rattle.header.specs.declared.answers.Mounted.{Mounted}
 use Rattle.header.specs.declared.codec.Decoded.{Decoded}
-use Rattle.header.specs.Header.{encodeOf, ours, Bytes, InRange}
+use Rattle.header.specs.Header.{ours, Bytes, InRange}
 use Rattle.header.specs.Copies.{isOurs, isForeign, isDamaged, copyOf, bothOf, headersOf, takesB, takenOf, noCurrent, choiceOf, currentOf, mounted, mountOf}
-use Rattle.header.proofs.Fill.{length-encode}
-use Rattle.header.proofs.RoundTrip.{decode-encode}
 use Rattle.header.proofs.Range.{bytes-part, valid, decode-range}
-
-not-done : {A : Type 0} {e : Error} → No e ≡ Done → A
-not-done q = let z : _≡_ {A = ℕ} 0 1 = cc in absurd (let f : ⊥ = omega arith in f)
 
 -- ---- both headers, accepted
 
@@ -112,11 +102,7 @@ module _ (vol : List ℕ) (k : ℕ) (h : Header) (e : copyOf vol k ≡ ours h) w
   unfolding copyOf sectorAt
   copy-range f small = decode-range (sectorAt vol k) (sectorsOf vol) h (length-sector vol k f) (bytes-part (512 * k) 512 vol small) e .1
 
-base-lt : (copy : ℕ) → baseOf copy < 64
-unfolding baseOf
-base-lt copy = pick-keeps (λ (k : ℕ). k < 64) (eqb copy 0) 0 32 (lit< tt) (lit< tt)
-
--- the store of an accepted mount passes refusal 3, and its header has its widths
+-- the store of an accepted mount passes refusal 3
 module _ (vol : List ℕ) (m : Medium) (accepted : mountOf vol m .outcome ≡ Done) where
   taken : Taken vol (currentOf vol m)
   taken = current-taken vol m (mount-current vol m accepted .0)
@@ -130,21 +116,3 @@ module _ (vol : List ℕ) (m : Medium) (accepted : mountOf vol m .outcome ≡ Do
   pub mount-ok : storeOk (mountOf vol m .store) (sectorsOf vol) ≡ true
   unfolding storeOk
   mount-ok = rw (same, lt-ltb (currentOf vol m .copy) 2 (taken .copy)) head-sane
-
-  pub mount-range : Bytes vol → InRange (mountOf vol m .store .head)
-  mount-range small =
-      let room : 64 + currentOf vol m .head .chunks * currentOf vol m .head .chunk ≤ sectorsOf vol = sane-facts (currentOf vol m .head) (sectorsOf vol) head-sane .room in
-      let f : baseOf (currentOf vol m .copy) < sectorsOf vol = omega (arith, base-lt (currentOf vol m .copy)) in
-      rw same (copy-range vol (baseOf (currentOf vol m .copy)) (currentOf vol m .head) (taken .found) f small)
-
--- ---- a header that was written is the copy that is read, and every other copy stays
-
-pub copy-written : (vol : List ℕ) (k : ℕ) (h : Header) → k < sectorsOf vol → saneOf h (sectorsOf vol) ≡ true → InRange h → copyOf (writeAt vol k (encodeOf h)) k ≡ ours h
-unfolding copyOf
-copy-written vol k h f e r =
-    let n : length (encodeOf h) ≡ 512 = length-encode h (r .count) (sane-facts h (sectorsOf vol) e .chunks-most) in
-    rw (sector-same vol k (encodeOf h) n f, length-write vol k (encodeOf h) n f) (decode-encode h (sectorsOf vol) e r)
-
-pub copy-kept : (vol : List ℕ) (k : ℕ) (bytes : List ℕ) → length bytes ≡ 512 → k < sectorsOf vol → (j : ℕ) → (j < k) ⊎ (k < j) → copyOf (writeAt vol k bytes) j ≡ copyOf vol j
-unfolding copyOf
-copy-kept vol k bytes n f j o = rw (sector-other vol k bytes n f j o, length-write vol k bytes n f)

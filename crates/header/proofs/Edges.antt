@@ -7,7 +7,7 @@ use native.Mathlib.Omega.{arith}
 use borrow.Author.Tests.{le-ltb}
 use Rattle.le.specs.Choice.{pick}
 use Rattle.le.specs.Part.{zeros}
-use Rattle.le.proofs.Parts.{length-zeros}
+use Rattle.le.proofs.Parts.{length-zeros, part-zeros}
 use Rattle.medium.specs.declared.Error.the-variants.{Uninitialized}
 use Rattle.medium.specs.declared.Medium.{Medium}
 use Rattle.medium.specs.declared.Outcome.the-variants.{Done}
@@ -18,7 +18,7 @@ use Rattle.handles.specs.declared.Writer.the-variants.{Nobody}
 use Rattle.header.specs.declared.codec.Replica.the-variants.{Absent}
 use Rattle.header.specs.Header.{ours, bare}
 use Rattle.header.specs.Copies.{isForeign, copyOf, bothOf, headersOf, takesB, takenOf, noCurrent, choiceOf, currentOf, notMounted, mountOf}
-use Rattle.header.proofs.RoundTrip.{part-zeros, zeros-absent}
+use Rattle.header.proofs.RoundTrip.{zeros-absent}
 
 -- both copies are read, where nothing refuses
 module _ (vol : List ℕ) (m : Medium) (enough : 64 ≤ sectorsOf vol) (a : readOf m 0 ≡ Done) (b : readOf m 32 ≡ Done) where

@@ -1,19 +1,16 @@
 -- What encoding leaves, call by call. Assumes nothing.
 use mathlib.Core.Path.{_≡_, refl, sym, _∙_}
-use mathlib.Core.List.{List, _++_, append-nil}
-use Prim.Native.Nat.{ℕ, _+_, _-_, _*_, _≤_}
-use native.Mathlib.Nat.{zero-add}
+use mathlib.Core.List.{List, _++_}
+use Prim.Native.Nat.{ℕ, _+_, _*_, _≤_}
 use native.Mathlib.Omega.{arith}
-use lib.ListN.{length, take, drop}
-use lib.Seq.{drop-length}
+use lib.ListN.{length, take}
 use Rattle.le.specs.Part.{over, zeros}
 use Rattle.le.specs.Field.{leBytes, putLe}
 use Rattle.le.specs.Layout.{putAll}
-use Rattle.le.proofs.Parts.{length-over, length-zeros, over-back}
+use Rattle.le.proofs.Parts.{length-over, length-zeros, over-whole}
 use Rattle.le.proofs.Fields.{length-put}
 use Rattle.le.proofs.Layouts.{length-all}
 use Rattle.seal.specs.Seal.{sealed}
-use Rattle.medium.specs.Sector.{writeAt}
 use Rattle.checksum.specs.Crc.{crc32Of}
 use Rattle.handles.specs.declared.Header.{Header}
 use Rattle.handles.specs.Handles.{tableOf, bodyOf}
@@ -26,10 +23,6 @@ startOf h = putAll (fieldsOf h) (magic ++ zeros 496)
 
 abbrev pub listOf : Header → List ℕ
 listOf h = words (take (bodyOf (h .chunks)) (h .crcs))
-
-over-whole : (vs l : List ℕ) → length vs ≡ length l → over 0 vs l ≡ vs
-unfolding over
-over-whole vs l e = rw (zero-add, e, drop-length) (append-nil vs)
 
 marked : over 0 magic (zeros 512) ≡ magic ++ zeros 496
 unfolding over zeros magic
@@ -83,9 +76,3 @@ module _ (h : Header) (count : length (h .crcs) ≡ 24) (most : h .chunks ≤ 20
   pub length-unmarked : length (unmarkedOf h) ≡ 512
   unfolding unmarkedOf
   length-unmarked = length-over 0 (zeros 16) (encodeOf h) (rw (length-zeros 16, length-encode) (omega arith)) ∙ length-encode
-
--- a header sector, filled where it stands in the volume
-pub in-place : (vol s bytes : List ℕ) (b k : ℕ) → b ≡ k → s ≡ bytes → length s ≡ 512 * b + 512 - 512 * b
-    → take (512 * b) vol ++ (s ++ drop (512 * b + 512 - 512 * b) (drop (512 * b) vol)) ≡ writeAt vol k bytes
-unfolding writeAt
-in-place vol s bytes b k eb es n = rw (← es, ← eb) (over-back (512 * b) (512 * b + 512) s vol n)

@@ -1,28 +1,29 @@
 -- What a sector that decodes as a valid copy gives: a header that is not foreign, whose numbers have their widths. Assumes nothing.
-use mathlib.Core.Path.{_≡_, refl, sym, ap, _∙_, subst}
-use mathlib.Core.Bool.{Bool, true, false, _&&_}
-use mathlib.Core.List.{List, [], _∷_, _++_, append-assoc}
-use Prim.Native.Nat.{ℕ, zero, suc, _+_, _-_, _*_, _%_, _^_, _≤_, _<_}
-use native.Mathlib.Nat.{mod-lt, one-le-pow, zero-lt-suc, le-of-suc-le-suc, not-suc-le-zero}
+use mathlib.Core.Path.{_≡_, refl, sym, ap, _∙_}
+use mathlib.Core.Bool.{Bool, true, false, _&&_, false≢true}
+use mathlib.Core.List.{List, [], _∷_, _++_}
+use Prim.Native.Nat.{ℕ, zero, suc, _+_, _-_, _*_, _^_, _≤_, _<_}
+use native.Mathlib.Nat.{le-of-suc-le-suc, not-suc-le-zero}
 use native.Mathlib.Omega.{arith}
 use lib.Dec.{lit<}
-use lib.ListN.{length, getD, take, drop, length-append, take-append-drop}
-use lib.Seq.{getD-drop, drop-drop}
+use lib.ListN.{length, getD, take, drop, length-append}
+use lib.Seq.{getD-drop}
 use Rattle.le.specs.Choice.{pick}
-use Rattle.le.specs.Part.{part, over, zeros}
-use Rattle.le.specs.Field.{leNumber, leBytes, getLe, putLe}
-use Rattle.le.proofs.Parts.{length-part, length-zeros}
-use Rattle.le.proofs.Fields.{bytes-number, get-put-mod}
+use Rattle.le.specs.Part.{part, zeros}
+use Rattle.le.specs.Field.{getLe}
+use Rattle.le.proofs.Parts.{length-part, length-zeros, getD-zeros}
+use Rattle.le.proofs.Fields.{number-lt}
+use Rattle.le.proofs.Bools.{and-true}
 use Rattle.runs.specs.Run.{startsWith}
 use Rattle.seal.specs.Seal.{isSealed}
 use Rattle.handles.specs.declared.Header.{Header}
 use Rattle.handles.specs.Handles.{bodyOf, saneOf}
-use Rattle.handles.proofs.Laws.{and-true, sane-facts}
+use Rattle.handles.proofs.Laws.{sane-facts}
 use Rattle.header.specs.declared.codec.Decoded.{Decoded}
 use Rattle.header.specs.declared.codec.Replica.the-variants.{Foreign, Damaged, Absent}
 use Rattle.header.specs.Header.{magic, rowOk, numbersAt, crcsOf, headOf, ours, bare, decodeOf, Bytes, InRange}
 use Rattle.header.specs.Copies.{isOurs}
-use Rattle.header.proofs.Words.{length-numbers, getD-zeros}
+use Rattle.header.proofs.Words.{length-numbers}
 
 -- ---- a field of bytes fits its width
 
@@ -37,20 +38,9 @@ unfolding part
 bytes-part o n l small = bytes-take n (drop o l) (λ i. rw getD-drop (small (o + i)))
 
 module _ (n o : ℕ) (l : List ℕ) (fits : o + n ≤ length l) (small : Bytes l) where
-  -- put back as it was got, it leaves the list
-  put-got : putLe n o (getLe n o l) l ≡ l
-  unfolding putLe getLe over part
-  put-got =
-      let p : List ℕ = take n (drop o l) in
-      let w : length p ≡ n = length-part o n l fits in
-      let e : leBytes n (leNumber p) ≡ p = ap (λ (k : ℕ). leBytes k (leNumber p)) (sym w) ∙ bytes-number p (bytes-part o n l small) in
-      rw (e, w, append-assoc, ← drop-drop n o l, take-append-drop n (drop o l)) (take-append-drop o l)
-
   get-lt : getLe n o l < 256 ^ n
-  get-lt =
-      let x : ℕ = getLe n o l in
-      let e : x ≡ x % 256 ^ n = ap (getLe n o) (sym put-got) ∙ get-put-mod n o x l fits in
-      subst (λ (k : ℕ). k < 256 ^ n) (sym e) (mod-lt x (one-le-pow n 256 (zero-lt-suc 255)))
+  unfolding getLe
+  get-lt = rw (length-part o n l fits) at (number-lt (part o n l) (bytes-part o n l small))
 
 -- ---- the checksums read, and zeros after them
 
@@ -86,7 +76,7 @@ head-range l sectors size small e =
 -- ---- the one way to a valid copy
 
 pub no-way : {A : Type 0} → false ≡ true → A
-no-way e = let z : _≡_ {A = ℕ} 0 1 = cc in absurd (let f : ⊥ = omega arith in f)
+no-way e = absurd (false≢true e)
 
 chosen : (a b c : Bool) (x : Header) → isOurs (pick a (pick b (pick c (ours x) (bare Foreign)) (bare Damaged)) (bare Absent) .kind) ≡ true
     → (pick a (pick b (pick c (ours x) (bare Foreign)) (bare Damaged)) (bare Absent) ≡ ours x) × (c ≡ true)

@@ -1,22 +1,23 @@
 -- Decoding what encoding wrote gives the header back. Assumes nothing.
 use mathlib.Core.Path.{_≡_, refl, sym, ap, _∙_}
 use mathlib.Core.Bool.{true, false}
-use mathlib.Core.List.{List, [], _∷_, _++_}
-use Prim.Native.Nat.{ℕ, zero, suc, _+_, _-_, _*_, _%_, _^_, _≤_, _<_}
+use mathlib.Core.List.{List, _++_}
+use Prim.Native.Nat.{ℕ, _+_, _-_, _*_, _%_, _^_, _≤_, _<_}
 use native.Mathlib.Nat.{mod-eq-of-lt}
 use native.Mathlib.Omega.{arith}
 use borrow.Author.Tests.{eq-eqb}
 use lib.Dec.{lit<, lit≤}
-use lib.ListN.{length, take, drop, length-drop, length-replicate, take-append-drop, replicate-append-replicate}
-use lib.Seq.{ext-getD, getD-drop, drop-at, take-at}
+use lib.ListN.{length, take, drop, length-drop, take-append-drop}
+use lib.Seq.{ext-getD, getD-drop}
 use Rattle.le.specs.Part.{part, over, zeros}
 use Rattle.le.specs.Field.{leNumber, getLe}
 use Rattle.le.specs.Choice.{pick}
 use Rattle.le.proofs.Choices.{pick-false}
-use Rattle.le.proofs.Parts.{part-over, part-before, part-after, part-part, length-zeros}
+use Rattle.le.proofs.Parts.{part-over, part-before, part-after, part-part, length-zeros, getD-zeros, part-zeros}
 use Rattle.le.proofs.Fields.{put-before}
 use Rattle.le.proofs.Layouts.{got, outside}
 use Rattle.runs.specs.Run.{startsWith, allZero}
+use Rattle.runs.proofs.Tests.{zeros-pass, starts-front}
 use Rattle.seal.specs.Seal.{sealed, isSealed}
 use Rattle.seal.proofs.Laws.{sealed-is}
 use Rattle.checksum.specs.Crc.{crc32Of}
@@ -25,31 +26,8 @@ use Rattle.handles.specs.Handles.{tableOf, bodyOf, saneOf}
 use Rattle.handles.proofs.Laws.{sane-facts}
 use Rattle.header.specs.declared.codec.Replica.the-variants.{Absent}
 use Rattle.header.specs.Header.{magic, fieldsOf, contentOf, encodeOf, unmarkedOf, zeroFrom, rowOk, numbersAt, crcsOf, headOf, ours, bare, decodeOf, InRange}
-use Rattle.header.proofs.Words.{getD-zeros, numbers-words}
+use Rattle.header.proofs.Words.{numbers-words}
 use Rattle.header.proofs.Fill.{startOf, listOf, listed, listed-fits, length-content}
-
--- ---- runs
-
-starts-append : (w r : List ℕ) → startsWith w (w ++ r) ≡ true
-unfolding startsWith
-starts-append [] r = refl
-starts-append (x ∷ w) r = rw (eq-eqb x x refl) (starts-append w r)
-
-pub zero-zeros : (n : ℕ) → allZero (zeros n) ≡ true
-unfolding zeros allZero
-zero-zeros zero = refl
-zero-zeros (suc n) = zero-zeros n
-
--- a part of zeros is zeros
-pub part-zeros : (o m n : ℕ) → o + m ≤ n → part o m (zeros n) ≡ zeros m
-unfolding part zeros
-part-zeros o m n h =
-    let r : ℕ = n - (o + m) in
-    let e : n ≡ o + (m + r) = omega arith in
-    ap (λ (k : ℕ). take m (drop o (zeros k))) e
-    ∙ ap (λ (l : List ℕ). take m (drop o l)) (sym (replicate-append-replicate o (m + r) 0))
-    ∙ ap (take m) (drop-at (zeros o) (zeros (m + r)) o (length-replicate o 0) ∙ sym (replicate-append-replicate m r 0))
-    ∙ take-at (zeros m) (zeros r) m (length-replicate m 0)
 
 -- ---- where encoding puts what
 
@@ -74,9 +52,8 @@ module _ (h : Header) (count : length (h .crcs) ≡ 24) (most : h .chunks ≤ 20
   first = front 0 16 (lit≤ tt) ∙ outside 512 16 0 (fieldsOf h) (magic ++ zeros 496) refl tt tt
 
   pub marked : startsWith magic (encodeOf h) ≡ true
-  marked =
-      ap (startsWith magic) (sym (take-append-drop 16 (encodeOf h)) ∙ ap (λ (r : List ℕ). r ++ drop 16 (encodeOf h)) first)
-      ∙ starts-append magic (drop 16 (encodeOf h))
+  unfolding magic
+  marked = starts-front magic (encodeOf h) first
 
   pub sealed-read : isSealed (encodeOf h) ≡ true
   unfolding encodeOf
@@ -107,7 +84,7 @@ module _ (h : Header) (count : length (h .crcs) ≡ 24) (most : h .chunks ≤ 20
       ∙ sym (part-part 64 444 b (444 - b) (startOf h) (omega arith))
       ∙ ap (part b (444 - b)) tail-zeros
       ∙ part-zeros b (444 - b) 444 (omega arith))
-      ∙ zero-zeros (444 - b)
+      ∙ zeros-pass (444 - b)
 
   pub row-read : rowOk (encodeOf h) (h .chunks) ≡ true
   unfolding rowOk fieldsOf magic zeros

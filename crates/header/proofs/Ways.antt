@@ -21,7 +21,7 @@ use Rattle.handles.proofs.Laws.{sane-facts}
 use Rattle.header.specs.declared.answers.Copies.{Copies}
 use Rattle.header.specs.declared.codec.Decoded.{Decoded}
 use Rattle.header.specs.declared.codec.Replica.the-variants.{Ours, Foreign, Damaged, Absent}
-use Rattle.header.specs.Header.{magic, rowOk, crcsOf, headOf, ours, bare, decodeOf}
+use Rattle.header.specs.Header.{magic, rowOk, crcsOf, headOf, withCrcs, ours, bare, decodeOf}
 use Rattle.header.specs.Copies.{isForeign, copyOf, bothOf, noCopies, headersOf}
 
 -- ---- decode
@@ -35,15 +35,11 @@ pub damaged : (l : List ℕ) (sectors : ℕ) {m n : Bool} {r : Decoded} → m �
 unfolding decodeOf pick
 damaged l sectors em tm en tn er = rw (← em, tm, ← en, tn) er
 
--- a header with other checksums
-abbrev pub listing : Header → List ℕ → Header
-listing h y = record { id = h .id; generation = h .generation; «next_id» = h .«next_id»; cursor = h .cursor; chunks = h .chunks; chunk = h .chunk; crcs = y }
-
 -- what is known once the numbers of a sector are in a header, and tested
 pub record Read (l : List ℕ) (sectors : ℕ) (h : Header) (t : Bool) : Type 0 where
   pub marked : startsWith magic l ≡ true
   pub sealed : isSealed l ≡ true
-  pub same : h ≡ listing (headOf l) (h .crcs)
+  pub same : h ≡ withCrcs (headOf l) (h .crcs)
   pub sane : t ≡ saneOf h sectors
 
 module _ {l : List ℕ} {sectors : ℕ} {h : Header} {t : Bool} (k : Read l sectors h t) where
@@ -71,11 +67,11 @@ module _ {l : List ℕ} {sectors : ℕ} {h : Header} {t : Bool} (k : Read l sect
   wrong e ep tp er = rw (rest, e, ← ep, tp) er
 
   pub found : {p : Bool} {n : ℕ} {y : List ℕ} → t ≡ true → p ≡ rowOk l (h .chunks) → p ≡ true → n ≡ bodyOf (h .chunks) → y ≡ crcsOf n l
-      → record { kind = Ours; head = listing h y } ≡ decodeOf l sectors
+      → record { kind = Ours; head = withCrcs h y } ≡ decodeOf l sectors
   unfolding pick headOf
   found {y = y} e ep tp en ey =
       let z : y ≡ crcsOf (bodyOf (getLe 4 48 l)) l = ey ∙ rw (en, chunks-is) in
-      rw (rest, e, ← ep, tp) (ap (λ (x : Header). ours (listing x y)) (k .same) ∙ rw z)
+      rw (rest, e, ← ep, tp) (ap (λ (x : Header). ours (withCrcs x y)) (k .same) ∙ rw z)
 
 -- ---- headers
 

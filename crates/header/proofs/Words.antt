@@ -75,12 +75,6 @@ crcs-more l crcs k v hk hc hv =
     rw (hc, z, set-at (numbersAt k 64 l) 0 (zeros (24 - (k + 1))) v k (length-numbers k 64 l), add-one k, numbers-snoc k 64 l, ← hv)
     (rw append-assoc)
 
-pub getD-zeros : (n i : ℕ) → getD (zeros n) i 0 ≡ 0
-unfolding zeros
-getD-zeros zero i = refl
-getD-zeros (suc n) zero = refl
-getD-zeros (suc n) (suc i) = getD-zeros n i
-
 -- ---- what was written is read
 
 number-word : (x : ℕ) → x < 2 ^ 32 → leNumber (leBytes 4 x) ≡ x

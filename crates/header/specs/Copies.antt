@@ -85,10 +85,10 @@ sameStore x y = eqb (x .id) (y .id) && (eqb (x .chunks) (y .chunks) && eqb (x .c
 -- the copy taken, its header, and beside it the other copy's checksums. They say what that copy's body holds only where it is valid and of the
 -- same store
 unfoldable pub takenOf : ℕ → Header → Header → Bool → Current
-takenOf copy head other valid = record { outcome = Done; copy = copy; head = head; known = valid && sameStore head other; held = other .crcs }
+takenOf copy head other valid = record { outcome = Done; copy = copy; head = head; known = valid && sameStore head other; listed = other .crcs }
 
 unfoldable pub noCurrent : Error → Current
-noCurrent e = record { outcome = No e; copy = 0; head = blankOf; known = false; held = zeros 24 }
+noCurrent e = record { outcome = No e; copy = 0; head = blankOf; known = false; listed = zeros 24 }
 
 unfoldable pub choiceOf : Copies → Current
 choiceOf c =

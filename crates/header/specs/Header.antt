@@ -85,6 +85,11 @@ headOf l =
       crcs = crcsOf (bodyOf (getLe 4 48 l)) l;
     }
 
+-- a header with other checksums
+abbrev pub withCrcs : Header → List ℕ → Header
+withCrcs h crcs =
+    record { id = h .id; generation = h .generation; «next_id» = h .«next_id»; cursor = h .cursor; chunks = h .chunks; chunk = h .chunk; crcs = crcs }
+
 -- a copy that is valid, and a kind with no header
 abbrev pub ours : Header → Decoded
 ours h = record { kind = Ours; head = h }

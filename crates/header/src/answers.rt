@@ -12,13 +12,13 @@ pub struct Copies {
     pub b: Replica,
 }
 
-// The copy that is current. With `known`, the other copy's body holds the sectors whose checksums are in `held`.
+// The copy that is current. With `known`, the other copy's body holds the sectors whose checksums are in `listed`.
 pub struct Current {
     pub outcome: Outcome,
     pub copy: u64,
     pub head: Header,
     pub known: bool,
-    pub held: [u32; 24],
+    pub listed: [u32; 24],
 }
 
 pub struct Mounted {

@@ -24,7 +24,8 @@ ghost use Rattle.handles.specs.Handles.{baseOf};
 ghost use Rattle.header.specs.Header.{encodeOf, unmarkedOf};
 ghost use Rattle.header.specs.Copies.{isOurs, isForeign, isDamaged, copyOf, noCopies, headersOf, takesB, sameStore, takenOf, noCurrent, choiceOf, currentOf, mountOf};
 
-fn is_ours(k: Replica) -> bool
+// A copy that is valid.
+pub fn is_ours(k: Replica) -> bool
     ensures { λ r. ⌜ r ≡ isOurs k ⌝ }
 {
     match k {
@@ -134,13 +135,13 @@ fn taken(copy: u64, head: Header, other: Header, valid: bool) -> Current
     ensures { λ r. ⌜ r ≡ takenOf copy head other valid ⌝ }
 {
     let same = same_store(head, other);
-    let held = other.crcs;
+    let listed = other.crcs;
     Current {
         outcome: Outcome::Done,
         copy,
         head,
         known: valid & same,
-        held,
+        listed,
     }
 }
 
@@ -153,7 +154,7 @@ fn no_current(e: Error) -> Current
         copy: 0,
         head,
         known: false,
-        held: [0u32; 24],
+        listed: [0u32; 24],
     }
 }
 

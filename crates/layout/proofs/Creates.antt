@@ -10,10 +10,10 @@ use Rattle.table.specs.declared.Link.{Link}
 use Rattle.table.specs.declared.LinkAt.the-variants as link
 use Rattle.table.specs.Table.{linksOf}
 use Rattle.layout.specs.Views.{vacant, named, stored, Disk}
-use Rattle.layout.specs.Segments.{Segment, segmentAt, linkFor, isOf, tally, Good}
+use Rattle.layout.specs.Segments.{Segment, segmentAt, isOf, tally, Good}
 use Rattle.layout.specs.Changes.{replaced, Created}
-use Rattle.layout.proofs.Facts.{case, vacant≢named, named≢broken, same-name, same-id, same-link, free≢linked, in-table, replaced-here, replaced-other, last-link, is-of, not-of, free-of}
-use Rattle.layout.proofs.Tallies.{tally-ext, tally-one}
+use Rattle.layout.proofs.Facts.{case, vacant≢named, named≢broken, same-name, same-id, same-link, in-table, replaced-here, replaced-other, last-link, not-free}
+use Rattle.layout.proofs.Tallies.{counts-one}
 
 module _ (D E : Disk) (G : ℕ → List Segment) (s c : ℕ) (name : List ℕ) (d : Good D G) (s< : s < 64) (unnamed : D .entry s ≡ vacant)
     (nobody : (t : ℕ) (m : List ℕ) (k : ℕ) → t < 64 → D .entry t ≡ named m k → m ≢ name) (c< : c < D .chunks) (unused : D .link c ≡ link.Free)
@@ -45,9 +45,6 @@ module _ (D E : Disk) (G : ℕ → List Segment) (s c : ℕ) (name : List ℕ) (
       (λ a. f a (let z : length (H t) ≡ 1 = rw (a, mine) refl in omega (arith, h, z)))
       (λ a. g a (let z : length (H t) ≡ length (G t) = ap length (others t a) in omega (arith, h, z)))
 
-  old-chunk : (t q : ℕ) → t < 64 → q < length (G t) → segmentAt (G t) q .chunk ≢ c
-  old-chunk t q a b h = free≢linked {l = linkFor (D .size) t (G t) q} unused (rw (← h) (d .linked t q a b))
-
   -- an entry is the new one, or an old one with a smaller id
   entry-of : {P : Type 0} (t : ℕ) (m : List ℕ) (k : ℕ) → t < 64 → E .entry t ≡ named m k → (t ≡ s → m ≡ name → k ≡ D .next → P)
       → (t ≢ s → D .entry t ≡ named m k → k < D .next → P) → P
@@ -64,16 +61,8 @@ module _ (D E : Disk) (G : ℕ → List Segment) (s c : ℕ) (name : List ℕ) (
       let k : length (G (l .slot)) ≡ 0 = rw z none-yet in
       absurd (omega (arith, o .inFile, k))
 
-  is-same : (t b : ℕ) → b < D .chunks → b ≢ c → isOf t (E .link b) ≡ isOf t (D .link b)
-  is-same t b h a = ap (isOf t) (w .links b (in-table h) a)
-
   counts : (t : ℕ) → t < 64 → tally (λ b. isOf t (E .link b)) (D .chunks) ≡ length (H t)
-  counts t a = case t s
-      (λ z. tally-one (λ b. isOf t (D .link b)) (λ b. isOf t (E .link b)) (D .chunks) c c< (free-of t unused) (is-of t (w .added) (sym z)) (is-same t)
-      ∙ (let x : length (H t) ≡ 1 = rw (z, mine) refl in let y : length (G t) ≡ 0 = rw z none-yet in omega (arith, d .counted t a, x, y)))
-      (λ z. tally-ext (λ b. isOf t (E .link b)) (λ b. isOf t (D .link b)) (D .chunks) (λ b h. case b c
-      (λ e. rw e (not-of t (w .added) (λ f. z (sym f)) ∙ sym (free-of t unused)))
-      (is-same t b h)) ∙ (d .counted t a ∙ sym (ap length (others t z))))
+  counts = counts-one D E G H s c added d c< unused (w .added) refl (λ t b h a. ap (isOf t) (w .links b (in-table h) a)) (rw (mine, none-yet)) others
 
   creates : Good E H
   creates = record {
@@ -94,7 +83,7 @@ module _ (D E : Disk) (G : ℕ → List Segment) (s c : ℕ) (name : List ℕ) (
     inside = λ t q a b. rw N (which t q b (λ x y. rw (x, y, mine) c<) (λ x y. rw (others t x) (d .inside t q a y)));
     linked = λ t q a b. rw Z (which t q b
         (λ x y. rw (x, y, mine) (w .added ∙ ap link.Linked (sym (last-link (D .size) s new 0 refl))))
-        (λ x y. rw (others t x) (w .links (segmentAt (G t) q .chunk) (in-table (d .inside t q a y)) (old-chunk t q a y) ∙ d .linked t q a y)));
+        (λ x y. rw (others t x) (w .links (segmentAt (G t) q .chunk) (in-table (d .inside t q a y)) (not-free d unused t q a y) ∙ d .linked t q a y)));
     owned = λ b l x y. let h : b < D .chunks = rw N at x in case b c
         (λ z. let o : l ≡ added = same-link y (rw z (w .added)) in rw o (record { slot = s<; inFile = rw mine (omega arith); there = rw mine (sym z) }))
         (λ z.

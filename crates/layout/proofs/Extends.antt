@@ -1,5 +1,5 @@
 -- A chunk linked to the file in slot s after its last one: views and layout agree after it. Assumes nothing.
-use mathlib.Core.Path.{_≡_, ap, sym, _∙_}
+use mathlib.Core.Path.{_≡_, refl, ap, sym, _∙_}
 use mathlib.Core.Logic.{_≢_, inr}
 use mathlib.Core.Bool.{true, false}
 use mathlib.Core.List.{List, [], _∷_}
@@ -13,8 +13,8 @@ use Rattle.table.specs.Table.{linksOf}
 use Rattle.layout.specs.Views.{named, Disk}
 use Rattle.layout.specs.Segments.{Segment, noSegment, segmentAt, linkFor, isOf, tally, Owned, Good}
 use Rattle.layout.specs.Changes.{replaced, withSegment, Extended}
-use Rattle.layout.proofs.Facts.{case, vacant≢named, same-link, free≢linked, in-table, replaced-here, replaced-other, last-link, full-link, partial-link, link-slot, link-position, is-of, not-of, free-of, length-segment, one-place}
-use Rattle.layout.proofs.Tallies.{tally-ext, tally-one}
+use Rattle.layout.proofs.Facts.{case, vacant≢named, same-link, in-table, replaced-here, replaced-other, last-link, full-link, partial-link, link-slot, link-position, is-of, not-of, not-free, length-segment, one-place}
+use Rattle.layout.proofs.Tallies.{counts-one}
 
 -- the segments before the added one
 pub old-segment : (g : List Segment) (c q : ℕ) → q < length g → segmentAt (withSegment g c) q ≡ segmentAt g q
@@ -81,9 +81,6 @@ module _ (D E : Disk) (G : ℕ → List Segment) (s p c id : ℕ) (n : List ℕ)
       (λ a. case q (p + 1) (g a) (λ b. f (let z : length (H t) ≡ p + 2 = rw a len in let y : length (G t) ≡ p + 1 = rw a (sym last) in omega (arith, h, b, z, y))))
       (λ a. f (let z : length (H t) ≡ length (G t) = ap length (others t a) in omega (arith, h, z)))
 
-  not-new : (t q : ℕ) → t < 64 → q < length (G t) → segmentAt (G t) q .chunk ≢ c
-  not-new t q a b h = free≢linked {l = linkFor (D .size) t (G t) q} unused (rw (← h) (d .linked t q a b))
-
   -- the links of the old places
   kept : (t q : ℕ) → t < 64 → q < length (G t) → E .link (segmentAt (G t) q .chunk) ≡ link.Linked (linkFor (D .size) t (H t) q)
   kept t q a b = case t s
@@ -106,7 +103,7 @@ module _ (D E : Disk) (G : ℕ → List Segment) (s p c id : ℕ) (n : List ℕ)
           (λ f. partial-link (D .size) t (H t) q u (λ e. f (sym counts ∙ e)) ∙ (rw counts (sym (partial-link (D .size) t (G t) q v f))))
 
       other : (t ≡ s → q ≢ p) → linkFor (D .size) t (H t) q ≡ linkFor (D .size) t (G t) q → E .link (segmentAt (G t) q .chunk) ≡ link.Linked (linkFor (D .size) t (H t) q)
-      other ne m = rw m (w .elsewhere (segmentAt (G t) q .chunk) (in-table (d .inside t q a b)) (not-new t q a b) (λ z. let o = one-place d t q s p a s< b pl z in ne (o .0) (o .1)) ∙ d .linked t q a b)
+      other ne m = rw m (w .elsewhere (segmentAt (G t) q .chunk) (in-table (d .inside t q a b)) (not-free d unused t q a b) (λ z. let o = one-place d t q s p a s< b pl z in ne (o .0) (o .1)) ∙ d .linked t q a b)
 
   owned-by : (b : ℕ) (l m : Link) → E .link b ≡ link.Linked l → E .link b ≡ link.Linked m → m .slot < 64 → m .position < length (H (m .slot))
       → segmentAt (H (m .slot)) (m .position) .chunk ≡ b → Owned E H b l
@@ -122,7 +119,7 @@ module _ (D E : Disk) (G : ℕ → List Segment) (s p c id : ℕ) (n : List ℕ)
       (λ g. let o = d .owned b l h (sym (w .elsewhere b (in-table h) a g) ∙ x) in
       record { slot = o .slot; inFile = omega (arith, o .inFile, longer (l .slot)); there = rw (as-before (l .slot) (l .position) (o .inFile)) (o .there) }))
 
-  -- the new chunk is one more of slot s; the others are whose they were
+  -- every other link is whose it was
   is-same : (t b : ℕ) → b < D .chunks → b ≢ c → isOf t (E .link b) ≡ isOf t (D .link b)
   is-same t b h a = case b old
       (λ g. case t s
@@ -131,12 +128,7 @@ module _ (D E : Disk) (G : ℕ → List Segment) (s p c id : ℕ) (n : List ℕ)
       (λ g. ap (isOf t) (w .elsewhere b (in-table h) a g))
 
   counts : (t : ℕ) → t < 64 → tally (λ b. isOf t (E .link b)) (D .chunks) ≡ length (H t)
-  counts t a = case t s
-      (λ z. tally-one (λ b. isOf t (D .link b)) (λ b. isOf t (E .link b)) (D .chunks) c c< (free-of t unused) (is-of t (w .added) (sym z)) (is-same t)
-      ∙ (let x : length (H t) ≡ p + 2 = rw z len in let y : length (G t) ≡ p + 1 = rw z (sym last) in omega (arith, d .counted t a, x, y)))
-      (λ z. tally-ext (λ b. isOf t (E .link b)) (λ b. isOf t (D .link b)) (D .chunks) (λ b h. case b c
-      (λ e. rw e (not-of t (w .added) (λ f. z (sym f)) ∙ sym (free-of t unused)))
-      (is-same t b h)) ∙ (d .counted t a ∙ sym (ap length (others t z))))
+  counts = counts-one D E G H s c added d c< unused (w .added) refl is-same (omega (arith, len, last)) others
 
   extends : Good E H
   extends = record {

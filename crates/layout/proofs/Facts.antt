@@ -134,6 +134,10 @@ one-place {D} {G} d s p t q a b c e h =
       sym (link-position (D .size) s (G s) p) ∙ ap (λ (l : Link). l .position) k ∙ link-position (D .size) t (G t) q,
     )
 
+-- no file has a free chunk
+pub not-free : {D : Disk} {G : ℕ → List Segment} {c : ℕ} → Good D G → D .link c ≡ link.Free → (t q : ℕ) → t < 64 → q < length (G t) → segmentAt (G t) q .chunk ≢ c
+not-free {D} {G} d unused t q a b h = free≢linked {l = linkFor (D .size) t (G t) q} unused (rw (← h) (d .linked t q a b))
+
 -- the last chunk of a file has no mark
 pub last-linked : {D : Disk} {G : ℕ → List Segment} → Good D G → (s p : ℕ) → s < 64 → p + 1 ≡ length (G s)
     → D .link (segmentAt (G s) p .chunk) ≡ link.Linked (record { slot = s; position = p; partial = false; records = 0 })

@@ -13,16 +13,17 @@ use Rattle.le.specs.Field.{getLe}
 use Rattle.le.specs.Part.{part}
 use Rattle.le.proofs.Choices.{pick-keeps-by, pick-true}
 use Rattle.le.proofs.Parts.{length-part}
+use Rattle.le.proofs.Bools.{and-true}
 use Rattle.runs.specs.Run.{allZero}
 use Rattle.names.specs.Names.{nameOk}
-use Rattle.handles.proofs.Laws.{and-true}
 use Rattle.directory.specs.declared.Slot.{Slot}
 use Rattle.directory.specs.Entry.{lenOf, entryOk, entryOf}
+use Rattle.directory.specs.declared.Slot.the-variants.{File}
 use Rattle.record.specs.declared.Judged.{Judged}
 use Rattle.record.specs.declared.Judged.the-variants.{Valid, Other}
 use Rattle.record.specs.Record.{judgeOf, carriesOf, payloadOf}
 use Rattle.record.proofs.RoundTrip.{judge-facts, judge-carries, judge-length, carries-judge}
-use Rattle.layout.specs.Views.{named, Rec, blank, stored, entryView, recView}
+use Rattle.layout.specs.Views.{named, Rec, stored, entryView, recView}
 
 -- ---- a data sector
 
@@ -71,30 +72,30 @@ judged-other id f k sector none =
     (λ t. absurd (none _ (judged-stored id f k sector (pick-true (Valid (getLe 2 20 sector)) Other t))))
     (λ t. refl)
 
-pub blank-judged : (id f k : ℕ) (sector : List ℕ) → recView id sector ≡ blank → judgeOf id f k sector ≡ Other
-blank-judged id f k sector e = judged-other id f k sector (λ x q. let z : _≡_ {A = ℕ} 0 1 = cc in omega arith)
-
--- a record of another file, or with another number
-pub file-judged : (id f k : ℕ) (sector : List ℕ) {g l : ℕ} {y : List ℕ} → recView id sector ≡ stored g l y → f ≢ g → judgeOf id f k sector ≡ Other
-file-judged id f k sector e ne = judged-other id f k sector (λ x q. ne cc)
-
-pub number-judged : (id f k : ℕ) (sector : List ℕ) {g l : ℕ} {y : List ℕ} → recView id sector ≡ stored g l y → k ≢ l → judgeOf id f k sector ≡ Other
-number-judged id f k sector e ne = judged-other id f k sector (λ x q. ne cc)
-
 -- ---- an entry
 
--- a file's id is not 0
-pub named-some : (e : List ℕ) {n : List ℕ} {id : ℕ} → entryView e (entryOf e) ≡ named n id → id ≢ 0
-unfolding entryView entryOf entryOk
-named-some e {n} {id} =
-    pick-keeps-by (λ (s : Slot). entryView e s ≡ named n id → id ≢ 0) (allZero e) _ _
-    (λ t q. absurd (let z : _≡_ {A = ℕ} 0 1 = cc in omega arith))
-    (λ t. pick-keeps-by (λ (s : Slot). entryView e s ≡ named n id → id ≢ 0) (entryOk e) _ _
-    (λ ok q z.
-    let zeroed : Bool = allZero (part (lenOf e) (40 - lenOf e) e) in
-    let numbered : Bool = not (eqb (getLe 4 40 e) 0) in
-    let a = and-true (nameOk (part 0 (lenOf e) e)) (zeroed && (numbered && allZero (part 44 20 e))) ok in
-    let d = and-true numbered (allZero (part 44 20 e)) (and-true zeroed (numbered && allZero (part 44 20 e)) (a .1) .1) in
+-- what the name and id of a file meet
+pub record Named (name : List ℕ) (id : ℕ) : Type 0 where
+  pub fine : nameOk name ≡ true
+  pub some : id ≢ 0
+
+ok-named : (e : List ℕ) {name : List ℕ} {id : ℕ} → entryOk e ≡ true → entryView e (File (getLe 4 40 e) (lenOf e)) ≡ named name id → Named name id
+unfolding entryOk entryView
+ok-named e {name} {id} ok q =
+    let n : part 0 (lenOf e) e ≡ name = cc in
     let i : getLe 4 40 e ≡ id = cc in
-    eqb-false (getLe 4 40 e) 0 (not-true _ (d .0)) (i ∙ z))
-    (λ u q. absurd (let z : _≡_ {A = ℕ} 0 1 = cc in omega arith)))
+    let padded : Bool = allZero (part (lenOf e) (40 - lenOf e) e) in
+    let numbered : Bool = not (eqb (getLe 4 40 e) 0) in
+    let a = and-true (nameOk (part 0 (lenOf e) e)) (padded && (numbered && allZero (part 44 20 e))) ok in
+    let b = and-true padded (numbered && allZero (part 44 20 e)) (a .1) in
+    let c = and-true numbered (allZero (part 44 20 e)) (b .1) in
+    record { fine = rw n at (a .0); some = λ z. eqb-false (getLe 4 40 e) 0 (not-true _ (c .0)) (i ∙ z) }
+
+pub named-facts : (e : List ℕ) {name : List ℕ} {id : ℕ} → entryView e (entryOf e) ≡ named name id → Named name id
+unfolding entryOf entryView
+named-facts e {name} {id} =
+    pick-keeps-by Meets (allZero e) _ _ (λ _ q. absurd (let z : _≡_ {A = ℕ} 0 1 = cc in omega arith))
+    (λ _. pick-keeps-by Meets (entryOk e) _ _ (ok-named e) (λ _ q. absurd (let z : _≡_ {A = ℕ} 0 1 = cc in omega arith)))
+  where
+    Meets : Slot → Type 0
+    Meets x = entryView e x ≡ named name id → Named name id

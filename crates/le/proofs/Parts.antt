@@ -1,11 +1,11 @@
 -- Laws of a part of a list and of a part replaced. Assumes nothing.
 use mathlib.Core.Path.{_≡_, refl, sym, ap, ap₂, _∙_, subst}
-use Prim.Native.Nat.{ℕ, zero, suc, _+_, _-_, _≤_, _<_}
-use native.Mathlib.Nat.{add-assoc, suc-add, not-suc-le-zero}
+use Prim.Native.Nat.{ℕ, zero, suc, _+_, _-_, _≤_}
+use native.Mathlib.Nat.{add-assoc, zero-add}
 use native.Mathlib.Omega.{arith}
-use mathlib.Core.List.{List, [], _∷_, _++_, append-assoc}
-use lib.ListN.{length, take, drop, length-append, length-take, length-drop, length-replicate}
-use lib.Seq.{length-take-le, take-at, drop-at, take-append-seam, take-take, take-nil, drop-nil, drop-drop, take-append-le, take-add}
+use mathlib.Core.List.{List, [], _∷_, _++_, append-assoc, append-nil}
+use lib.ListN.{length, getD, take, drop, replicate, length-append, length-take, length-drop, length-replicate}
+use lib.Seq.{length-take-le, take-at, drop-at, drop-length, take-append-seam, take-take, drop-drop, take-add}
 use Rattle.le.specs.Part.{part, over, zeros}
 
 pub length-part : (o n : ℕ) (l : List ℕ) → o + n ≤ length l → length (part o n l) ≡ n
@@ -33,6 +33,25 @@ part-part a n b m l h = before b m n (drop a l) h ∙ ap (take m) (drop-drop b a
 pub length-zeros : (n : ℕ) → length (zeros n) ≡ n
 unfolding zeros
 length-zeros n = length-replicate n 0
+
+-- inside them or past them
+pub getD-zeros : (n i : ℕ) → getD (zeros n) i 0 ≡ 0
+unfolding zeros
+getD-zeros zero i = refl
+getD-zeros (suc n) zero = refl
+getD-zeros (suc n) (suc i) = getD-zeros n i
+
+take-zeros : (n k : ℕ) → n ≤ k → take {A = ℕ} n (replicate k 0) ≡ replicate n 0
+take-zeros zero k h = refl
+take-zeros (suc n) zero h = absurd (omega arith)
+take-zeros (suc n) (suc k) h = ap (λ (l : List ℕ). 0 ∷ l) (take-zeros n k (omega arith))
+
+-- a part of zeros is zeros
+pub part-zeros : (o n k : ℕ) → o + n ≤ k → part o n (zeros k) ≡ zeros n
+unfolding part zeros
+part-zeros zero n k h = take-zeros n k (omega arith)
+part-zeros (suc o) n zero h = absurd (omega arith)
+part-zeros (suc o) n (suc k) h = part-zeros o n k (omega arith)
 
 -- ---- a part replaced
 
@@ -73,6 +92,11 @@ module _ (o : ℕ) (vs l : List ℕ) (fits : o + length vs ≤ length l) where
       ap (take m)
       (subst (λ (k : ℕ). drop k (over o vs l) ≡ drop k l) e
       (sym (drop-drop (j - (o + length vs)) (o + length vs) (over o vs l)) ∙ ap (drop (j - (o + length vs))) drop-over ∙ drop-drop (j - (o + length vs)) (o + length vs) l))
+
+-- all of a list replaced
+pub over-whole : (vs l : List ℕ) → length vs ≡ length l → over 0 vs l ≡ vs
+unfolding over
+over-whole vs l e = rw (zero-add, e, drop-length) (append-nil vs)
 
 -- two parts that meet are one
 pub over-over : (o : ℕ) (vs ws l : List ℕ) → o + length vs + length ws ≤ length l → over (o + length vs) ws (over o vs l) ≡ over o (vs ++ ws) l

@@ -1,38 +1,14 @@
 -- A list has at most 64 rows, so that its answer has a bound. Assumes nothing.
-use mathlib.Core.Path.{_≡_, refl, ap, _∙_}
 use mathlib.Core.List.{List}
 use Prim.Native.Nat.{ℕ, _≤_}
-use lib.Dec.{lit≤}
 use lib.ListN.{length}
-use Rattle.le.specs.Choice.{pick}
-use Rattle.le.specs.Part.{zeros}
 use Rattle.le.proofs.Choices.{pick-keeps}
-use Rattle.le.proofs.Parts.{length-zeros}
 use Rattle.words.specs.Lines.{Rollover, Line, format, create, append, sync, delete, list, other, lineOf}
-use Rattle.medium.specs.declared.Medium.{Medium}
-use Rattle.medium.specs.Refusal.{Answer}
-use Rattle.medium.specs.Refusal as call
-use Rattle.medium.proofs.Laws.{onDone-keeps}
-use Rattle.handles.specs.declared.Store.{Store}
-use Rattle.directory.proofs.Ranges.{rows-made}
-use Rattle.store.specs.Reading.{ListCall, listed as listedCall, listCall}
+use Rattle.medium.proofs.Laws.{onOk-keeps}
+use Rattle.store.proofs.Lists.{list-few as call-few}
 use Rattle.session.specs.declared.Session.{Session}
-use Rattle.session.specs.Session.{Said, ok, listed, no, onOk, allowedOf, Turn, formatLine, createLine, appendLine, syncLine, deleteLine, listLine, afterFormat, afterCreate, lineStep, stepOf}
+use Rattle.session.specs.Session.{allowedOf, Turn, formatLine, createLine, appendLine, syncLine, deleteLine, listLine, afterFormat, afterCreate, lineStep, stepOf}
 use Rattle.lines.specs.Text.{Few}
-
-onOk-keeps : {A B : Type 0} (P : B → Type 0) (a : Answer A) {x : A → B} {f : ℕ → B} → ((y : A) → P (x y)) → ((n : ℕ) → P (f n)) → P (onOk a x f)
-unfolding onOk
-onOk-keeps P (call.ok y) p q = p y
-onOk-keeps P (call.refused n) p q = q n
-
-made-few : (vol : List ℕ) (m : Medium) (st : Store) (dir counts rows : List ℕ) → 3072 ≤ length rows → listCall vol m st dir counts rows .made ≤ 64
-unfolding listCall listedCall
-made-few vol m st dir counts rows room =
-    pick-keeps Fewer _ _ _ (lit≤ tt)
-    (onDone-keeps Fewer _ _ _ (λ _. onDone-keeps Fewer _ _ _ (λ _. rows-made vol m st rows room dir _ .few) (λ e _. lit≤ tt)) (λ e _. lit≤ tt))
-  where
-    Fewer : ListCall → Type 0
-    Fewer r = r .made ≤ 64
 
 -- ---- an answer of each line
 
@@ -70,7 +46,7 @@ module _ (vol : List ℕ) (s : Session) where
 
   list-few : (rows : List ℕ) → 3072 ≤ length rows → FewOf (listLine vol s rows .0)
   unfolding listLine
-  list-few rows room = onOk-keeps Few _ (λ _. made-few vol _ _ _ _ rows room) (λ n. tt)
+  list-few rows room = onOk-keeps Few _ (λ _. call-few vol _ _ _ _ rows room) (λ n. tt)
 
   line-few : (rows : List ℕ) → 3072 ≤ length rows → (x : Line) → FewOf (lineStep vol s rows x .0)
   unfolding lineStep

@@ -11,12 +11,13 @@ use lib.ListN.{length, take, length-append, length-take}
 use lib.Seq.{take-all, length-take-le, take-append-le}
 use Rattle.le.specs.Choice.{pick}
 use Rattle.le.specs.Part.{zeros}
-use Rattle.words.specs.Lines.{longer, lineOf}
+use Rattle.runs.specs.Split.{longer}
+use Rattle.words.specs.Lines.{lineOf}
 use Rattle.words.proofs.Split.{too-long}
 use Rattle.session.specs.declared.Session.{Session}
 use Rattle.session.specs.Session.{Turn, startOf, allowedOf, lineStep, stepOf}
 use Rattle.lines.specs.Input.{linesOf, keptOf}
-use Rattle.lines.specs.Program.{lineTurn, lineText, printedFrom, printedOf, Held, held, afterLine, Fed, saying, feedOf, lastText, heldFirst}
+use Rattle.lines.specs.Program.{lineTurn, lineText, printedFrom, printedOf, Held, held, afterLine, saying, feedOf, lastText, heldFirst}
 
 -- ---- of a line, 601 bytes are enough
 

@@ -6,7 +6,7 @@ use mathlib.Core.List.{List, [], _∷_, _++_}
 use lib.Dec.{eqb, ltb}
 use lib.ListN.{length, take, drop}
 use Rattle.le.specs.Choice.{pick}
-use Rattle.words.specs.Lines.{longer}
+use Rattle.runs.specs.Split.{longer}
 use Rattle.lines.specs.declared.input.Gathered.{Gathered}
 
 -- the input split at each line feed; what follows the last one is a line too, unless it is empty

@@ -1,6 +1,6 @@
 -- The laws of a sector and of a sector write: all that the layers above use of either. Assumes nothing.
 use mathlib.Core.Path.{_≡_, refl, sym, ap, _∙_}
-use mathlib.Core.List.{List, [], append-nil}
+use mathlib.Core.List.{List, [], _++_, append-nil}
 use mathlib.Core.Logic.{_⊎_, ⊎-elim}
 use Prim.Native.Nat.{ℕ, _+_, _-_, _*_, _<_, _≤_}
 use native.Mathlib.Nat.{zero-add}
@@ -8,13 +8,13 @@ use native.Mathlib.Omega.{arith}
 use lib.ListN.{length, take, drop, length-take, length-drop}
 use lib.Seq.{drop-drop, drop-length}
 use Rattle.le.specs.Part.{part, over}
-use Rattle.le.proofs.Parts.{length-part, length-over, part-over, part-before, part-after, drop-over}
+use Rattle.le.proofs.Parts.{length-part, length-over, part-over, part-before, part-after, drop-over, over-back}
 use Rattle.medium.specs.declared.Error.{Error}
 use Rattle.medium.specs.declared.Medium.{Medium}
 use Rattle.medium.specs.declared.Outcome.{Outcome}
 use Rattle.medium.specs.declared.Outcome.the-variants.{Done, No}
 use Rattle.medium.specs.declared.Written.{Written}
-use Rattle.medium.specs.Refusal.{onDone}
+use Rattle.medium.specs.Refusal.{Answer, ok, refused, onDone, onOk, outcomeOf}
 use Rattle.medium.specs.Sector.{sectorsOf, sectorAt, writeAt, spendOf, writeOf}
 
 pub length-sector : (vol : List ℕ) (k : ℕ) → k < sectorsOf vol → length (sectorAt vol k) ≡ 512
@@ -58,6 +58,12 @@ read-whole vol s k h e =
     let z : drop 512 s ≡ [] = rw e at (drop-length s) in
     rw (n, zero-add, l, z) (append-nil (take 512 (drop (512 * k) vol)))
 
+-- a sector lent as `&mut volume[512 * a..512 * a + 512]`, filled and given back
+pub in-place : (vol bytes : List ℕ) {a k : ℕ} {s : List ℕ} → a ≡ k → s ≡ bytes → length s ≡ 512 * a + 512 - 512 * a
+    → take (512 * a) vol ++ (s ++ drop (512 * a + 512 - 512 * a) (drop (512 * a) vol)) ≡ writeAt vol k bytes
+unfolding writeAt
+in-place vol bytes {a} {k} {s} ea es n = rw (← es, ← ea) (over-back (512 * a) (512 * a + 512) s vol n)
+
 -- a writer in place: `spend` first, then the bytes
 module _ (vol : List ℕ) (m : Medium) (k : ℕ) (bytes : List ℕ) {w : Written} (asked : w ≡ spendOf m) where
   pub write-refused : {e : Error} → w .outcome ≡ No e → (vol ≡ writeOf vol m k bytes .vol) × (w ≡ writeOf vol m k bytes .ans)
@@ -73,3 +79,25 @@ pub onDone-keeps : {A : Type 0} (P : A → Type 0) (o : Outcome) (a : A) (f : Er
 unfolding onDone
 onDone-keeps P Done a f p q = p refl
 onDone-keeps P (No e) a f p q = q e refl
+
+pub onOk-keeps : {A B : Type 0} (P : B → Type 0) (a : Answer A) {g : A → B} {f : ℕ → B} → ((y : A) → P (g y)) → ((n : ℕ) → P (f n)) → P (onOk a g f)
+unfolding onOk
+onOk-keeps P (ok y) p q = p y
+onOk-keeps P (refused n) p q = q n
+
+pub onDone-done : {A : Type 0} {o : Outcome} (a : A) (f : Error → A) → o ≡ Done → onDone o a f ≡ a
+unfolding onDone
+onDone-done a f q = rw q
+
+pub onDone-no : {A : Type 0} {o : Outcome} {e : Error} (a : A) (f : Error → A) → o ≡ No e → onDone o a f ≡ f e
+unfolding onDone
+onDone-no a f q = rw q
+
+-- an outcome is not both
+pub not-done : {A : Type 0} {e : Error} → No e ≡ Done → A
+not-done q = let z : _≡_ {A = ℕ} 0 1 = cc in absurd (let f : ⊥ = omega arith in f)
+
+-- an answer that is ok is that of an outcome that is done
+pub done-told : (o : Outcome) → outcomeOf o ≡ ok tt → o ≡ Done
+done-told Done q = refl
+done-told (No e) q = absurd (let z : _≡_ {A = ℕ} 0 1 = cc in omega arith)

@@ -30,6 +30,11 @@ unfoldable pub onDone : {A : Type 0} → Outcome → A → (Error → A) → A
 onDone Done a f = a
 onDone (No e) a f = f e
 
+-- g of the values where a call is accepted, else f of its number. It stays shut in proofs
+unfoldable pub onOk : {A B : Type 0} → Answer A → (A → B) → (ℕ → B) → B
+onOk (ok a) g f = g a
+onOk (refused n) g f = f n
+
 -- an outcome as 01 has it
 abbrev pub outcomeOf : Outcome → Answer Unit
 outcomeOf Done = ok tt

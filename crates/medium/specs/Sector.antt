@@ -1,5 +1,5 @@
 -- 01, "Volume and medium record". The volume is the list of its bytes. Assumes nothing.
-use Prim.Native.Nat.{ℕ, _-_, _*_, _/_}
+use Prim.Native.Nat.{ℕ, _-_, _*_, _/_, _≤_}
 use mathlib.Core.List.{List}
 use lib.Dec.{eqb}
 use lib.ListN.{length}
@@ -26,6 +26,10 @@ writeAt vol k bytes = over (512 * k) bytes vol
 -- reading the unreadable sector is refused
 unfoldable pub readOf : Medium → ℕ → Outcome
 readOf m k = pick (eqb k (m .unreadable)) (No Media) Done
+
+-- every sector reads
+abbrev pub Readable : List ℕ → Medium → Type 0
+Readable vol m = sectorsOf vol ≤ m .unreadable
 
 -- a write takes one from writes left; at 0 it is refused
 unfoldable pub spendOf : Medium → Written

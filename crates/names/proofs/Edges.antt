@@ -5,7 +5,8 @@ use mathlib.Core.Bool.{true, false}
 use mathlib.Core.List.{List, [], _∷_, _++_}
 use lib.ListN.{replicate}
 use Rattle.le.specs.Choice.{pick}
-use Rattle.names.specs.Names.{plainByte, everyByte, longer, segments, noneEmpty, nameOk, lastByte, allButLast, dirOk}
+use Rattle.runs.specs.Split.{longer, splitAt}
+use Rattle.names.specs.Names.{plainByte, everyByte, noneEmpty, nameOk, lastByte, allButLast, dirOk}
 
 -- n bytes `a`, and the same with `/` after them
 abbrev letters : ℕ → List ℕ
@@ -31,7 +32,7 @@ pub record Edges : Type 0 where
   pub open-dir : dirOk (letters 40) ≡ false
 
 pub edges : Edges
-unfolding pick plainByte everyByte longer segments noneEmpty nameOk lastByte allButLast dirOk
+unfolding pick plainByte everyByte longer splitAt noneEmpty nameOk lastByte allButLast dirOk
 edges =
     record {
       empty-name = refl;

@@ -1,7 +1,7 @@
 -- What others need of names: their length, and that a name is read back where zeros follow it. Assumes nothing.
 use Prim.Native.Nat.{ℕ, zero, suc, _+_, _≤_}
 use mathlib.Core.Path.{_≡_, refl}
-use mathlib.Core.Bool.{Bool, true, false, _&&_, _||_, and-eq-true-iff, false≢true}
+use mathlib.Core.Bool.{Bool, true, false, _&&_, _||_, false≢true}
 use mathlib.Core.List.{List, [], _∷_, _++_}
 use native.Mathlib.Omega.{arith}
 use borrow.Author.Tests.{eqb-true, leb-true}
@@ -9,29 +9,24 @@ use lib.Dec.{eqb, leb}
 use lib.ListN.{length}
 use Rattle.le.specs.Choice.{pick}
 use Rattle.le.specs.Part.{zeros}
-use Rattle.names.specs.Names.{between, isSlash, plainByte, everyByte, segments, noneEmpty, nameOk, lastByte, allButLast, dirOk, textLen}
-
-module _ (a b : Bool) (e : (a && b) ≡ true) where
-  first : a ≡ true
-  first = and-eq-true-iff a b .0 e .0
-
-  second : b ≡ true
-  second = and-eq-true-iff a b .0 e .1
+use Rattle.le.proofs.Bools.{and-true}
+use Rattle.runs.specs.Run.{startsWith}
+use Rattle.names.specs.Names.{between, isSlash, plainByte, everyByte, segments, noneEmpty, nameOk, lastByte, allButLast, dirOk, inDir, textLen}
 
 module _ (l : List ℕ) (ok : nameOk l ≡ true) where
   name-length : between 1 40 (length l) ≡ true
   unfolding nameOk
-  name-length = first (between 1 40 (length l)) (everyByte l && noneEmpty (segments l)) ok
+  name-length = and-true (between 1 40 (length l)) (everyByte l && noneEmpty (segments l)) ok .0
 
   pub name-some : 1 ≤ length l
-  name-some = leb-true 1 (length l) (first (leb 1 (length l)) (leb (length l) 40) name-length)
+  name-some = leb-true 1 (length l) (and-true (leb 1 (length l)) (leb (length l) 40) name-length .0)
 
   pub name-short : length l ≤ 40
-  name-short = leb-true (length l) 40 (second (leb 1 (length l)) (leb (length l) 40) name-length)
+  name-short = leb-true (length l) 40 (and-true (leb 1 (length l)) (leb (length l) 40) name-length .1)
 
   pub name-every : everyByte l ≡ true
   unfolding nameOk
-  name-every = first (everyByte l) (noneEmpty (segments l)) (second (between 1 40 (length l)) (everyByte l && noneEmpty (segments l)) ok)
+  name-every = and-true (everyByte l) (noneEmpty (segments l)) (and-true (between 1 40 (length l)) (everyByte l && noneEmpty (segments l)) ok .1) .0
 
 pub dir-short : (l : List ℕ) → dirOk l ≡ true → length l ≤ 40
 unfolding dirOk
@@ -41,7 +36,7 @@ dir-short l ok = go (eqb (length l) 0) refl
     go true e = let z : length l ≡ 0 = eqb-true (length l) 0 e in omega arith
     go false e =
         let k : (isSlash (lastByte l) && (nameOk (allButLast l) && leb (length l) 40)) ≡ true = rw e at ok in
-        leb-true (length l) 40 (second (nameOk (allButLast l)) (leb (length l) 40) (second (isSlash (lastByte l)) (nameOk (allButLast l) && leb (length l) 40) k))
+        leb-true (length l) 40 (and-true (nameOk (allButLast l)) (leb (length l) 40) (and-true (isSlash (lastByte l)) (nameOk (allButLast l) && leb (length l) 40) k .1) .1)
 
 pub text-short : (l : List ℕ) → textLen l ≤ length l
 unfolding textLen pick
@@ -65,7 +60,8 @@ every-text : (l rest : List ℕ) → everyByte l ≡ true → textLen rest ≡ 0
 unfolding everyByte textLen pick
 every-text [] rest h e = e
 every-text (b ∷ bs) rest h e =
-    rw (not-zero b (first (plainByte b || isSlash b) (everyByte bs) h), every-text bs rest (second (plainByte b || isSlash b) (everyByte bs) h) e) (omega arith)
+    let p = and-true (plainByte b || isSlash b) (everyByte bs) h in
+    rw (not-zero b (p .0), every-text bs rest (p .1) e) (omega arith)
 
 text-zeros : (n : ℕ) → textLen (zeros n) ≡ 0
 unfolding zeros textLen pick
@@ -79,3 +75,8 @@ module _ (l : List ℕ) (ok : nameOk l ≡ true) where
 
   pub name-padded : (n : ℕ) → textLen (l ++ zeros n) ≡ length l
   name-padded n = name-text (zeros n) (text-zeros n)
+
+-- every name is in the root
+pub in-root : (name : List ℕ) → inDir [] name ≡ true
+unfolding startsWith
+in-root name = refl

@@ -5,12 +5,11 @@ use mathlib.Core.Bool.{Bool, true, false, not, _&&_, _||_, and-true, and-false}
 use mathlib.Core.List.{List, [], _∷_}
 use native.Mathlib.Omega.{arith}
 use borrow.Author.Tests.{eqb-true, eq-eqb, ne-eqb, le-leb, lt-leb}
-use lib.Dec.{eqb}
 use lib.ListN.{length, getD, take, drop}
 use Rattle.le.specs.Choice.{pick}
 use Rattle.le.proofs.Turns.{drop-one, drop-end}
-use Rattle.runs.specs.Run.{startsWith}
-use Rattle.names.specs.Names.{isSlash, plainByte, everyByte, longer, segments, noneEmpty, nameOk, lastByte, allButLast, dirOk, textLen}
+use Rattle.runs.specs.Split.{longer, splitAt}
+use Rattle.names.specs.Names.{isSlash, plainByte, everyByte, segments, noneEmpty, nameOk, lastByte, allButLast, dirOk, textLen}
 
 -- the byte may stand here; `fresh`: a segment starts here
 abbrev pub fine : Bool → ℕ → Bool
@@ -45,14 +44,14 @@ slash-not-plain b e = rw (eqb-true b 47 e)
 -- what the pass makes of one byte more, from what it makes of the rest
 module _ (b : ℕ) (bs : List ℕ) (rest : (fresh : Bool) → scan fresh bs ≡ (everyByte bs && noneEmpty (left fresh (segments bs)))) where
   scan-byte : (fresh s p : Bool) → isSlash b ≡ s → plainByte b ≡ p → scan fresh (b ∷ bs) ≡ (everyByte (b ∷ bs) && noneEmpty (left fresh (segments (b ∷ bs))))
-  unfolding scan everyByte segments noneEmpty pick
+  unfolding scan everyByte splitAt noneEmpty pick
   scan-byte true true p e q = rw (slash-not-plain b e, e) (sym (and-false (everyByte bs)))
   scan-byte false true p e q = rw (slash-not-plain b e, e) (rest true)
   scan-byte fresh false true e q = rw (e, q, left-longer fresh b (segments bs)) (rest false)
   scan-byte fresh false false e q = rw (e, q)
 
 scan-left : (l : List ℕ) (fresh : Bool) → scan fresh l ≡ (everyByte l && noneEmpty (left fresh (segments l)))
-unfolding scan everyByte segments noneEmpty
+unfolding scan everyByte splitAt noneEmpty
 scan-left [] true = refl
 scan-left [] false = refl
 scan-left (b ∷ bs) fresh = scan-byte b bs (scan-left bs) fresh (isSlash b) (plainByte b) refl refl
@@ -99,13 +98,6 @@ module _ (l : List ℕ) (some : length l ≡ 0 → ⊥) where
   pub dir-name : length l ≤ 40 → getD l (length l - 1) 0 ≡ 47 → dirOk l ≡ nameOk (take (length l - 1) l)
   unfolding dirOk lastByte allButLast
   dir-name h e = rw (ne-eqb (length l) 0 some, eq-eqb (getD l (length l - 1) 0) 47 e, le-leb (length l) 40 h) (and-true (nameOk (take (length l - 1) l)))
-
--- a list does not begin with a longer one
-pub starts-long : (w l : List ℕ) → length l < length w → startsWith w l ≡ false
-unfolding startsWith
-starts-long [] l h = absurd (omega arith)
-starts-long (x ∷ xs) [] h = refl
-starts-long (x ∷ xs) (y ∷ ys) h = rw (starts-long xs ys (omega arith)) (and-false (eqb y x))
 
 -- ---- the bytes before the first zero
 

@@ -6,6 +6,7 @@ use lib.Dec.{eqb, leb}
 use lib.ListN.{length, getD, take}
 use Rattle.le.specs.Choice.{pick}
 use Rattle.runs.specs.Run.{startsWith}
+use Rattle.runs.specs.Split.{splitAt}
 
 -- a number from low to high
 abbrev pub between : ℕ → ℕ → ℕ → Bool
@@ -24,15 +25,9 @@ unfoldable pub everyByte : List ℕ → Bool
 everyByte [] = true
 everyByte (b ∷ bs) = (plainByte b || isSlash b) && everyByte bs
 
--- a byte put before the first segment
-unfoldable pub longer : ℕ → List (List ℕ) → List (List ℕ)
-longer b [] = (b ∷ []) ∷ []
-longer b (s ∷ ss) = (b ∷ s) ∷ ss
-
--- the list split at each `/`: one segment more than there are slashes
-unfoldable pub segments : List ℕ → List (List ℕ)
-segments [] = [] ∷ []
-segments (b ∷ bs) = pick (isSlash b) ([] ∷ segments bs) (longer b (segments bs))
+-- the list split at each `/`
+abbrev pub segments : List ℕ → List (List ℕ)
+segments l = splitAt 47 l
 
 -- no segment is empty
 unfoldable pub noneEmpty : List (List ℕ) → Bool

@@ -1,25 +1,24 @@
--- What writing a body keeps, whatever the writes left: the volume's length, the medium record but for writes left, and the header's numbers. Assumes
--- nothing.
+-- What writing a body keeps, whatever the writes left: every sector but its own, the medium record but for writes left, and the header's numbers.
+-- Assumes nothing.
 use mathlib.Core.Path.{_≡_, refl, ap, _∙_}
 use mathlib.Core.List.{List}
 use Prim.Native.Nat.{ℕ, zero, suc, _+_, _*_, _%_, _≤_, _<_}
-use native.Mathlib.Nat.{le-refl, le-trans}
 use native.Mathlib.Omega.{arith}
-use lib.Dec.{eqb, leb, lit≤}
+use lib.Dec.{eqb, leb}
 use lib.ListN.{length, length-set}
 use Rattle.le.specs.Part.{zeros}
 use Rattle.le.proofs.Choices.{pick-keeps}
 use Rattle.le.proofs.Parts.{length-over, length-zeros}
-use Rattle.medium.specs.declared.Error.{Error}
 use Rattle.medium.specs.declared.Medium.{Medium}
-use Rattle.medium.specs.declared.Outcome.the-variants.{Done, No}
-use Rattle.medium.specs.declared.Written.{Written}
-use Rattle.medium.specs.Sector.{sectorsOf, sectorAt, spendOf, writeOf}
-use Rattle.medium.proofs.Laws.{length-sector, length-write, onDone-keeps}
+use Rattle.medium.specs.Sector.{sectorsOf, sectorAt}
+use Rattle.medium.proofs.Laws.{length-sector, onDone-keeps}
+use Rattle.medium.specs.Frame.{Kept, Spends}
+use Rattle.medium.proofs.Frame.{kept-none, kept-more, kept-wide, spends-none, spends-more, write-spends, write-kept}
 use Rattle.handles.specs.declared.Header.{Header}
 use Rattle.handles.specs.Body.{bodyAt}
 use Rattle.handles.specs.Handles.{baseOf}
-use Rattle.header.proofs.Ways.{listing}
+use Rattle.handles.proofs.Laws.{base-most}
+use Rattle.header.specs.Header.{withCrcs}
 use Rattle.directory.specs.Entry.{entryBytes}
 use Rattle.directory.proofs.Entries.{length-entry}
 use Rattle.table.specs.declared.Link.{Link}
@@ -29,38 +28,7 @@ use Rattle.table.proofs.Numbers.{length-link}
 use Rattle.plan.specs.declared.Edit.{Edit}
 use Rattle.plan.specs.declared.Edit.the-variants.{Format, Create, Extend, Remove}
 use Rattle.plan.specs.Edit.{entryPut, linkPut, slotCleared, editOf}
-use Rattle.plan.specs.Copy.{Plan, Move, unread, held, put, bad, dueBytes, dueMove, moveOf, StepOut, actOf, stepOf, bodyFrom}
-
--- ---- the medium record, of which writes take only from writes left
-
-pub record Spends (m after : Medium) : Type 0 where
-  pub left : after .left ≤ m .left
-  pub unreadable : after .unreadable ≡ m .unreadable
-  pub entropy : after .entropy ≡ m .entropy
-  pub token : after .token ≡ m .token
-
-pub spends-none : (m : Medium) → Spends m m
-spends-none m = record { left = le-refl (m .left); unreadable = refl; entropy = refl; token = refl }
-
-pub spends-more : {m a b : Medium} → Spends m a → Spends a b → Spends m b
-spends-more p q =
-    record {
-      left = le-trans (q .left) (p .left);
-      unreadable = q .unreadable ∙ p .unreadable;
-      entropy = q .entropy ∙ p .entropy;
-      token = q .token ∙ p .token;
-    }
-
-pub write-spends : (vol : List ℕ) (m : Medium) (k : ℕ) (bytes : List ℕ) → Spends m (writeOf vol m k bytes .ans .medium)
-unfolding writeOf spendOf
-write-spends vol m k bytes =
-    pick-keeps (λ (w : Written). Spends m (w .medium)) (eqb (m .left) 0) _ _
-    (spends-none m)
-    (record { left = omega arith; unreadable = refl; entropy = refl; token = refl })
-
-pub write-length : (vol : List ℕ) (m : Medium) (k : ℕ) (bytes : List ℕ) → length bytes ≡ 512 → k < sectorsOf vol → length (writeOf vol m k bytes .vol) ≡ length vol
-unfolding writeOf
-write-length vol m k bytes n f = onDone-keeps (λ (v : List ℕ). length v ≡ length vol) (spendOf m .outcome) _ _ (λ _. length-write vol k bytes n f) (λ _ _. refl)
+use Rattle.plan.specs.Copy.{Plan, Move, unread, matched, put, bad, dueBytes, dueMove, moveOf, BodyOut, actOf, bodySectorOf, bodyFrom}
 
 -- ---- an edited sector is a sector
 
@@ -86,10 +54,6 @@ edit-whole (Extend slot position next last partial records) name k s short n =
     pick-keeps Whole partial _ _ (link-whole k last _ _ linked) linked
 edit-whole (Remove slot) name k s short n = pick-keeps Whole (leb 8 k) _ _ (length-cleared slot s n) (entry-whole k slot (zeros 64) s (length-zeros 64) n)
 
-pub base-most : (copy : ℕ) → baseOf copy ≤ 32
-unfolding baseOf
-base-most copy = pick-keeps (λ (b : ℕ). b ≤ 32) (eqb copy 0) 0 32 (lit≤ tt) (lit≤ tt)
-
 -- ---- a step, and the body
 
 -- a plan on a volume that has both copies' sectors
@@ -111,7 +75,7 @@ due-whole p vol k r l =
 -- what a move writes is a sector
 abbrev pub Fills : Move → Type 0
 Fills unread = Unit
-Fills (held c) = Unit
+Fills (matched c) = Unit
 Fills (put c bytes) = Whole bytes
 Fills (bad e) = Unit
 
@@ -122,46 +86,47 @@ move-fills p vol m k r l =
     (pick-keeps Fills _ _ _ tt
     (onDone-keeps Fills _ _ _ (λ _. pick-keeps Fills _ _ _ tt (due-whole p vol k r l)) (λ _ _. tt)))
 
-pub record Stays (vol : List ℕ) (m : Medium) (h : Header) (o : StepOut) : Type 0 where
-  pub size : length (o .vol) ≡ length vol
+-- what n body sectors from k on leave, however they end: of the volume all but their own places, of the medium record all but writes left, and of the
+-- header all but checksums
+pub record Stays (p : Plan) (k n : ℕ) (vol : List ℕ) (m : Medium) (h : Header) (o : BodyOut) : Type 0 where
+  pub frame : Kept (baseOf (p .copy) + 1 + k) n vol (o .vol)
   pub medium : Spends m (o .ans .medium)
-  pub numbers : o .ans .head ≡ listing h (o .ans .head .crcs)
+  pub numbers : o .ans .head ≡ withCrcs h (o .ans .head .crcs)
   pub count : length (o .ans .head .crcs) ≡ length (h .crcs)
 
-act-stays : (p : Plan) (move : Move) (vol : List ℕ) (m : Medium) (h : Header) (k : ℕ) → Fills move → 64 ≤ sectorsOf vol → k < 24 → Stays vol m h (actOf p move vol m h k)
+act-stays : (p : Plan) (move : Move) (vol : List ℕ) (m : Medium) (h : Header) (k : ℕ) → Fills move → 64 ≤ sectorsOf vol → k < 24 → Stays p k 1 vol m h (actOf p move vol m h k)
 unfolding actOf
-act-stays p unread vol m h k w e l = record { size = refl; medium = spends-none m; numbers = refl; count = refl }
-act-stays p (held c) vol m h k w e l = record { size = refl; medium = spends-none m; numbers = refl; count = length-set (h .crcs) k c }
-act-stays p (bad r) vol m h k w e l = record { size = refl; medium = spends-none m; numbers = refl; count = refl }
+act-stays p unread vol m h k w e l = record { frame = kept-none _ 1 vol; medium = spends-none m; numbers = refl; count = refl }
+act-stays p (matched c) vol m h k w e l = record { frame = kept-none _ 1 vol; medium = spends-none m; numbers = refl; count = length-set (h .crcs) k c }
+act-stays p (bad r) vol m h k w e l = record { frame = kept-none _ 1 vol; medium = spends-none m; numbers = refl; count = refl }
 act-stays p (put c bytes) vol m h k w e l =
     let at : ℕ = baseOf (p .copy) + 1 + k in
     let f : at < sectorsOf vol = omega (arith, base-most (p .copy)) in
-    record { size = write-length vol m at bytes w f; medium = write-spends vol m at bytes; numbers = refl; count = length-set (h .crcs) k c }
+    record { frame = write-kept vol m at bytes w f; medium = write-spends vol m at bytes; numbers = refl; count = length-set (h .crcs) k c }
 
-pub step-stays : (p : Plan) (vol : List ℕ) (m : Medium) (h : Header) (k : ℕ) → Ready p vol → k < 24 → Stays vol m h (stepOf p vol m h k)
-unfolding stepOf
-step-stays p vol m h k r l = act-stays p (moveOf p vol m k) vol m h k (move-fills p vol m k r l) (r .enough) l
+pub sector-stays : (p : Plan) (vol : List ℕ) (m : Medium) (h : Header) (k : ℕ) → Ready p vol → k < 24 → Stays p k 1 vol m h (bodySectorOf p vol m h k)
+unfolding bodySectorOf
+sector-stays p vol m h k r l = act-stays p (moveOf p vol m k) vol m h k (move-fills p vol m k r l) (r .enough) l
 
-stays-more : {vol : List ℕ} {m : Medium} {h : Header} (s o : StepOut) → Stays vol m h s → Stays (s .vol) (s .ans .medium) (s .ans .head) o → Stays vol m h o
-stays-more s o p q =
+pub stays-wide : {p : Plan} {k n : ℕ} {vol : List ℕ} {m : Medium} {h : Header} {s : BodyOut} → Stays p k 1 vol m h s → Stays p k (suc n) vol m h s
+stays-wide q = record { frame = kept-wide (omega arith) (omega arith) (q .frame); medium = q .medium; numbers = q .numbers; count = q .count }
+
+pub stays-more : {p : Plan} {k n : ℕ} {vol : List ℕ} {m : Medium} {h : Header} (s o : BodyOut) → Stays p k 1 vol m h s → Stays p (k + 1) n (s .vol) (s .ans .medium) (s .ans .head) o
+    → Stays p k (suc n) vol m h o
+stays-more s o a b =
     record {
-      size = q .size ∙ p .size;
-      medium = spends-more (p .medium) (q .medium);
-      numbers = q .numbers ∙ ap (λ (x : Header). listing x (o .ans .head .crcs)) (p .numbers);
-      count = q .count ∙ p .count;
+      frame = kept-more (stays-wide a .frame) (kept-wide (omega arith) (omega arith) (b .frame));
+      medium = spends-more (a .medium) (b .medium);
+      numbers = b .numbers ∙ ap (λ (x : Header). withCrcs x (o .ans .head .crcs)) (a .numbers);
+      count = b .count ∙ a .count;
     }
 
-pub body-stays : (p : Plan) (n k : ℕ) (vol : List ℕ) (m : Medium) (h : Header) → Ready p vol → k + n ≤ 24 → Stays vol m h (bodyFrom p n k vol m h)
+pub body-stays : (p : Plan) (n k : ℕ) (vol : List ℕ) (m : Medium) (h : Header) → Ready p vol → k + n ≤ 24 → Stays p k n vol m h (bodyFrom p n k vol m h)
 unfolding bodyFrom
-body-stays p zero k vol m h r l = record { size = refl; medium = spends-none m; numbers = refl; count = refl }
+body-stays p zero k vol m h r l = record { frame = kept-none _ 0 vol; medium = spends-none m; numbers = refl; count = refl }
 body-stays p (suc n) k vol m h r l =
-    let s : StepOut = stepOf p vol m h k in
-    let one : Stays vol m h s = step-stays p vol m h k r (omega arith) in
-    onDone-keeps (Stays vol m h) (s .ans .outcome) _ _
-    (λ _. stays-more s _ one (body-stays p n (k + 1) (s .vol) (s .ans .medium) (s .ans .head) (ready-still p vol (s .vol) (one .size) r) (omega arith)))
-    (λ _ _. one)
-
--- ---- an outcome is not both
-
-pub not-done : {A : Type 0} {e : Error} → No e ≡ Done → A
-not-done q = let z : _≡_ {A = ℕ} 0 1 = cc in absurd (let f : ⊥ = omega arith in f)
+    let s : BodyOut = bodySectorOf p vol m h k in
+    let one : Stays p k 1 vol m h s = sector-stays p vol m h k r (omega arith) in
+    onDone-keeps (Stays p k (suc n) vol m h) (s .ans .outcome) _ _
+    (λ _. stays-more s _ one (body-stays p n (k + 1) (s .vol) (s .ans .medium) (s .ans .head) (ready-still p vol (s .vol) (one .frame .size) r) (omega arith)))
+    (λ _ _. stays-wide one)

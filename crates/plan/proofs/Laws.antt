@@ -1,18 +1,16 @@
 -- Edits: what one that fits tells, by its case; a sector written whole, and an entry in its place. Assumes nothing.
-use mathlib.Core.Path.{_≡_, refl, sym, ap, _∙_}
+use mathlib.Core.Path.{_≡_, sym, _∙_}
 use mathlib.Core.Bool.{Bool}
-use mathlib.Core.List.{List, [], _++_, append-nil}
-use Prim.Native.Nat.{ℕ, _+_, _-_, _*_, _/_, _%_, _^_, _≤_, _<_}
-use native.Mathlib.Nat.{zero-add, add-sub-cancel-left}
-use native.Mathlib.Omega.{arith}
+use mathlib.Core.List.{List, _++_}
+use Prim.Native.Nat.{ℕ, _+_, _-_, _*_, _%_, _^_, _≤_, _<_}
+use native.Mathlib.Nat.{add-sub-cancel-left}
 use lib.ListN.{length, take, drop}
-use lib.Seq.{drop-length}
 use Rattle.le.specs.Part.{over, zeros}
-use Rattle.le.proofs.Parts.{length-zeros, over-back}
+use Rattle.le.proofs.Parts.{length-zeros, over-back, over-whole}
 use Rattle.directory.specs.Entry.{entryBytes}
 use Rattle.directory.proofs.Entries.{length-entry}
 use Rattle.plan.specs.declared.Edit.{Edit}
-use Rattle.plan.specs.declared.Edit.the-variants.{Format, Create, Extend, Remove}
+use Rattle.plan.specs.declared.Edit.the-variants.{Create, Extend, Remove}
 use Rattle.plan.specs.Edit.{Fits}
 
 pub create-fits : {e : Edit} {slot id chunk : ℕ} (chunks : ℕ) → e ≡ Create slot id chunk → Fits e chunks → (slot < 64) × (id + 1 < 2 ^ 32) × (chunk < chunks)
@@ -27,11 +25,7 @@ remove-fits chunks q f = rw q at f
 
 -- a sector of zeros written over whole
 pub zeroed : (l : List ℕ) → length l ≡ 512 → over 0 (zeros 512) l ≡ zeros 512
-unfolding over
-zeroed l e =
-    let n : length (zeros 512) ≡ 512 = length-zeros 512 in
-    let z : drop 512 l ≡ [] = rw e at (drop-length l) in
-    rw (n, zero-add, z) (append-nil (zeros 512))
+zeroed l e = over-whole (zeros 512) l (length-zeros 512 ∙ sym e)
 
 -- an entry made in its place of a sector
 pub entry-back : (slot id : ℕ) (name s : List ℕ) {e : List ℕ} → length name ≤ 40 → e ≡ entryBytes name id

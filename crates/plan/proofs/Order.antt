@@ -1,63 +1,22 @@
 -- The order of the writes, and why a stop is harmless: from the first write to the last the header sector of the copy holds the first image, so it is
 -- no copy where that image is none. Assumes nothing.
-use mathlib.Core.Path.{_≡_, refl, sym, ap, _∙_}
+use mathlib.Core.Path.{_≡_, sym, ap, _∙_}
 use mathlib.Core.List.{List}
 use mathlib.Core.Logic.{_⊎_, inl, inr}
-use Prim.Native.Nat.{ℕ, zero, suc, _+_, _≤_, _<_}
+use Prim.Native.Nat.{ℕ, _≤_, _<_}
 use native.Mathlib.Omega.{arith}
 use lib.ListN.{length}
 use Rattle.medium.specs.declared.Error.{Error}
 use Rattle.medium.specs.declared.Medium.{Medium}
 use Rattle.medium.specs.declared.Outcome.the-variants.{Done, No}
-use Rattle.medium.specs.Sector.{sectorsOf, sectorAt, spendOf, WriteOut, writeOf}
-use Rattle.medium.proofs.Laws.{sector-same, sector-other, write-refused, write-done, onDone-keeps}
+use Rattle.medium.specs.Sector.{sectorsOf, sectorAt, WriteOut}
+use Rattle.medium.proofs.Laws.{onDone-keeps, not-done}
+use Rattle.medium.proofs.Frame.{write-none, write-there, write-kept}
 use Rattle.handles.specs.declared.Header.{Header}
 use Rattle.handles.specs.Handles.{bodyOf, baseOf}
-use Rattle.plan.specs.Copy.{Skipped, Plan, Move, unread, held, put, bad, moveOf, StepOut, actOf, stepOf, bodyFrom, Out, lastOf, firstOf, copyOut}
-use Rattle.plan.proofs.Keeps.{Fills, move-fills, base-most, write-length, not-done, Ready, ready-still, Stays, step-stays}
-
--- ---- a sector write
-
-module _ (vol : List ℕ) (m : Medium) (k : ℕ) (bytes : List ℕ) where
-  -- refused it changes nothing
-  pub write-none : {e : Error} → writeOf vol m k bytes .ans .outcome ≡ No e → writeOf vol m k bytes .vol ≡ vol
-  unfolding writeOf
-  write-none q = sym (write-refused vol m k bytes refl q .0)
-
-  module _ (size : length bytes ≡ 512) (inside : k < sectorsOf vol) where
-    -- accepted its bytes are there
-    pub write-there : writeOf vol m k bytes .ans .outcome ≡ Done → sectorAt (writeOf vol m k bytes .vol) k ≡ bytes
-    unfolding writeOf
-    write-there q = ap (λ (v : List ℕ). sectorAt v k) (sym (write-done vol m k bytes refl q refl .0)) ∙ sector-same vol k bytes size inside
-
-    -- and a sector before it is as it was
-    pub write-before : (j : ℕ) → j < k → sectorAt (writeOf vol m k bytes .vol) j ≡ sectorAt vol j
-    unfolding writeOf
-    write-before j l = onDone-keeps (λ (v : List ℕ). sectorAt v j ≡ sectorAt vol j) (spendOf m .outcome) _ _ (λ _. sector-other vol k bytes size inside j (inl l)) (λ e _. refl)
-
--- ---- the body leaves the header sector
-
-abbrev Same : Plan → List ℕ → StepOut → Type 0
-Same p vol o = sectorAt (o .vol) (baseOf (p .copy)) ≡ sectorAt vol (baseOf (p .copy))
-
-act-header : (p : Plan) (move : Move) (vol : List ℕ) (m : Medium) (h : Header) (k : ℕ) → Fills move → 64 ≤ sectorsOf vol → k < 24 → Same p vol (actOf p move vol m h k)
-unfolding actOf
-act-header p unread vol m h k w e l = refl
-act-header p (held c) vol m h k w e l = refl
-act-header p (bad r) vol m h k w e l = refl
-act-header p (put c bytes) vol m h k w e l =
-    write-before vol m (baseOf (p .copy) + 1 + k) bytes w (omega (arith, base-most (p .copy))) (baseOf (p .copy)) (omega arith)
-
-body-header : (p : Plan) (n k : ℕ) (vol : List ℕ) (m : Medium) (h : Header) → Ready p vol → k + n ≤ 24 → Same p vol (bodyFrom p n k vol m h)
-unfolding bodyFrom stepOf
-body-header p zero k vol m h r l = refl
-body-header p (suc n) k vol m h r l =
-    let s : StepOut = stepOf p vol m h k in
-    let one : Same p vol s = act-header p (moveOf p vol m k) vol m h k (move-fills p vol m k r (omega arith)) (r .enough) (omega arith) in
-    let keeps : Stays vol m h s = step-stays p vol m h k r (omega arith) in
-    onDone-keeps (Same p vol) (s .ans .outcome) _ _
-    (λ _. body-header p n (k + 1) (s .vol) (s .ans .medium) (s .ans .head) (ready-still p vol (s .vol) (keeps .size) r) (omega arith) ∙ one)
-    (λ _ _. one)
+use Rattle.plan.specs.Copy.{Skipped, Plan, bodyFrom, Out, lastOf, firstOf, copyOut}
+use Rattle.handles.proofs.Laws.{base-most}
+use Rattle.plan.proofs.Keeps.{Ready, ready-still, body-stays}
 
 -- ---- the law
 
@@ -77,7 +36,7 @@ module _ (p : Plan) (vol : List ℕ) (m : Medium) (r : Ready p vol) (most : p .h
   first-none q = write-none vol m (baseOf (p .copy)) (p .first) q
 
   first-ready : Ready p (firstOf p vol m .vol)
-  first-ready = ready-still p vol (firstOf p vol m .vol) (write-length vol m (baseOf (p .copy)) (p .first) size inside) r
+  first-ready = ready-still p vol (firstOf p vol m .vol) (write-kept vol m (baseOf (p .copy)) (p .first) size inside .size) r
 
   -- the last one, on a volume where the first image is still there
   last-stopped : (skipped : List Skipped) (v : List ℕ) (u : Medium) (h : Header) → sectorAt v (baseOf (p .copy)) ≡ p .first → Stopped p vol (lastOf p skipped v u h)
@@ -90,7 +49,8 @@ module _ (p : Plan) (vol : List ℕ) (m : Medium) (r : Ready p vol) (most : p .h
   unfolding copyOut
   copy-order =
       let z : WriteOut = firstOf p vol m in
-      let body = body-header p (bodyOf (p .head .chunks)) 0 (z .vol) (z .ans .medium) (p .head) first-ready (omega arith) in
+      let body : sectorAt (bodyFrom p (bodyOf (p .head .chunks)) 0 (z .vol) (z .ans .medium) (p .head) .vol) (baseOf (p .copy)) ≡ sectorAt (z .vol) (baseOf (p .copy)) =
+      body-stays p (bodyOf (p .head .chunks)) 0 (z .vol) (z .ans .medium) (p .head) first-ready (omega arith) .frame .same (baseOf (p .copy)) (inl (omega arith)) in
       onDone-keeps (Stopped p vol) (z .ans .outcome) _ _
       (λ d. onDone-keeps (Stopped p vol) _ _ _ (λ _. last-stopped _ _ _ _ (body ∙ first-there d)) (λ e _ _ _. inr (body ∙ first-there d)))
       (λ e d _ _. inl (first-none d))

@@ -1,6 +1,7 @@
 -- 01, "Commit" and "Header" (format): a copy written anew. A commit and a format differ in the first image of the header and in what is decided of
 -- each body sector. Writes left falls inside, so this settles the volume after every stop. Assumes nothing.
 use Prim.Native.Nat.{ℕ, zero, suc, _+_}
+use mathlib.Core.Path.{_≡_}
 use mathlib.Core.Bool.{Bool, true, false, not, _&&_}
 use mathlib.Core.List.{List, [], _∷_}
 use lib.Dec.{eqb}
@@ -17,12 +18,12 @@ use Rattle.handles.specs.declared.Header.{Header}
 use Rattle.handles.specs.declared.Store.{Store}
 use Rattle.handles.specs.Body.{bodyAt, checkOf}
 use Rattle.handles.specs.Handles.{bodyOf, baseOf}
-use Rattle.header.specs.Header.{encodeOf}
+use Rattle.header.specs.Header.{encodeOf, withCrcs}
 use Rattle.plan.specs.declared.Committed.{Committed}
 use Rattle.plan.specs.declared.Edit.{Edit}
 use Rattle.plan.specs.declared.Edit.the-variants.{Format, Create, Extend, Remove}
-use Rattle.plan.specs.declared.Stepped.{Stepped}
-use Rattle.plan.specs.Edit.{changesOf, editOf}
+use Rattle.plan.specs.declared.BodyWritten.{BodyWritten}
+use Rattle.plan.specs.Edit.{changesOf, editedOf}
 
 -- what is settled before the first write: the store value given (none for a format), the copy to write, its header with the checksums still to be
 -- made, the header's first image, the edit with its name, and the checksums that the other header lists, where it is known to be of this store
@@ -34,28 +35,26 @@ pub record Plan : Type 0 where
   pub edit : Edit
   pub name : List ℕ
   pub known : Bool
-  pub held : List ℕ
+  pub listed : List ℕ
 
 -- the decision for a body sector: left unread; left after its checksum, which matched; written with its checksum; refused
 pub data Move : Type 0 where
   unread : Move
-  held : ℕ → Move
+  matched : ℕ → Move
   put : ℕ → List ℕ → Move
   bad : Error → Move
 
 -- the bytes due in body sector k of the copy
 unfoldable pub dueBytes : Plan → List ℕ → ℕ → List ℕ
-dueBytes p vol k =
-    let s : List ℕ = sectorAt vol (bodyAt (p .store) k) in
-    pick (changesOf (p .edit) k) (editOf (p .edit) (p .name) k s) s
+dueBytes p vol k = editedOf (p .edit) (p .name) k (sectorAt vol (bodyAt (p .store) k))
 
 -- the other header lists this checksum for sector k
-unfoldable pub listed : Plan → ℕ → ℕ → Bool
-listed p k c = p .known && eqb (getD (p .held) k 0) c
+unfoldable pub lists : Plan → ℕ → ℕ → Bool
+lists p k c = p .known && eqb (getD (p .listed) k 0) c
 
 -- a sector that was read and passed: the checksum decides, not the bytes
 unfoldable pub dueMove : Plan → ℕ → List ℕ → Move
-dueMove p k bytes = pick (listed p k (crc32Of bytes)) (held (crc32Of bytes)) (put (crc32Of bytes) bytes)
+dueMove p k bytes = pick (lists p k (crc32Of bytes)) (matched (crc32Of bytes)) (put (crc32Of bytes) bytes)
 
 unfoldable pub isFormat : Edit → Bool
 isFormat Format = true
@@ -66,42 +65,34 @@ isFormat (Remove slot) = false
 unfoldable pub moveOf : Plan → List ℕ → Medium → ℕ → Move
 moveOf p vol m k =
     pick (isFormat (p .edit)) (put (crc32Of (zeros 512)) (zeros 512))
-    (pick (not (changesOf (p .edit) k) && listed p k (getD (p .store .head .crcs) k 0)) unread
+    (pick (not (changesOf (p .edit) k) && lists p k (getD (p .store .head .crcs) k 0)) unread
     (onDone (checkOf vol m (p .store) k) (dueMove p k (dueBytes p vol k)) bad))
 
--- what one body sector leaves: the volume, and the answer with the header so far
-pub record StepOut : Type 0 where
+-- what a part of the body leaves: the volume, and the answer with the header so far
+pub record BodyOut : Type 0 where
   pub vol : List ℕ
-  pub ans : Stepped
+  pub ans : BodyWritten
 
 abbrev pub withCrc : Header → ℕ → ℕ → Header
-withCrc h k c =
-    record {
-      id = h .id;
-      generation = h .generation;
-      «next_id» = h .«next_id»;
-      cursor = h .cursor;
-      chunks = h .chunks;
-      chunk = h .chunk;
-      crcs = set (h .crcs) k c;
-    }
+withCrc h k c = withCrcs h (set (h .crcs) k c)
 
-unfoldable pub actOf : Plan → Move → List ℕ → Medium → Header → ℕ → StepOut
+unfoldable pub actOf : Plan → Move → List ℕ → Medium → Header → ℕ → BodyOut
 actOf p unread vol m h k = record { vol = vol; ans = record { outcome = Done; medium = m; head = h } }
-actOf p (held c) vol m h k = record { vol = vol; ans = record { outcome = Done; medium = m; head = withCrc h k c } }
+actOf p (matched c) vol m h k = record { vol = vol; ans = record { outcome = Done; medium = m; head = withCrc h k c } }
 actOf p (bad e) vol m h k = record { vol = vol; ans = record { outcome = No e; medium = m; head = h } }
 actOf p (put c bytes) vol m h k =
     let w : WriteOut = writeOf vol m (baseOf (p .copy) + 1 + k) bytes in
     record { vol = w .vol; ans = record { outcome = w .ans .outcome; medium = w .ans .medium; head = withCrc h k c } }
 
-unfoldable pub stepOf : Plan → List ℕ → Medium → Header → ℕ → StepOut
-stepOf p vol m h k = actOf p (moveOf p vol m k) vol m h k
+-- body sector k
+unfoldable pub bodySectorOf : Plan → List ℕ → Medium → Header → ℕ → BodyOut
+bodySectorOf p vol m h k = actOf p (moveOf p vol m k) vol m h k
 
 -- n body sectors from k on; a refusal keeps the writes made so far
-unfoldable pub bodyFrom : Plan → ℕ → ℕ → List ℕ → Medium → Header → StepOut
+unfoldable pub bodyFrom : Plan → ℕ → ℕ → List ℕ → Medium → Header → BodyOut
 bodyFrom p zero k vol m h = record { vol = vol; ans = record { outcome = Done; medium = m; head = h } }
 bodyFrom p (suc n) k vol m h =
-    let s : StepOut = stepOf p vol m h k in
+    let s : BodyOut = bodySectorOf p vol m h k in
     onDone (s .ans .outcome) (bodyFrom p n (k + 1) (s .vol) (s .ans .medium) (s .ans .head)) (λ e. s)
 
 -- the kinds of steps of 01's book: a commit's last write, or a record's
@@ -118,6 +109,15 @@ pub data Kind : Type 0 where
 pub record Skipped : Type 0 where
   pub held : List ℕ
   pub due : List ℕ
+
+-- held and due are not two sectors of one checksum
+abbrev pub Distinct : Skipped → Type 0
+Distinct s = crc32Of (s .held) ≡ crc32Of (s .due) → s .held ≡ s .due
+
+-- of each of them
+unfoldable pub EachSkipped : (Skipped → Type 0) → List Skipped → Type 0
+EachSkipped P [] = Unit
+EachSkipped P (s ∷ ss) = P s × EachSkipped P ss
 
 -- what writing a copy gives: the volume, the answer and, for the premise of demand 3, the body sectors that it left unwritten
 pub record Out : Type 0 where
@@ -138,23 +138,25 @@ stepsOf kind o = onDone (o .ans .outcome) ((record { kind = kind; skipped = o .s
 abbrev pub refusedOut : Store → List ℕ → Medium → Error → Out
 refusedOut st vol m e = record { vol = vol; ans = record { outcome = No e; medium = m; store = st }; skipped = [] }
 
+-- a move that leaves its sector unwritten
+unfoldable pub leaves : Move → Bool
+leaves unread = true
+leaves (matched c) = true
+leaves (put c bytes) = false
+leaves (bad e) = false
+
 -- body sector k is left unwritten. It is a question to the volume before the commit
-unfoldable pub unwritten : Plan → List ℕ → Medium → ℕ → Bool
-unwritten p vol m k = leaves (moveOf p vol m k)
-  where
-    leaves : Move → Bool
-    leaves unread = true
-    leaves (held c) = true
-    leaves (put c bytes) = false
-    leaves (bad e) = false
+unfoldable pub skips : Plan → List ℕ → Medium → ℕ → Bool
+skips p vol m k = leaves (moveOf p vol m k)
+
+abbrev pub skippedAt : Plan → List ℕ → ℕ → Skipped
+skippedAt p vol k = record { held = sectorAt vol (baseOf (p .copy) + 1 + k); due = dueBytes p vol k }
 
 -- those of n body sectors from k on
 unfoldable pub skippedFrom : Plan → List ℕ → Medium → ℕ → ℕ → List Skipped
 skippedFrom p vol m zero k = []
 skippedFrom p vol m (suc n) k =
-    pick (unwritten p vol m k)
-    ((record { held = sectorAt vol (baseOf (p .copy) + 1 + k); due = dueBytes p vol k }) ∷ skippedFrom p vol m n (k + 1))
-    (skippedFrom p vol m n (k + 1))
+    pick (skips p vol m k) (skippedAt p vol k ∷ skippedFrom p vol m n (k + 1)) (skippedFrom p vol m n (k + 1))
 
 -- the last write makes the copy current: the store is the new one
 unfoldable pub lastOf : Plan → List Skipped → List ℕ → Medium → Header → Out
@@ -176,7 +178,7 @@ firstOf p vol m = writeOf vol m (baseOf (p .copy)) (p .first)
 unfoldable pub copyOut : Plan → List ℕ → Medium → Out
 copyOut p vol m =
     let z : WriteOut = firstOf p vol m in
-    let b : StepOut = bodyFrom p (bodyOf (p .head .chunks)) 0 (z .vol) (z .ans .medium) (p .head) in
+    let b : BodyOut = bodyFrom p (bodyOf (p .head .chunks)) 0 (z .vol) (z .ans .medium) (p .head) in
     onDone (z .ans .outcome)
     (onDone (b .ans .outcome)
     (lastOf p (skippedFrom p vol m (bodyOf (p .head .chunks)) 0) (b .vol) (b .ans .medium) (b .ans .head))

@@ -33,8 +33,12 @@ entryPut k slot bytes s = pick (eqb k (slotSector slot)) (over (64 * (slot % 8))
 unfoldable pub linkPut : ℕ → ℕ → Link → List ℕ → List ℕ
 linkPut k chunk link s = pick (eqb k (linkSector chunk)) (over (4 * (chunk % 128)) (linkBytes link) s) s
 
+-- a new link, and one marked partial with its records
 abbrev pub plainLink : ℕ → ℕ → Link
 plainLink slot position = record { slot = slot; position = position; partial = false; records = 0 }
+
+abbrev pub partialLink : ℕ → ℕ → ℕ → Link
+partialLink slot position records = record { slot = slot; position = position; partial = true; records = records }
 
 -- a slot cleared: its entry, or in a table sector every link of it, whatever else the link holds
 unfoldable pub slotCleared : ℕ → ℕ → List ℕ → List ℕ
@@ -46,8 +50,12 @@ editOf Format name k s = zeros 512
 editOf (Create slot id chunk) name k s = linkPut k chunk (plainLink slot 0) (entryPut k slot (entryBytes name id) s)
 editOf (Extend slot position next last partial records) name k s =
     let linked : List ℕ = linkPut k next (plainLink slot (position + 1)) s in
-    pick partial (linkPut k last (record { slot = slot; position = position; partial = true; records = records }) linked) linked
+    pick partial (linkPut k last (partialLink slot position records) linked) linked
 editOf (Remove slot) name k s = slotCleared k slot s
+
+-- the sector as it is to be: edited where it is among those that change
+abbrev pub editedOf : Edit → List ℕ → ℕ → List ℕ → List ℕ
+editedOf e name k s = pick (changesOf e k) (editOf e name k s) s
 
 -- the numbers of the header after it: the cursor is the chunk after the one taken, going round
 unfoldable pub nextAfter : Edit → Header → ℕ

@@ -10,7 +10,7 @@ ghost use lib.ListN.{length};
 ghost use Rattle.le.specs.Choice.{pick};
 ghost use Rattle.le.specs.Part.{zeros};
 ghost use Rattle.directory.specs.Entry.{entryBytes};
-ghost use Rattle.plan.specs.Edit.{Fits, changesOf, entryPut, linkPut, slotCleared, editOf, nextAfter, cursorAfter, headAfter};
+ghost use Rattle.plan.specs.Edit.{Fits, changesOf, entryPut, linkPut, plainLink, partialLink, slotCleared, editOf, nextAfter, cursorAfter, headAfter};
 
 // A new store; a file's entry and its first link; a file's next link, and where `partial` the mark of its last chunk with its records; a file
 // removed, with every link of its slot.
@@ -34,8 +34,8 @@ pub enum Edit {
     },
 }
 
-// One body sector written, or left: the header so far.
-pub struct Stepped {
+// Body sectors written, or left: the header so far.
+pub struct BodyWritten {
     pub outcome: Outcome,
     pub medium: Medium,
     pub head: Header,
@@ -91,6 +91,28 @@ fn clear_file(k: usize, slot: usize, sector: &mut [u8])
     runs::put_zeros(sector, 64 * (slot % 8), 64);
 }
 
+fn plain_link(slot: usize, position: u32) -> Link
+    ensures { λ r. ⌜ r ≡ plainLink slot position ⌝ }
+{
+    Link {
+        slot,
+        position,
+        partial: false,
+        records: 0,
+    }
+}
+
+fn partial_link(slot: usize, position: u32, records: u32) -> Link
+    ensures { λ r. ⌜ r ≡ partialLink slot position records ⌝ }
+{
+    Link {
+        slot,
+        position,
+        partial: true,
+        records,
+    }
+}
+
 // The link of a chunk, where sector `k` has it.
 fn put_link(k: usize, chunk: u32, link: Link, sector: &mut [u8])
     requires { ⌜ (length (now sector) ≡ 512) × (link .slot < 64) × (link .position < 32768) × (link .records < 512) ⌝ }
@@ -135,13 +157,7 @@ fn apply(edit: Edit, name: &[u8], k: usize, chunks: u32, sector: &mut [u8])
         }
         Edit::Create { slot, id, chunk } => {
             put_file(k, slot, name, id, sector);
-            let link = Link {
-                slot,
-                position: 0,
-                partial: false,
-                records: 0,
-            };
-            put_link(k, chunk, link, sector);
+            put_link(k, chunk, plain_link(slot, 0), sector);
         }
         Edit::Extend {
             slot,
@@ -151,19 +167,8 @@ fn apply(edit: Edit, name: &[u8], k: usize, chunks: u32, sector: &mut [u8])
             partial,
             records,
         } => {
-            let link = Link {
-                slot,
-                position: position + 1,
-                partial: false,
-                records: 0,
-            };
-            put_link(k, next, link, sector);
-            let old = Link {
-                slot,
-                position,
-                partial: true,
-                records,
-            };
+            put_link(k, next, plain_link(slot, position + 1), sector);
+            let old = partial_link(slot, position, records);
             mark(partial, k, last, old, sector);
         }
         Edit::Remove { slot } => {

@@ -11,6 +11,7 @@ use lib.ListN.{length, set, take, length-set}
 use lib.Seq.{take-suc-set}
 use Rattle.le.specs.Part.{part}
 use Rattle.le.proofs.Choices.{pick-keeps, pick-keeps-by, pick-true, pick-false}
+use Rattle.le.proofs.Bools.{and-true}
 use Rattle.medium.specs.declared.Error.{Error}
 use Rattle.medium.specs.declared.Medium.{Medium}
 use Rattle.medium.specs.declared.Outcome.{Outcome}
@@ -21,7 +22,7 @@ use Rattle.handles.specs.declared.Store.{Store}
 use Rattle.handles.specs.declared.Writer.{Writer}
 use Rattle.handles.specs.declared.Writer.the-variants.{Nobody, Open}
 use Rattle.handles.specs.Handles.{storeOk}
-use Rattle.handles.proofs.Laws.{and-true}
+use Rattle.plan.specs.Copy.{Distinct}
 use Rattle.remove.proofs.Keeps.{Good}
 use Rattle.append.specs.declared.Appender.{Appender}
 use Rattle.append.specs.Appender.{isClosed, appenderOk, writes, live, Fit}
@@ -33,7 +34,7 @@ use Rattle.safe.proofs.Frame.{clash}
 use Rattle.layout.specs.Segments.{Segment}
 use Rattle.power.specs.Calls.{append, sync}
 use Rattle.power.specs.Book.{Book, Terms, termsOf, enteredAll, beforeSteps, afterSteps, written}
-use Rattle.power.specs.History.{World, ran, fedBy, openOf, withLeft, EachStep, Distinct}
+use Rattle.power.specs.History.{World, ranAppend, ran, fedBy, openOf, withLeft, EachStep}
 use Rattle.power.proofs.Whole.{Whole, Stands, Writes, Owns, Keeps}
 use Rattle.power.proofs.Standing.{stands-passes, stands-fits}
 use Rattle.power.proofs.Flows.{bookAfter, Live, Kept, KeptIf, kept-done, kept-then}
@@ -243,8 +244,7 @@ module _ (w : World) (b : Book) (k : Keeps w b) (left : ℕ) (c : Book) (rest : 
         }
 
   abbrev Stood : AppCall → Type 0
-  Stood y =
-      EachStep Distinct (y .steps) → Keeps (record { vol = y .vol; store = y .store; appender = y .appender; medium = y .medium }) (bookAfter terms (y .steps) c)
+  Stood y = EachStep Distinct (y .steps) → Keeps (ranAppend y .world) (bookAfter terms (y .steps) c)
 
   -- the work, or nothing
   offered-stood : (o : AppOut) → (mayWrite (w .vol) (w .store) (w .appender) ≡ Done → EachStep Distinct (o .steps) → Keeps (worldOf o) (bookAfter terms (o .steps) c))

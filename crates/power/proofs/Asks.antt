@@ -10,13 +10,13 @@ use Rattle.le.specs.Choice.{pick}
 use Rattle.le.specs.Part.{part, zeros}
 use Rattle.le.proofs.Choices.{pick-keeps-by, pick-true}
 use Rattle.le.proofs.Parts.{length-zeros, part-over}
+use Rattle.le.proofs.Bools.{and-true}
 use Rattle.medium.specs.declared.Outcome.{Outcome}
 use Rattle.medium.specs.declared.Outcome.the-variants.{Done}
 use Rattle.names.specs.Names.{nameOk, dirOk}
 use Rattle.names.proofs.Laws.{dir-short}
 use Rattle.files.specs.declared.Rollover.{Rollover}
 use Rattle.handles.specs.declared.Store.{Store}
-use Rattle.handles.proofs.Laws.{and-true}
 use Rattle.append.specs.Appender.{dirBytes}
 use Rattle.append.specs.declared.Dir.{Dir}
 use Rattle.store.specs.Asked.{askedOf}

@@ -17,27 +17,28 @@ use Rattle.medium.specs.Refusal.{onDone, outcomeOf}
 use Rattle.medium.proofs.Laws.{onDone-keeps}
 use Rattle.handles.specs.declared.Store.{Store}
 use Rattle.directory.specs.declared.Seen.{Seen}
+use Rattle.directory.specs.Scan.{onLooked}
 use Rattle.table.specs.declared.Pick.{Pick}
 use Rattle.table.specs.declared.Pick.the-variants as free
-use Rattle.table.specs.Table.{freeOf}
+use Rattle.table.specs.Table.{freeOf, onPick}
 use Rattle.plan.specs.declared.Edit.the-variants.{Create}
-use Rattle.plan.specs.Copy.{Kind, created, rolledOver, Skipped, Out, stepsOf}
+use Rattle.plan.specs.Copy.{Kind, created, rolledOver, Skipped, Out, stepsOf, EachSkipped, Distinct}
 use Rattle.commit.specs.Commit.{commitOf}
 use Rattle.remove.specs.Remove.{GoneOut, removeOldestOf}
 use Rattle.append.specs.declared.Tail.the-variants.{At}
 use Rattle.append.specs.Appender.{dirBytes}
-use Rattle.append.specs.Flush.{AppOut, after, onPick}
+use Rattle.append.specs.Flush.{AppOut, after, rolling}
 use Rattle.append.specs.Calls.{callOf}
 use Rattle.files.specs.declared.Rollover.{Rollover}
 use Rattle.files.specs.Opened.{refusedAt, nextToken, withToken, writtenBy, newAppender, openedOut}
-use Rattle.files.specs.Create.{Next, makeOut, rolling, overOut, onLooked, roundOut, createFrom}
+use Rattle.files.specs.Create.{Next, makeOut, overOut, roundOut, createFrom}
 use Rattle.store.specs.Opening.{rolloverOf, opening, createCall}
 use Rattle.layout.specs.Views.{vacant}
 use Rattle.folds.proofs.Named.{Look, look-view}
 use Rattle.folds.proofs.Chunks.{free-chunk}
 use Rattle.power.specs.Calls.{create}
 use Rattle.power.specs.Book.{Terms, ifSet, Book, openedFor, entered, enteredAll, termsOf, beforeSteps, afterSteps, written}
-use Rattle.power.specs.History.{World, isOk, ifOk, withLeft, ranCreate, ran, fedBy, EachSkipped, EachStep, Distinct}
+use Rattle.power.specs.History.{World, isOk, ifOk, withLeft, ranCreate, ran, fedBy, EachStep}
 use Rattle.power.proofs.Whole.{Keeps}
 use Rattle.power.proofs.Checks.{inv-checked}
 use Rattle.power.proofs.Unmade.{Unmade, unmade-keeps}

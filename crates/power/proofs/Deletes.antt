@@ -6,21 +6,24 @@ use mathlib.Core.Option.{some}
 use mathlib.Core.List.{List, [], map}
 use Rattle.le.specs.Choice.{pick}
 use Rattle.le.proofs.Choices.{pick-keeps, pick-keeps-by}
+use Rattle.medium.specs.declared.Error.{Error}
 use Rattle.medium.specs.declared.Medium.{Medium}
 use Rattle.medium.specs.declared.Outcome.{Outcome}
 use Rattle.medium.specs.declared.Outcome.the-variants.{Done, No}
+use Rattle.medium.specs.Refusal.{onDone}
 use Rattle.medium.proofs.Laws.{onDone-keeps}
 use Rattle.handles.specs.declared.Store.{Store}
-use Rattle.directory.specs.declared.Found.{Found}
+use Rattle.handles.specs.Handles.{isOpen, openId}
 use Rattle.directory.specs.declared.Found.the-variants as found
 use Rattle.directory.specs.Scan.{findOf}
-use Rattle.plan.specs.Copy.{Step, Out, stepsOf}
-use Rattle.remove.specs.Remove.{removeOf, GoneOut, removeOldestOf, isOpen, openId}
-use Rattle.store.specs.Writing.{WriteCall, onNamed, deleteCall, OldestCall, oldestTold, oldestCall}
+use Rattle.directory.proofs.Decides.{onFound-keeps}
+use Rattle.plan.specs.Copy.{Step, Out, stepsOf, deleted, refusedOut, Distinct}
+use Rattle.remove.specs.Remove.{removeOf, GoneOut, removeOldestOf, noneOut}
+use Rattle.store.specs.Writing.{WriteCall, deleteCall, OldestCall, oldestTold, oldestCall}
 use Rattle.folds.proofs.Named.{find-view}
 use Rattle.power.specs.Calls.{delete, deleteOldest}
 use Rattle.power.specs.Book.{Terms, Book, entered, enteredAll, termsOf, beforeSteps, afterSteps, written}
-use Rattle.power.specs.History.{World, withLeft, ran, fedBy, openOf, EachStep, Distinct}
+use Rattle.power.specs.History.{World, withLeft, ran, fedBy, openOf, EachStep}
 use Rattle.power.proofs.Whole.{Keeps}
 use Rattle.power.proofs.Picks.{without-name}
 use Rattle.power.proofs.Unmade.{unmade-keeps}
@@ -46,13 +49,16 @@ module _ (w : World) (b : Book) (k : Keeps w b) (left : ℕ) where
   -- ---- delete
 
   module _ (t : Terms) where
-    abbrev StoodAs : WriteCall → Type 0
-    StoodAs c = Stood t (leftBy w (c .vol) (c .call .medium) (c .call .store)) (c .steps)
+    abbrev StoodAs : Out → Type 0
+    StoodAs o = Stood t (leftBy w (o .vol) (o .ans .medium) (o .ans .store)) (stepsOf deleted o)
 
-    named-stood : (f : Found) → findOf (w .vol) m (w .store) (t .name) ≡ f → StoodAs (onNamed (w .vol) m (w .store) f)
-    unfolding onNamed stepsOf EachStep enteredAll entered
-    named-stood (found.Refused e) q = λ h. same-keeps
-    named-stood (found.At slot id) q =
+    refused-stood : (e : Error) → StoodAs (refusedOut (w .store) (w .vol) m e)
+    unfolding stepsOf onDone enteredAll
+    refused-stood e h = same-keeps
+
+    named-stood : (slot id : ℕ) → findOf (w .vol) m (w .store) (t .name) ≡ found.At slot id → StoodAs (removeOf (w .vol) m (w .store) slot id)
+    unfolding stepsOf EachStep enteredAll entered
+    named-stood slot id q =
         let v = find-view (w .vol) m (w .store) (t .name) q in
         let o : Out = removeOf (w .vol) m (w .store) slot id in
         onDone-keeps (Stood t (leftBy w (o .vol) (o .ans .medium) (o .ans .store))) (o .ans .outcome) _ _
@@ -62,12 +68,12 @@ module _ (w : World) (b : Book) (k : Keeps w b) (left : ℕ) where
         gone-keeps w b k (k .readable) g _ (rw same (g .whole)))
         (λ e d h. unmade-keeps w b k (k .readable) (remove-stopped (w .vol) m (w .store) (k .layout) b (k .whole) slot id (v .0) d))
 
-    delete-stood : StoodAs (deleteCall (w .vol) m (w .store) (t .name))
-    unfolding deleteCall enteredAll
-    delete-stood =
-        onDone-keeps StoodAs _ _ _
-        (λ d. named-stood (findOf (w .vol) m (w .store) (t .name)) refl)
-        (λ e d h. same-keeps)
+    abbrev deletion : WriteCall
+    deletion = deleteCall (w .vol) m (w .store) (t .name)
+
+    delete-stood : Stood t (leftBy w (deletion .vol) (deletion .call .medium) (deletion .call .store)) (deletion .steps)
+    unfolding deleteCall
+    delete-stood = onDone-keeps StoodAs _ _ _ (λ d. onFound-keeps StoodAs _ _ _ refused-stood named-stood) (λ e d. refused-stood e)
 
   -- ---- delete_oldest: the open file is spared
 
@@ -75,8 +81,8 @@ module _ (w : World) (b : Book) (k : Keeps w b) (left : ℕ) where
     abbrev terms : Terms
     terms = record { name = []; dir = some dir; spared = openOf (w .store .writer) }
 
-    abbrev StoodOld : OldestCall → Type 0
-    StoodOld c = Stood terms (leftBy w (c .vol) (c .call .medium) (c .call .store)) (c .steps)
+    abbrev StoodOld : GoneOut → Type 0
+    StoodOld g = Stood terms (leftBy w (g .vol) (g .ans .medium) (g .ans .store)) (oldestTold g .steps)
 
     abbrev g : GoneOut
     g = removeOldestOf (w .vol) m (w .store) dir (isOpen (w .store .writer)) (openId (w .store .writer))
@@ -90,7 +96,7 @@ module _ (w : World) (b : Book) (k : Keeps w b) (left : ℕ) where
             rw (x .0, x .1, x .2) same-keeps
         go (No e) d = unmade-keeps w b k (k .readable) (oldest-stopped (w .vol) m (w .store) (k .layout) b (k .whole) (k .readable) dir (isOpen (w .store .writer)) (openId (w .store .writer)) d .0)
 
-    gone-stood : StoodOld (oldestTold g)
+    gone-stood : StoodOld g
     unfolding oldestTold EachStep enteredAll entered
     gone-stood =
         pick-keeps-by (Stood terms (leftBy w (g .vol) (g .ans .medium) (g .ans .store))) (g .ans .any) _ _
@@ -99,9 +105,16 @@ module _ (w : World) (b : Book) (k : Keeps w b) (left : ℕ) where
         gone-keeps w b k (k .readable) (x .gone) _ (rw (← spared-open (w .store .writer)) (x .whole)))
         (λ e h. idle-keeps e)
 
-    oldest-stood : StoodOld (oldestCall (w .vol) m (w .store) dir)
-    unfolding oldestCall oldestTold enteredAll pick
-    oldest-stood = onDone-keeps StoodOld _ _ _ (λ d. gone-stood) (λ e d h. same-keeps)
+    kept-stood : (e : Error) → StoodOld (noneOut (refusedOut (w .store) (w .vol) m e))
+    unfolding oldestTold enteredAll pick
+    kept-stood e h = same-keeps
+
+    abbrev oldest : OldestCall
+    oldest = oldestCall (w .vol) m (w .store) dir
+
+    oldest-stood : Stood terms (leftBy w (oldest .vol) (oldest .call .medium) (oldest .call .store)) (oldest .steps)
+    unfolding oldestCall oldestTold
+    oldest-stood = onDone-keeps StoodOld _ _ _ (λ d. gone-stood) (λ e d. kept-stood e)
 
 pub delete-keeps : (w : World) (b : Book) → Keeps w b → (left : ℕ) (name : List ℕ) → EachStep Distinct (ran w (delete left name) .steps)
     → Keeps (ran w (delete left name) .world) (written (delete left name) (fedBy w (delete left name)) b)

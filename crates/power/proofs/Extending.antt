@@ -12,15 +12,16 @@ use Rattle.medium.specs.declared.Medium.{Medium}
 use Rattle.medium.specs.declared.Outcome.the-variants.{Done}
 use Rattle.medium.proofs.Laws.{onDone-keeps}
 use Rattle.handles.specs.declared.Store.{Store}
+use Rattle.handles.specs.Handles.{isOpen, openId}
 use Rattle.table.specs.Table.{freeOf}
+use Rattle.table.proofs.Decides.{onPick-keeps}
 use Rattle.plan.specs.declared.Edit.the-variants.{Extend}
 use Rattle.plan.specs.Copy.{Out}
 use Rattle.commit.specs.Commit.{commitOf}
-use Rattle.remove.specs.Remove.{GoneOut, removeOldestOf, isOpen, openId}
+use Rattle.remove.specs.Remove.{GoneOut, removeOldestOf}
 use Rattle.append.specs.declared.Appender.{Appender}
 use Rattle.append.specs.Appender.{dirBytes}
 use Rattle.append.specs.Flush.{AppOut, stopped, movedTo, linkOut, rolledOut, extendOf}
-use Rattle.append.proofs.Keeps.{onPick-keeps}
 use Rattle.safe.proofs.Frame.{clash}
 use Rattle.layout.specs.Segments.{Segment, segmentAt}
 use Rattle.power.specs.Book.{Book, Terms}

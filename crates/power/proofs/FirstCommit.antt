@@ -9,35 +9,35 @@ use borrow.Author.Tests.{eq-eqb, ne-eqb}
 use lib.Dec.{eqb}
 use lib.ListN.{length}
 use Rattle.le.proofs.Choices.{pick-true, pick-false, pick-keeps}
-use Rattle.le.proofs.Parts.{length-zeros}
+use Rattle.runs.proofs.Tests.{same-self}
 use Rattle.checksum.specs.Crc.{crc32Of}
 use Rattle.medium.specs.declared.Error.the-variants.{Media}
 use Rattle.medium.specs.declared.Medium.{Medium}
 use Rattle.medium.specs.declared.Outcome.the-variants.{Done, No}
-use Rattle.medium.specs.Sector.{sectorsOf, WriteOut}
-use Rattle.medium.proofs.Laws.{onDone-keeps}
+use Rattle.medium.proofs.Laws.{onDone-keeps, onDone-done}
 use Rattle.handles.specs.declared.Header.{Header}
 use Rattle.handles.specs.declared.Store.{Store}
 use Rattle.handles.specs.Handles.{bodyOf, baseOf}
+use Rattle.handles.proofs.Laws.{base-most}
 use Rattle.header.specs.declared.answers.Current.{Current}
 use Rattle.header.specs.Header.{ours, encodeOf}
 use Rattle.header.specs.Copies.{isOurs, copyOf, sameStore, takenOf, currentOf}
 use Rattle.header.proofs.Accepted.{copy-valid}
-use Rattle.format.proofs.Ways.{when-done}
 use Rattle.plan.specs.declared.Edit.{Edit}
 use Rattle.plan.specs.Edit.{changesOf, headAfter}
-use Rattle.plan.specs.Copy.{Plan, isFormat, dueBytes, listed, dueMove, moveOf, StepOut, bodyFrom, Out, lastOf, firstOf, copyOut}
+use Rattle.plan.specs.Copy.{Plan, isFormat, dueBytes, lists, dueMove, moveOf, BodyOut, bodyFrom, Out, lastOf, firstOf, copyOut}
 use Rattle.commit.specs.Commit.{sameHead, isCurrent, commitPlan, commitOf}
-use Rattle.safe.specs.Frame.{Kept}
+use Rattle.medium.specs.Sector.{sectorsOf, WriteOut, Readable}
+use Rattle.medium.specs.Frame.{Kept}
+use Rattle.medium.proofs.Frame.{kept-wide, write-spends, write-kept}
 use Rattle.safe.specs.Copy.{target, bodyCount, Good}
 use Rattle.safe.specs.Inv.{Inv, planOf}
-use Rattle.safe.proofs.Frame.{clash, kept-wide, write-used, write-kept, base-le}
 use Rattle.safe.proofs.Body.{body-left}
 use Rattle.safe.proofs.Current.{stands-current}
 use Rattle.safe.proofs.Invs.{reads, inv-held, inv-check}
+use Rattle.safe.proofs.Frame.{clash}
+use Rattle.safe.proofs.Commit.{plan-good}
 use Rattle.layout.proofs.Facts.{case}
-use Rattle.folds.proofs.Named.{same-self}
-use Rattle.power.specs.History.{Readable}
 use Rattle.power.proofs.Spends.{write-some, write-media, AllPut, copy-enough, copy-short}
 
 and-no : (a b : Bool) → b ≡ false → (a && b) ≡ false
@@ -57,18 +57,6 @@ same-head h =
     )
     (same-self (h .crcs))
 
-plan-fits : (edit : Edit) (name vol : List ℕ) (m : Medium) (st : Store) → Inv vol st → length name ≤ 40 → Good (planOf edit name vol m st) vol
-unfolding commitPlan headAfter
-plan-fits edit name vol m st inv short =
-    record {
-      enough = inv-held inv .enough;
-      chunks = inv-held inv .head .chunks-most;
-      count = inv .range .count;
-      first = length-zeros 512;
-      name = short;
-      own = λ _. omega (arith, inv-held inv .copy);
-    }
-
 module _ (edit : Edit) (name vol : List ℕ) (m : Medium) (st : Store) (inv : Inv vol st) (r : Readable vol m) where
   abbrev other : ℕ
   other = baseOf (1 - st .copy)
@@ -76,7 +64,7 @@ module _ (edit : Edit) (name vol : List ℕ) (m : Medium) (st : Store) (inv : In
   abbrev plan : Plan
   plan = planOf edit name vol m st
 
-  current : currentOf vol m ≡ takenOf (st .copy) (st .head) (copyOf vol other .head) (isOurs (copyOf vol other .kind))
+  pub current : currentOf vol m ≡ takenOf (st .copy) (st .head) (copyOf vol other .head) (isOurs (copyOf vol other .kind))
   current =
       let e : 64 ≤ sectorsOf vol = inv-held inv .enough in
       stands-current vol (st .head) m (reads m vol r 0 (omega arith)) (reads m vol r 32 (omega arith)) (st .copy) (inv .sound .stands)
@@ -86,10 +74,10 @@ module _ (edit : Edit) (name vol : List ℕ) (m : Medium) (st : Store) (inv : In
   is-current = rw (current, eq-eqb (st .copy) (st .copy) refl) (same-head (st .head))
 
   -- the store value is the current one, and has another generation to give
-  commit-is : (st .head .generation ≡ 2 ^ 64 - 1 → ⊥) → commitOf edit name vol m st ≡ copyOut plan vol m
+  pub commit-is : (st .head .generation ≡ 2 ^ 64 - 1 → ⊥) → commitOf edit name vol m st ≡ copyOut plan vol m
   unfolding commitOf takenOf
   commit-is less =
-      when-done _ _ _ (ap (λ (c : Current). c .outcome) current) ∙ pick-true _ _ is-current
+      onDone-done _ _ (ap (λ (c : Current). c .outcome) current) ∙ pick-true _ _ is-current
       ∙ pick-false _ _ (ne-eqb (st .head .generation) (2 ^ 64 - 1) less)
 
   -- ---- the other copy is none of this store
@@ -104,8 +92,8 @@ module _ (edit : Edit) (name vol : List ℕ) (m : Medium) (st : Store) (inv : In
     unfolding commitPlan takenOf
     not-known = ap (λ (c : Current). c .known) current ∙ none-same (isOurs (copyOf vol other .kind)) refl (sameStore (st .head) (copyOf vol other .head)) refl
 
-    not-listed : (k c : ℕ) → listed plan k c ≡ false
-    unfolding listed
+    not-listed : (k c : ℕ) → lists plan k c ≡ false
+    unfolding lists
     not-listed k c = rw not-known
 
     module _ (plain : isFormat edit ≡ false) where
@@ -114,18 +102,18 @@ module _ (edit : Edit) (name vol : List ℕ) (m : Medium) (st : Store) (inv : In
       all-put k l = (
         crc32Of (dueBytes plan vol k),
         dueBytes plan vol k,
-        pick-false _ _ plain ∙ pick-false _ _ (and-no (not (changesOf edit k)) _ (not-listed k _)) ∙ when-done _ _ _ (inv-check vol m st inv r k l)
+        pick-false _ _ plain ∙ pick-false _ _ (and-no (not (changesOf edit k)) _ (not-listed k _)) ∙ onDone-done _ _ (inv-check vol m st inv r k l)
             ∙ pick-false _ _ (not-listed k _),
       )
 
       module _ (short : length name ≤ 40) (less : st .head .generation ≡ 2 ^ 64 - 1 → ⊥) where
         pub commit-enough : bodyOf (st .head .chunks) + 2 ≤ m .left → (commitOf edit name vol m st .ans .outcome ≡ Done) × (commitOf edit name vol m st .skipped ≡ [])
         unfolding commitPlan headAfter
-        commit-enough l = rw (commit-is less) (copy-enough plan vol m (plan-fits edit name vol m st inv short) all-put l)
+        commit-enough l = rw (commit-is less) (copy-enough plan vol m (plan-good edit name vol m st inv short) all-put l)
 
         pub commit-short : m .left < bodyOf (st .head .chunks) + 2 → commitOf edit name vol m st .ans .outcome ≡ No Media
         unfolding commitPlan headAfter
-        commit-short l = rw (commit-is less) (copy-short plan vol m (plan-fits edit name vol m st inv short) all-put l)
+        commit-short l = rw (commit-is less) (copy-short plan vol m (plan-good edit name vol m st inv short) all-put l)
 
 -- ---- one write left, or none
 
@@ -133,18 +121,18 @@ module _ (p : Plan) (vol : List ℕ) (m : Medium) (good : Good p vol) (few : m .
   abbrev z : WriteOut
   z = firstOf p vol m
 
-  abbrev b : StepOut
+  abbrev b : BodyOut
   b = bodyFrom p (bodyCount p) 0 (z .vol) (z .ans .medium) (p .head)
 
   -- the first write takes it
   none-left : z .ans .outcome ≡ Done → b .ans .medium .left ≡ 0
   none-left q =
-      let first : Kept (target p) 1 vol (z .vol) = write-kept vol m (target p) (p .first) (good .first) (omega (arith, base-le (p .copy), good .enough)) in
+      let first : Kept (target p) 1 vol (z .vol) = write-kept vol m (target p) (p .first) (good .first) (omega (arith, base-most (p .copy), good .enough)) in
       let l = body-left p vol m good (bodyCount p) 0 (z .vol) (z .ans .medium) (p .head) (omega (arith, good .chunks)) (kept-wide (omega arith) (omega arith) first)
-      (write-used vol m (target p) (p .first) .unreadable) (good .count) in
+      (write-spends vol m (target p) (p .first) .unreadable) (good .count) in
       case (m .left) 0
       (λ e. clash (write-media vol m (target p) (p .first) e) q)
-      (λ e. omega (arith, l .used .left, write-some vol m (target p) (p .first) (omega (arith, e)) .1, few))
+      (λ e. omega (arith, l .stays .medium .left, write-some vol m (target p) (p .first) (omega (arith, e)) .1, few))
 
   copy-few : copyOut p vol m .ans .outcome ≡ Done → ⊥
   unfolding copyOut lastOf
@@ -170,4 +158,4 @@ commit-few edit name vol m st inv short few =
     NotDone o = o .ans .outcome ≡ Done → ⊥
 
     good : Good (planOf edit name vol m st) vol
-    good = plan-fits edit name vol m st inv short
+    good = plan-good edit name vol m st inv short

@@ -8,16 +8,17 @@ use Rattle.medium.specs.declared.Error.{Error}
 use Rattle.medium.specs.declared.Medium.{Medium}
 use Rattle.medium.specs.declared.Outcome.{Outcome}
 use Rattle.medium.specs.declared.Outcome.the-variants.{Done, No}
+use Rattle.medium.specs.Sector.{Readable}
 use Rattle.handles.specs.declared.Store.{Store}
 use Rattle.handles.specs.declared.Writer.the-variants.{Open}
-use Rattle.plan.specs.Copy.{Step}
+use Rattle.plan.specs.Copy.{Step, Distinct}
 use Rattle.append.specs.declared.Appender.{Appender}
 use Rattle.append.specs.Flush.{AppOut, stopped, done, after, andThen}
 use Rattle.append.proofs.Then.{Next, then-done, then-no}
 use Rattle.safe.proofs.Frame.{clash}
 use Rattle.layout.specs.Segments.{Segment}
 use Rattle.power.specs.Book.{Book, Terms, enteredAll}
-use Rattle.power.specs.History.{Readable, EachStep, Distinct}
+use Rattle.power.specs.History.{EachStep}
 use Rattle.power.proofs.Whole.{Whole, Stands}
 use Rattle.power.proofs.Steps.{kindsOf, entered-append, each-append}
 use Rattle.power.proofs.Unmade.{Unmade, unmade-readable}

@@ -3,13 +3,12 @@
 use Prim.Native.Nat.{ℕ, _<_}
 use mathlib.Core.Path.{_≡_, refl}
 use mathlib.Core.List.{List, [], _∷_}
-use native.Mathlib.Omega.{arith}
 use lib.ListN.{getD}
 use Rattle.medium.specs.declared.Medium.{Medium}
-use Rattle.medium.specs.declared.Outcome.{Outcome}
-use Rattle.medium.specs.declared.Outcome.the-variants.{Done, No}
-use Rattle.medium.specs.Refusal.{ok, outcomeOf}
-use Rattle.plan.specs.Copy.{Skipped, Step, Out}
+use Rattle.medium.specs.Refusal.{ok}
+use Rattle.medium.proofs.Laws.{done-told}
+use Rattle.plan.specs.Copy.{Skipped, Step, Out, EachSkipped, Distinct}
+use Rattle.medium.specs.Sector.{Readable}
 use Rattle.format.specs.Format.{formatOf}
 use Rattle.append.specs.declared.Appender.{Appender}
 use Rattle.safe.specs.Inv.{FormatMade}
@@ -18,7 +17,7 @@ use Rattle.safe.proofs.Format.{format-bytes}
 use Rattle.store.specs.Writing.{formatCall}
 use Rattle.power.specs.Calls.{Call, mount, format, create, openAppend, append, sync, delete, deleteOldest, query}
 use Rattle.power.specs.Book.{Book, newBook, written}
-use Rattle.power.specs.History.{World, ran, fedBy, after, bookOf, Readable, Clean, Given, EachSkipped, EachStep, Honest, Distinct, Premise}
+use Rattle.power.specs.History.{World, ran, fedBy, after, bookOf, Clean, Given, EachStep, Honest, Premise}
 use Rattle.power.specs.Claim.{started, Demand3, Demand3Weaker}
 use Rattle.power.proofs.Whole.{Keeps}
 use Rattle.power.proofs.Stays.{owns-none}
@@ -55,17 +54,13 @@ history-keeps (c ∷ cs) w b h p = history-keeps cs (ran w c .world) (written c 
 
 -- ---- the start
 
-accepted-done : (o : Outcome) → outcomeOf o ≡ ok tt → o ≡ Done
-accepted-done Done e = refl
-accepted-done (No x) e = absurd (let z : _≡_ {A = ℕ} 0 1 = cc in omega arith)
-
 -- an accepted format on any bytes, beside any appender
 pub started-keeps : (vol : List ℕ) (m : Medium) (size seed : ℕ) (ap : Appender) → ((k : ℕ) → getD vol k 0 < 256) → formatCall vol m size seed .call .answer ≡ ok tt
     → Readable vol m → Clean vol (formatCall vol m size seed .call .store) → Keeps (started (formatCall vol m size seed) ap) newBook
 unfolding formatCall
 started-keeps vol m size seed ap bytes a r clean =
     let o : Out = formatOf size seed vol m in
-    let f : FormatMade size vol m o = format-bytes size seed vol m bytes (accepted-done (o .ans .outcome) a) in
+    let f : FormatMade size vol m o = format-bytes size seed vol m bytes (done-told (o .ans .outcome) a) in
     record {
       layout = λ s. [];
       whole = fresh-whole newBook refl refl f clean;

@@ -2,7 +2,6 @@ pub mod Whole
 pub mod Members
 pub mod Ties
 pub mod Checks
-pub mod Skips
 pub mod Picks
 pub mod Unmade
 pub mod Removing
@@ -32,4 +31,6 @@ pub mod FirstCommit
 pub mod FirstCreate
 pub mod Starting
 pub mod Running
+pub mod Skipping
 pub mod Sanity
+pub mod Undone

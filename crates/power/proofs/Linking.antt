@@ -21,13 +21,14 @@ use Rattle.table.specs.Table.{freeOf}
 use Rattle.plan.specs.declared.Edit.{Edit}
 use Rattle.plan.specs.declared.Edit.the-variants.{Extend}
 use Rattle.plan.specs.Edit.{Fits, plainLink}
-use Rattle.plan.specs.Copy.{Step, extended, Out, stepsOf}
+use Rattle.plan.specs.Copy.{Step, extended, Out, stepsOf, EachSkipped, Distinct}
 use Rattle.commit.specs.Commit.{commitOf}
 use Rattle.append.specs.declared.Appender.{Appender}
 use Rattle.append.specs.Flush.{AppOut, done, stopped, after, movedTo, linkOut}
 use Rattle.safe.specs.Inv.{CommitMade}
 use Rattle.safe.proofs.Invs.{readable-still}
 use Rattle.safe.proofs.Commit.{commit-stopped, commit-made}
+use Rattle.safe.proofs.Unwritten.{commit-distinct}
 use Rattle.layout.specs.Views.{diskOf, linkView}
 use Rattle.layout.specs.Segments.{Segment, noSegment, segmentAt, linkFor}
 use Rattle.layout.specs.Changes.{replaced, withSegment, Extended}
@@ -38,11 +39,10 @@ use Rattle.views.specs.Edited.{Edited}
 use Rattle.views.proofs.Makes.{extended-partial, extended-full}
 use Rattle.views.proofs.Commits.{commit-edited}
 use Rattle.power.specs.Book.{Book, Terms, entered, enteredAll}
-use Rattle.power.specs.History.{EachSkipped, EachStep, Distinct}
+use Rattle.power.specs.History.{EachStep}
 use Rattle.power.proofs.Whole.{Stands}
 use Rattle.power.proofs.Ties.{ties-extend}
 use Rattle.power.proofs.Checks.{inv-checked}
-use Rattle.power.proofs.Skips.{commit-distinct}
 use Rattle.power.proofs.Unmade.{commit-unmade}
 use Rattle.power.proofs.Standing.{sane, chunk-in, position-in, count-in}
 use Rattle.power.proofs.Flows.{Live, unmade-live, Kept, kept-stopped, kept-done, kept-after}

@@ -13,7 +13,7 @@ use Rattle.medium.specs.declared.Outcome.the-variants.{Done, No}
 use Rattle.handles.specs.declared.Store.{Store}
 use Rattle.table.specs.declared.LinkAt.the-variants as link
 use Rattle.plan.specs.declared.Edit.the-variants.{Create}
-use Rattle.plan.specs.Copy.{created, Out}
+use Rattle.plan.specs.Copy.{created, Out, EachSkipped, Distinct}
 use Rattle.commit.specs.Commit.{commitOf}
 use Rattle.append.specs.declared.Appender.{Appender}
 use Rattle.append.specs.declared.Tail.the-variants.{At}
@@ -28,14 +28,14 @@ use Rattle.layout.proofs.Creates.{create-good}
 use Rattle.safe.specs.Inv.{CommitMade}
 use Rattle.safe.proofs.Invs.{inv-writer, readable-still}
 use Rattle.safe.proofs.Commit.{commit-stopped, commit-made}
+use Rattle.safe.proofs.Unwritten.{commit-distinct}
 use Rattle.views.proofs.Commits.{inv-sane, commit-edited}
 use Rattle.views.proofs.Makes
 use Rattle.views.proofs.Stays.{writer-unchanged}
 use Rattle.power.specs.Book.{Terms, Book, openedFor, entered}
-use Rattle.power.specs.History.{World, EachSkipped, Distinct}
+use Rattle.power.specs.History.{World}
 use Rattle.power.proofs.Whole.{Whole, Stands, Keeps}
 use Rattle.power.proofs.Ties.{ties-same, ties-create}
-use Rattle.power.proofs.Skips.{commit-distinct}
 use Rattle.power.proofs.Asks.{Directed}
 use Rattle.power.proofs.Unmade.{Unmade, commit-unmade}
 

@@ -1,12 +1,13 @@
 -- Mount keeps the invariant: it is accepted, and its store is the one that there was, with no writer. Assumes nothing.
 use mathlib.Core.Path.{_≡_, refl}
 use Rattle.medium.specs.declared.Medium.{Medium}
+use Rattle.medium.specs.Sector.{Readable}
 use Rattle.power.specs.Calls.{mount}
 use Rattle.power.specs.Book.{Book, enteredAll, beforeSteps, afterSteps, written}
-use Rattle.power.specs.History.{World, ifOk, ran, fedBy, Readable}
+use Rattle.power.specs.History.{World, ifOk, ran, fedBy}
 use Rattle.power.proofs.Whole.{Keeps}
 use Rattle.power.proofs.Stays.{owns-none}
-use Rattle.power.proofs.Shown.{unwritten, mount-gives, whole-unwritten}
+use Rattle.power.proofs.Shown.{asMounted, mount-gives, whole-mounted}
 use Rattle.power.proofs.Queries.{pick-same}
 
 pub mount-book : (m : Medium) (w : World) (b : Book) → written (mount m) (fedBy w (mount m)) b ≡ b
@@ -14,11 +15,11 @@ unfolding written fedBy ran enteredAll beforeSteps afterSteps
 mount-book m w b = pick-same _ b
 
 mount-world : (m : Medium) (w : World) (b : Book) → Keeps w b → Readable (w .vol) m
-    → ran w (mount m) .world ≡ record { vol = w .vol; store = unwritten (w .store); appender = w .appender; medium = m }
+    → ran w (mount m) .world ≡ record { vol = w .vol; store = asMounted (w .store); appender = w .appender; medium = m }
 unfolding ran ifOk
 mount-world m w b k r = rw (mount-gives (w .vol) m (w .store) (k .whole .inv) r)
 
 pub mount-keeps : (m : Medium) (w : World) (b : Book) → Keeps w b → Readable (w .vol) m → Keeps (ran w (mount m) .world) (written (mount m) (fedBy w (mount m)) b)
 mount-keeps m w b k r =
     rw (mount-world m w b k r, mount-book m w b)
-    (record { layout = k .layout; whole = whole-unwritten (k .whole); owns = owns-none refl; readable = r })
+    (record { layout = k .layout; whole = whole-mounted (k .whole); owns = owns-none refl; readable = r })

@@ -3,7 +3,7 @@ use Prim.Native.Nat.{ℕ, _<_}
 use mathlib.Core.Path.{_≡_, refl, sym}
 use mathlib.Core.Logic.{_≢_}
 use mathlib.Core.Bool.{Bool, true, false, _&&_, false≢true}
-use mathlib.Core.Option.{none, some}
+use mathlib.Core.Option.{some}
 use mathlib.Core.List.{List, []}
 use borrow.Author.Tests.{eq-eqb}
 use lib.Dec.{eqb}
@@ -13,23 +13,25 @@ use Rattle.le.proofs.Choices.{pick-keeps-by}
 use Rattle.medium.specs.declared.Error.{Error}
 use Rattle.medium.specs.declared.Medium.{Medium}
 use Rattle.medium.specs.declared.Outcome.the-variants.{Done, No}
+use Rattle.medium.specs.Sector.{Readable}
 use Rattle.medium.proofs.Laws.{onDone-keeps}
 use Rattle.handles.specs.declared.Store.{Store}
 use Rattle.handles.specs.declared.Writer.{Writer}
 use Rattle.handles.specs.declared.Writer.the-variants.{Nobody, Open}
+use Rattle.handles.specs.Handles.{isOpen, openId}
 use Rattle.directory.specs.declared.Old.{Old}
 use Rattle.directory.specs.declared.OldestFile.the-variants as oldest
 use Rattle.directory.specs.Entry.{entryAt}
 use Rattle.directory.specs.Scan.{oldestOf}
-use Rattle.plan.specs.Copy.{Out}
-use Rattle.remove.specs.Remove.{removeOf, GoneOut, noneGone, goneOf, oldestGone, removeOldestOf, isOpen, openId}
+use Rattle.plan.specs.Copy.{Out, EachSkipped, Distinct}
+use Rattle.remove.specs.Remove.{removeOf, GoneOut, noneOut, goneOf, oldestGone, removeOldestOf}
 use Rattle.layout.specs.Segments.{Segment}
 use Rattle.layout.specs.Changes.{replaced}
 use Rattle.layout.proofs.Facts.{true≢false}
 use Rattle.safe.proofs.Frame.{clash}
 use Rattle.folds.proofs.Oldest.{Goes, Picked, Olds, oldest-view}
 use Rattle.power.specs.Book.{Book, withFiles, withoutOldest}
-use Rattle.power.specs.History.{Readable, openOf, EachSkipped, Distinct}
+use Rattle.power.specs.History.{openOf}
 use Rattle.power.proofs.Whole.{Whole}
 use Rattle.power.proofs.Checks.{inv-checked}
 use Rattle.power.proofs.Picks.{sparedBy, without-oldest}
@@ -70,7 +72,7 @@ module _ (vol : List ℕ) (m : Medium) (st : Store) (G : ℕ → List Segment) (
   removing old = goneOf (part 0 40 (entryAt vol st (old .slot))) (old .len) (removal old)
 
   abbrev idle : GoneOut
-  idle = noneGone (record { vol = vol; ans = record { outcome = Done; medium = m; store = st }; skipped = [] })
+  idle = noneOut (record { vol = vol; ans = record { outcome = Done; medium = m; store = st }; skipped = [] })
 
   ways : (P : GoneOut → Type 0) → ((old : Old) → Olds vol st dir keeping kept 64 old → old .any ≡ true → P (removing old)) → P idle → P (removeOldestOf vol m st dir keeping kept)
   unfolding removeOldestOf oldestGone
@@ -97,15 +99,6 @@ module _ (vol : List ℕ) (m : Medium) (st : Store) (G : ℕ → List Segment) (
       (λ d q n. absurd (false≢true (sym n)))
       (λ x d q. clash d q))
       (λ q n. (refl, refl, refl))
-
-  pub oldest-done : removeOldestOf vol m st dir keeping kept .ans .any ≡ true → removeOldestOf vol m st dir keeping kept .ans .outcome ≡ Done
-  unfolding goneOf
-  oldest-done =
-      ways (λ (x : GoneOut). x .ans .any ≡ true → x .ans .outcome ≡ Done)
-      (λ old o t. onDone-keeps (λ (x : GoneOut). x .ans .any ≡ true → x .ans .outcome ≡ Done) (removal old .ans .outcome) _ _
-      (λ d q. refl)
-      (λ x d q. absurd (false≢true q)))
-      (λ q. absurd (false≢true q))
 
   went : (old : Old) → Olds vol st dir keeping kept 64 old → old .any ≡ true → removal old .ans .outcome ≡ Done → EachSkipped Distinct (removal old .skipped)
       → (g : GoneOut) → g .vol ≡ removal old .vol → g .ans .medium ≡ removal old .ans .medium → g .ans .store ≡ removal old .ans .store → Went vol m st G b dir keeping kept g

@@ -8,14 +8,13 @@ use mathlib.Core.List.{List}
 use borrow.Author.Tests.{eq-eqb, ne-eqb, not-true}
 use lib.Dec.{eqb}
 use Rattle.le.specs.Choice.{pick}
+use Rattle.le.proofs.Bools.{and-true}
 use Rattle.runs.specs.Run.{sameBytes}
+use Rattle.runs.proofs.Tests.{same-true, same-self}
 use Rattle.names.specs.Names.{inDir}
-use Rattle.handles.proofs.Laws.{and-true}
-use Rattle.directory.proofs.Bytes.{same-true}
 use Rattle.layout.specs.Views.{named, Disk}
 use Rattle.layout.specs.Segments.{Segment, Good}
 use Rattle.layout.proofs.Facts.{case, same-name, same-id}
-use Rattle.folds.proofs.Named.{same-self}
 use Rattle.folds.proofs.Oldest.{Goes}
 use Rattle.power.specs.Book.{File, keep, isSpared, mayGo, smallest, withoutId, withoutOldest, withoutName}
 use Rattle.power.proofs.Whole.{fileOf, Ties}

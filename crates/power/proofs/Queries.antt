@@ -6,20 +6,18 @@ use mathlib.Core.List.{List}
 use Rattle.le.specs.Choice.{pick}
 use Rattle.le.proofs.Choices.{pick-keeps}
 use Rattle.medium.specs.declared.Medium.{Medium}
+use Rattle.medium.specs.Sector.{Readable}
 use Rattle.medium.proofs.Laws.{onDone-keeps}
 use Rattle.handles.specs.declared.Store.{Store}
-use Rattle.directory.specs.declared.Found.{Found}
-use Rattle.directory.specs.declared.Found.the-variants as found
-use Rattle.table.specs.declared.Chained.{Chained}
-use Rattle.table.specs.declared.Chained.the-variants as chained
-use Rattle.table.specs.Table.{chainOf}
-use Rattle.directory.specs.Scan.{findOf}
+use Rattle.table.proofs.Decides.{onChain-keeps}
+use Rattle.directory.proofs.Decides.{onFound-keeps}
 use Rattle.reader.specs.declared.Reader.{Reader}
 use Rattle.reader.specs.Calls.{NextCall, nextCall, SeekCall, seekCall}
-use Rattle.store.specs.Reading.{findCall, ListCall, listed, listCall, ReaderCall, onChain, onFound, readerCall}
+use Rattle.store.specs.declared.ReaderAnswer.{ReaderAnswer}
+use Rattle.store.specs.Reading.{findCall, ListCall, listed, listCall, readerCall}
 use Rattle.power.specs.Calls.{Query, list, find, reader, next, seek, query}
 use Rattle.power.specs.Book.{Book, enteredAll, beforeSteps, afterSteps, written}
-use Rattle.power.specs.History.{World, answered, ran, fedBy, Readable}
+use Rattle.power.specs.History.{World, answered, ran, fedBy}
 use Rattle.power.proofs.Whole.{Keeps}
 
 -- ---- the book of a call that makes no step and settles nothing
@@ -42,19 +40,15 @@ module _ (vol : List ℕ) (m : Medium) (st : Store) where
   unfolding findCall
   find-medium name = refl
 
-  chain-medium : (slot id : ℕ) (c : Chained) → onChain m st slot id c .medium ≡ m
-  unfolding onChain
-  chain-medium slot id (chained.Refused e) = refl
-  chain-medium slot id (chained.Whole p) = refl
-
-  found-medium : (f : Found) → onFound vol m st f .medium ≡ m
-  unfolding onFound
-  found-medium (found.Refused e) = refl
-  found-medium (found.At slot id) = chain-medium slot id (chainOf vol m st slot)
+  abbrev Same : ReaderAnswer → Type 0
+  Same r = r .medium ≡ m
 
   reader-medium : (name : List ℕ) → readerCall vol m st name .medium ≡ m
   unfolding readerCall
-  reader-medium name = onDone-keeps (λ (c : ReaderCall). c .medium ≡ m) _ _ _ (λ _. found-medium (findOf vol m st name)) (λ _ _. refl)
+  reader-medium name =
+      onDone-keeps Same _ _ _
+      (λ _. onFound-keeps Same _ _ _ (λ e. refl) (λ slot id _. onChain-keeps Same _ _ _ (λ e. refl) (λ p _. refl)))
+      (λ _ _. refl)
 
   next-medium : (rd : Reader) (out : List ℕ) → nextCall vol m st rd out .medium ≡ m
   unfolding nextCall

@@ -12,16 +12,14 @@ use Rattle.medium.specs.declared.Medium.{Medium}
 use Rattle.medium.specs.declared.Outcome.the-variants.{Done, No}
 use Rattle.medium.specs.Sector.{sectorsOf, WriteOut}
 use Rattle.medium.proofs.Laws.{onDone-keeps}
+use Rattle.medium.proofs.Frame.{write-spends, write-kept, write-none}
 use Rattle.handles.specs.declared.Store.{Store}
 use Rattle.record.specs.Record.{numberAt, dataAt, recordOf, writeRecordOf}
-use Rattle.record.proofs.Laws.{data-inside}
+use Rattle.record.proofs.Laws.{data-inside, number-small}
 use Rattle.record.proofs.RoundTrip.{length-record}
 use Rattle.plan.specs.Copy.{recorded}
 use Rattle.append.specs.declared.Appender.{Appender}
 use Rattle.append.specs.Flush.{done, filed, recordOut}
-use Rattle.append.proofs.Facts.{number-small}
-use Rattle.safe.proofs.Frame.{write-used, write-kept}
-use Rattle.plan.proofs.Order.{write-none}
 use Rattle.safe.proofs.Invs.{readable-still, inv-record}
 use Rattle.layout.specs.Views.{diskOf}
 use Rattle.layout.specs.Segments.{Segment, noSegment, segmentAt}
@@ -102,7 +100,7 @@ module _ {t : Terms} {vol : List ℕ} {m : Medium} {st : Store} {a : Appender} {
       let n : w .vol ≡ vol = write-none vol m (dataAt st (a .chunk) i) bytes q in
       record {
         whole = rw n (l .whole);
-        readable = readable-still vol (w .vol) (write-used vol m (dataAt st (a .chunk) i) bytes) (ap length n) (l .readable);
+        readable = readable-still vol (w .vol) (write-spends vol m (dataAt st (a .chunk) i) bytes) (ap length n) (l .readable);
         writer = l .writer;
         spared = l .spared;
         dir = l .dir;
@@ -136,7 +134,7 @@ module _ {t : Terms} {vol : List ℕ} {m : Medium} {st : Store} {a : Appender} {
         record {
           whole = recorded-whole;
           readable =
-              readable-still vol (w .vol) (write-used vol m (dataAt st (a .chunk) i) bytes)
+              readable-still vol (w .vol) (write-spends vol m (dataAt st (a .chunk) i) bytes)
               (write-kept vol m (dataAt st (a .chunk) i) bytes whole-sector inside .size) (l .readable);
           writer = l .writer;
           spared = l .spared;

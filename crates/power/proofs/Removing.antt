@@ -16,10 +16,11 @@ use Rattle.medium.proofs.Laws.{onDone-keeps}
 use Rattle.handles.specs.declared.Store.{Store}
 use Rattle.handles.specs.declared.Writer.{Writer}
 use Rattle.handles.specs.declared.Writer.the-variants.{Nobody, Open}
+use Rattle.header.specs.Header.{withCrcs}
 use Rattle.append.specs.declared.Appender.{Appender}
 use Rattle.plan.specs.declared.Edit.the-variants.{Remove}
 use Rattle.plan.specs.Edit.{headAfter}
-use Rattle.plan.specs.Copy.{Out}
+use Rattle.plan.specs.Copy.{Out, EachSkipped, Distinct}
 use Rattle.commit.specs.Commit.{commitOf}
 use Rattle.remove.specs.Remove.{writerWithout, closedFor, removeOf}
 use Rattle.layout.specs.Views.{named, diskOf}
@@ -28,21 +29,21 @@ use Rattle.layout.specs.Changes.{replaced, Unchanged, Removed}
 use Rattle.layout.proofs.Facts.{same-id, replaced-other}
 use Rattle.layout.proofs.Unchanged.{good-same}
 use Rattle.layout.proofs.Removes.{remove-good}
-use Rattle.safe.specs.Frame.{Used}
-use Rattle.safe.specs.Copy.{withCrcs}
 use Rattle.safe.specs.Inv.{CommitMade}
 use Rattle.safe.proofs.Frame.{clash}
 use Rattle.safe.proofs.Invs.{inv-writer, readable-still}
 use Rattle.safe.proofs.Commit.{commit-stopped, commit-made}
+use Rattle.safe.proofs.Unwritten.{commit-distinct}
 use Rattle.views.proofs.Commits.{inv-sane, commit-edited}
 use Rattle.views.proofs.Removes.{removed}
 use Rattle.views.proofs.Stays.{writer-unchanged}
 use Rattle.power.specs.Book.{File, Book, keep, withFiles}
-use Rattle.power.specs.History.{World, Readable, EachSkipped, Distinct}
+use Rattle.medium.specs.Frame.{Spends}
+use Rattle.medium.specs.Sector.{Readable}
+use Rattle.power.specs.History.{World}
 use Rattle.power.proofs.Whole.{Whole, Stands, Writes, Owns, Keeps}
 use Rattle.power.proofs.Members.{isNot}
 use Rattle.power.proofs.Ties.{ties-same, ties-remove}
-use Rattle.power.proofs.Skips.{commit-distinct}
 use Rattle.power.proofs.Unmade.{Unmade, commit-unmade, stands-kept}
 
 -- the file of slot s, with this name and id, went: v, u and t are volume, medium and store after it
@@ -55,7 +56,7 @@ pub record Gone (vol : List ℕ) (m : Medium) (st : Store) (G : ℕ → List Seg
   pub head : t .head ≡ withCrcs (headAfter (Remove s) (st .head)) (t .head .crcs)
   pub chunk : t .head .chunk ≡ st .head .chunk
   pub size : length v ≡ length vol
-  pub used : Used m u
+  pub used : Spends m u
 
 -- ---- the appender through it
 

@@ -13,18 +13,19 @@ use Rattle.le.specs.Part.{part, over}
 use Rattle.le.proofs.Choices.{pick-keeps-by, pick-true}
 use Rattle.le.proofs.Parts.{length-zeros}
 use Rattle.runs.specs.Run.{sameBytes}
+use Rattle.runs.proofs.Tests.{same-true, same-self}
 use Rattle.medium.specs.declared.Error.{Error}
 use Rattle.medium.specs.declared.Medium.{Medium}
 use Rattle.medium.specs.declared.Outcome.{Outcome}
 use Rattle.medium.specs.declared.Outcome.the-variants.{Done, No}
 use Rattle.medium.specs.Refusal.{onDone}
-use Rattle.medium.specs.Sector.{sectorsOf, sectorAt}
+use Rattle.medium.specs.Sector.{sectorsOf, sectorAt, Readable}
 use Rattle.medium.proofs.Laws.{length-sector}
 use Rattle.handles.specs.declared.Store.{Store}
 use Rattle.directory.specs.declared.Found.{Found}
 use Rattle.directory.specs.declared.Found.the-variants as found
-use Rattle.directory.specs.Scan.{findOf}
-use Rattle.directory.proofs.Bytes.{same-true}
+use Rattle.directory.specs.Scan.{findOf, onFound}
+use Rattle.table.specs.Table.{onChain}
 use Rattle.record.specs.declared.Judged.the-variants.{Valid, Other}
 use Rattle.record.specs.Record.{judgeOf, dataAt, numberAt, readRecordOf}
 use Rattle.reader.specs.Next.{onJudged}
@@ -35,7 +36,7 @@ use Rattle.append.specs.Flush.{AppOut}
 use Rattle.files.specs.declared.Rollover.{Rollover}
 use Rattle.files.specs.Opened.{refusedAt, nextToken, withToken, writtenBy, newAppender, openedOut}
 use Rattle.reopen.specs.declared.Records.the-variants as records
-use Rattle.reopen.specs.Reopen.{recordAt, recordsFrom, tailFor, onRecords, onChain, onFound, fileOut, reopenOf}
+use Rattle.reopen.specs.Reopen.{recordAt, recordsFrom, tailFor, onRecords, fileOut, reopenOf}
 use Rattle.reopen.proofs.Counts.{record-inside}
 use Rattle.safe.proofs.Invs.{reads, inv-writer}
 use Rattle.layout.specs.Views.{named, diskOf}
@@ -45,12 +46,12 @@ use Rattle.layout.proofs.Facts.{case, one-place, same-id}
 use Rattle.layout.proofs.Judged.{stored-judged, judged-other}
 use Rattle.views.proofs.Stays.{writer-unchanged}
 use Rattle.folds.proofs.Chains.{chain-view}
-use Rattle.folds.proofs.Named.{same-self, find-view}
+use Rattle.folds.proofs.Named.{find-view}
 use Rattle.store.specs.Asked.{askedOf}
 use Rattle.store.specs.Opening.{openFine, rolloverOf, opening, openCall}
 use Rattle.power.specs.Calls.{openAppend}
 use Rattle.power.specs.Book.{File, Book, idOf, ifSet, enteredAll, beforeSteps, openedFor, afterSteps, written}
-use Rattle.power.specs.History.{World, ifOk, withLeft, ran, fedBy, Readable}
+use Rattle.power.specs.History.{World, ifOk, withLeft, ran, fedBy}
 use Rattle.power.proofs.Whole.{fileOf, Whole, TailAt, Stands, Keeps}
 use Rattle.power.proofs.Members.{Mem}
 use Rattle.power.proofs.Checks.{inv-checked}

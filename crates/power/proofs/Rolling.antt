@@ -14,14 +14,15 @@ use Rattle.medium.specs.declared.Medium.{Medium}
 use Rattle.medium.specs.declared.Outcome.the-variants.{Done, No}
 use Rattle.medium.proofs.Laws.{onDone-keeps}
 use Rattle.handles.specs.declared.Store.{Store}
-use Rattle.table.specs.Table.{freeOf}
+use Rattle.handles.specs.Handles.{isOpen, openId}
+use Rattle.table.specs.Table.{freeOf, onPick}
+use Rattle.table.proofs.Decides.{onPick-keeps}
 use Rattle.plan.specs.Copy.{Step, rolledOver}
-use Rattle.remove.specs.Remove.{GoneOut, removeOldestOf, isOpen, openId}
+use Rattle.remove.specs.Remove.{GoneOut, removeOldestOf}
 use Rattle.remove.proofs.Keeps.{spared-writer}
 use Rattle.append.specs.declared.Appender.{Appender}
 use Rattle.append.specs.Appender.{dirBytes}
-use Rattle.append.specs.Flush.{AppOut, stopped, after, linkOut, onPick, rolledOut}
-use Rattle.append.proofs.Keeps.{onPick-keeps}
+use Rattle.append.specs.Flush.{AppOut, stopped, after, linkOut, rolledOut}
 use Rattle.layout.specs.Views.{diskOf}
 use Rattle.layout.specs.Segments.{Segment, segmentAt}
 use Rattle.layout.specs.Changes.{replaced}

@@ -12,27 +12,22 @@ use Rattle.le.proofs.Choices.{pick-true, pick-false}
 use Rattle.medium.specs.declared.Error.{Error}
 use Rattle.medium.specs.declared.Medium.{Medium}
 use Rattle.medium.specs.declared.Outcome.the-variants.{Done, No}
-use Rattle.medium.proofs.Laws.{onDone-keeps}
+use Rattle.medium.proofs.Laws.{onDone-keeps, onDone-no, onDone-done}
 use Rattle.handles.specs.declared.Store.{Store}
 use Rattle.handles.specs.declared.Writer.{Writer}
 use Rattle.handles.specs.declared.Writer.the-variants.{Open}
-use Rattle.directory.specs.declared.Found.{Found}
-use Rattle.directory.specs.declared.Found.the-variants as found
-use Rattle.directory.specs.Scan.{findOf}
+use Rattle.directory.proofs.Decides.{onFound-keeps}
 use Rattle.plan.specs.declared.Edit.the-variants.{Remove}
-use Rattle.plan.specs.Copy.{Kind, deleted, recorded, Out, stepsOf}
+use Rattle.plan.specs.Copy.{Kind, deleted, recorded, Out, stepsOf, refusedOut}
 use Rattle.commit.specs.Commit.{commitOf}
 use Rattle.remove.specs.Remove.{removeOf}
 use Rattle.append.specs.declared.Tail.the-variants.{At}
 use Rattle.append.specs.Appender.{writes, isClosed}
 use Rattle.append.specs.Calls.{callOf, mayWrite, offered, appendCall, syncCall}
-use Rattle.append.specs.Flush.{withRun, after, onTail, recordOut, writeOut, flushOf, syncOf}
+use Rattle.append.specs.Flush.{withRun, onTail, recordOut, writeOut, flushOf, syncOf}
 use Rattle.append.proofs.Runs.{run-short}
-use Rattle.format.proofs.Ways.{when-done}
-use Rattle.remove.proofs.Ways.{onDone-no}
-use Rattle.safe.specs.Inv.{Inv}
 use Rattle.views.proofs.Commits.{inv-sane}
-use Rattle.store.specs.Writing.{WriteCall, onNamed, deleteCall}
+use Rattle.store.specs.Writing.{deleteCall}
 use Rattle.power.specs.Calls.{append, sync, delete}
 use Rattle.power.specs.Book.{Book}
 use Rattle.power.specs.History.{World, withLeft, ran}
@@ -74,7 +69,7 @@ module _ {w : World} {b : Book} {n : ℕ} (k : Keeps w b) (y : Ready w n) where
   unfolding ran appendCall offered
   append-run left bytes h =
       let f : w .appender .fill + length bytes < 486 = rw (y .fill) h in
-      rw (when-done _ (callOf _) _ may, run-short bytes (w .vol) (withLeft left (w .medium)) (w .store) (w .appender) (stands .0 .buffer) f)
+      rw (onDone-done (callOf _) _ may, run-short bytes (w .vol) (withLeft left (w .medium)) (w .store) (w .appender) (stands .0 .buffer) f)
 
   -- and written by one write
   module _ (left : ℕ) (some : 1 ≤ n) (one : 1 ≤ left) where
@@ -84,7 +79,7 @@ module _ {w : World} {b : Book} {n : ℕ} (k : Keeps w b) (y : Ready w n) where
     record-steps : (recordOut 0 (w .vol) given (w .store) (w .appender) .ans .outcome ≡ Done)
         × (recordOut 0 (w .vol) given (w .store) (w .appender) .steps ≡ (record { kind = recorded; skipped = [] }) ∷ [])
     unfolding recordOut
-    record-steps = rw (when-done _ _ _ (write-some (w .vol) given _ _ one .0)) (refl, refl)
+    record-steps = rw (onDone-done _ _ (write-some (w .vol) given _ _ one .0)) (refl, refl)
 
     write-is : writeOut (w .vol) given (w .store) (w .appender) ≡ recordOut 0 (w .vol) given (w .store) (w .appender)
     unfolding writeOut onTail
@@ -94,11 +89,11 @@ module _ {w : World} {b : Book} {n : ℕ} (k : Keeps w b) (y : Ready w n) where
     unfolding syncOf flushOf
     sync-is =
         pick-false _ _ (ne-eqb (w .appender .fill) 0 (λ e. omega (arith, y .fill)))
-        ∙ rw write-is (when-done _ _ _ (record-steps .0))
+        ∙ rw write-is (onDone-done _ _ (record-steps .0))
 
     pub sync-run : (ran w (sync left) .accepted ≡ true) × (ran w (sync left) .steps ≡ (record { kind = recorded; skipped = [] }) ∷ [])
     unfolding ran syncCall offered
-    sync-run = rw (when-done _ (callOf _) _ may, sync-is, record-steps .0) (refl, record-steps .1)
+    sync-run = rw (onDone-done (callOf _) _ may, sync-is, record-steps .0) (refl, record-steps .1)
 
 -- ---- a delete with one write left, or none
 
@@ -112,13 +107,16 @@ removed-none vol m st slot id none =
     let o : Out = commitOf (Remove slot) [] vol m st in
     onDone-keeps (λ (x : Out). stepsOf deleted x ≡ []) (o .ans .outcome) _ _ (λ d. absurd (none d)) (λ e q. no-steps deleted o q)
 
-found-none : (vol : List ℕ) (m : Medium) (st : Store) → Inv vol st → m .left ≤ 1 → (f : Found) → onNamed vol m st f .steps ≡ []
-unfolding onNamed
-found-none vol m st inv few (found.Refused e) = refl
-found-none vol m st inv few (found.At slot id) = removed-none vol m st slot id (commit-few (Remove slot) [] vol m st inv (lit≤ tt) few)
-
 pub delete-stopped : {w : World} {b : Book} → Keeps w b → (left : ℕ) (name : List ℕ) → left ≤ 1 → ran w (delete left name) .steps ≡ []
 unfolding ran deleteCall
 delete-stopped {w} k left name few =
-    onDone-keeps (λ (c : WriteCall). c .steps ≡ []) _ _ _
-    (λ _. found-none (w .vol) (withLeft left (w .medium)) (w .store) (k .whole .inv) few (findOf (w .vol) (withLeft left (w .medium)) (w .store) name)) (λ e _. refl)
+    onDone-keeps None _ _ _
+    (λ _. onFound-keeps None _ _ _ (λ e. no-steps deleted (refusedOut (w .store) (w .vol) m e) refl)
+    (λ slot id _. removed-none (w .vol) m (w .store) slot id (commit-few (Remove slot) [] (w .vol) m (w .store) (k .whole .inv) (lit≤ tt) few)))
+    (λ e _. no-steps deleted (refusedOut (w .store) (w .vol) m e) refl)
+  where
+    m : Medium
+    m = withLeft left (w .medium)
+
+    None : Out → Type 0
+    None o = stepsOf deleted o ≡ []

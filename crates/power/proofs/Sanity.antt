@@ -18,11 +18,12 @@ use Rattle.names.specs.Names.{nameOk}
 use Rattle.medium.specs.declared.Medium.{Medium}
 use Rattle.medium.specs.declared.Outcome.the-variants.{Done}
 use Rattle.medium.specs.Refusal.{ok, refused}
+use Rattle.medium.specs.Sector.{Readable}
 use Rattle.handles.specs.declared.Header.{Header}
 use Rattle.handles.specs.Handles.{bodyOf, baseOf}
 use Rattle.header.specs.Header.{ours}
 use Rattle.header.specs.Copies.{copyOf, sameStore}
-use Rattle.plan.specs.Copy.{created, recorded, Skipped, Step}
+use Rattle.plan.specs.Copy.{created, recorded, Skipped, Step, EachSkipped, Distinct}
 use Rattle.format.specs.Format.{chunksOf, formatOf}
 use Rattle.append.specs.declared.Appender.{Appender}
 use Rattle.append.specs.declared.Tail.the-variants.{At}
@@ -38,7 +39,7 @@ use Rattle.store.specs.Opening.{rolloverOf, openFine, createCall}
 use Rattle.store.specs.Writing.{formatCall}
 use Rattle.power.specs.Calls.{Call, create, append, sync, delete, mount}
 use Rattle.power.specs.Book.{File, Book, newBook, onFile, termsOf, entered, enteredAll, beforeSteps, afterSteps, written}
-use Rattle.power.specs.History.{World, Ran, isOk, ifOk, withLeft, ran, openOf, fedBy, after, bookOf, Readable, Clean, Given, EachSkipped, EachStep, Honest, Distinct, Premise}
+use Rattle.power.specs.History.{World, Ran, isOk, ifOk, withLeft, ran, openOf, fedBy, after, bookOf, Clean, Given, EachStep, Honest, Premise}
 use Rattle.power.specs.Claim.{Holds, started}
 use Rattle.power.proofs.Whole.{Keeps}
 use Rattle.power.proofs.Shown.{shown}
@@ -50,7 +51,7 @@ use Rattle.power.proofs.Running.{Ready, append-run, sync-run, delete-st
 use Rattle.power.proofs.History.{call-keeps, started-keeps, no-batch-lost}
 
 -- what the book is fed, of a call whose refusal and steps are known
-fed-is : (w : World) (c : Call) {a : Bool} {ss : List Step} → ran w c .accepted ≡ a → ran w c .steps ≡ ss
+pub fed-is : (w : World) (c : Call) {a : Bool} {ss : List Step} → ran w c .accepted ≡ a → ran w c .steps ≡ ss
     → fedBy w c ≡ record { accepted = a; kinds = map (λ (s : Step). s .kind) ss; openFile = openOf (w .store .writer) }
 unfolding fedBy
 fed-is w c p q = rw (p, q)
@@ -59,43 +60,50 @@ fed-is w c p q = rw (p, q)
 
 module _ (n size seed : ℕ) (m : Medium) (ap₀ : Appender) (enough : 64 ≤ n / 512) (r : Readable (zeros n) m) (least : 1 ≤ size) (most : size ≤ 512)
     (some : chunksOf (n / 512) size ≡ 0 → ⊥) (room : bodyOf (chunksOf (n / 512) size) + 2 ≤ m .left) where
-  abbrev start : World
+  abbrev pub start : World
   start = started (formatCall (zeros n) m size seed) ap₀
 
   formatted : formatOf size seed (zeros n) m .ans .outcome ≡ Done
   formatted = zero-done n size seed m enough r least most some room
 
-  made : FormatMade size (zeros n) m (formatOf size seed (zeros n) m)
+  pub made : FormatMade size (zeros n) m (formatOf size seed (zeros n) m)
   made = format-bytes size seed (zeros n) m (zero-bytes n) formatted
 
-  clean : Clean (zeros n) (formatCall (zeros n) m size seed .call .store)
+  pub clean : Clean (zeros n) (formatCall (zeros n) m size seed .call .store)
   clean = zero-clean n size seed m enough r least most some room made
 
-  start-keeps : Keeps start newBook
+  pub start-keeps : Keeps start newBook
   start-keeps = started-keeps (zeros n) m size seed ap₀ (zero-bytes n) (zero-accepted n size seed m enough r least most some room) r clean
 
   start-fresh : Fresh (diskOf (start .vol) (start .store))
   unfolding formatCall
   start-fresh = format-fresh made clean
 
-  start-next : start .store .head .«next_id» ≡ 1
+  pub start-next : start .store .head .«next_id» ≡ 1
   unfolding formatCall
   start-next = made .next
 
-  start-less : start .store .head .generation ≡ 2 ^ 64 - 1 → ⊥
+  start-cursor : start .store .head .cursor ≡ 0
   unfolding formatCall
-  start-less e = let z : start .store .head .generation ≡ 0 + 1 = format-generation size seed (zeros n) m formatted ∙ ap (λ (k : ℕ). k + 1) (zero-newest n size seed m enough r) in omega (arith, z)
+  start-cursor = made .cursor
+
+  pub start-generation : start .store .head .generation ≡ 0 + 1
+  unfolding formatCall
+  start-generation = format-generation size seed (zeros n) m formatted ∙ ap (λ (k : ℕ). k + 1) (zero-newest n size seed m enough r)
+
+  pub start-less : start .store .head .generation ≡ 2 ^ 64 - 1 → ⊥
+  start-less e = omega (arith, start-generation)
 
   start-alone : (g : Header) → copyOf (start .vol) (baseOf (1 - start .store .copy)) ≡ ours g → sameStore (start .store .head) g ≡ true → ⊥
   unfolding formatCall
   start-alone = format-alone size seed (zeros n) m formatted made
 
-  start-chunks : start .store .head .chunks ≡ chunksOf (n / 512) size
+  pub start-chunks : start .store .head .chunks ≡ chunksOf (n / 512) size
   unfolding formatCall
   start-chunks = format-chunks size seed (zeros n) m formatted ∙ ap (λ (k : ℕ). chunksOf (k / 512) size) (length-zeros n)
 
   -- the writes that a first commit takes
-  abbrev needed : ℕ
+  abbrev pub needed : ℕ
   needed = bodyOf (chunksOf (n / 512) size) + 2
 
   module _ (name : List ℕ) (fine : nameOk name ≡ true) (left : ℕ) where
@@ -109,10 +117,10 @@ module _ (n size seed : ℕ) (m : Medium) (ap₀ : Appender) (enough : 64 ≤ n 
     -- ---- one write too few
 
     stopped : left < needed
-        → (createCall (start .vol) (withLeft left (start .medium)) (start .store) name false [] .answer ≡ refused 4)
+        → (createCall (start .vol) (withLeft left (start .medium)) (start .store) name false [] .call .answer ≡ refused 4)
         × (createCall (start .vol) (withLeft left (start .medium)) (start .store) name false [] .steps ≡ [])
     stopped h =
-        create-stopped (start .vol) (withLeft left (start .medium)) (start .store) (start-keeps .whole .inv) (start-keeps .readable) start-fresh name fine start-less
+        create-stopped (start .vol) (withLeft left (start .medium)) (start .store) (start-keeps .whole .inv) (start-keeps .readable) start-fresh start-cursor name fine start-less
         (λ e. let z : 1 ≡ 2 ^ 32 - 1 = sym start-next ∙ e in omega (arith, z)) start-alone false [] set (rw start-chunks h)
 
     stopped-run : left < needed → (ran start making .accepted ≡ false) × (ran start making .steps ≡ [])
@@ -125,7 +133,7 @@ module _ (n size seed : ℕ) (m : Medium) (ap₀ : Appender) (enough : 64 ≤ n 
 
     -- the create gives 4, and the volume holds no file
     pub create-edge : left < needed
-        → (createCall (start .vol) (withLeft left (start .medium)) (start .store) name false [] .answer ≡ refused 4) × Holds (ran start making .world .vol) newBook
+        → (createCall (start .vol) (withLeft left (start .medium)) (start .store) name false [] .call .answer ≡ refused 4) × Holds (ran start making .world .vol) newBook
     unfolding Given EachStep
     create-edge h =
         let k = call-keeps making start newBook start-keeps tt (subst (EachStep Distinct) (sym (stopped-run h .1)) tt) in
@@ -134,22 +142,22 @@ module _ (n size seed : ℕ) (m : Medium) (ap₀ : Appender) (enough : 64 ≤ n 
     -- ---- enough writes
 
     module _ (h : needed ≤ left) where
-      opened : Opened 1 (rolloverOf false []) (createCall (start .vol) (withLeft left (start .medium)) (start .store) name false [])
+      pub opened : Opened 1 name (start .vol) (withLeft left (start .medium)) (start .store) (rolloverOf false []) (createCall (start .vol) (withLeft left (start .medium)) (start .store) name false [])
       opened =
-          subst (λ (id : ℕ). Opened id (rolloverOf false []) (createCall (start .vol) (withLeft left (start .medium)) (start .store) name false [])) start-next
-          (create-made (start .vol) (withLeft left (start .medium)) (start .store) (start-keeps .whole .inv) (start-keeps .readable) start-fresh name fine start-less
+          subst (λ (id : ℕ). Opened id name (start .vol) (withLeft left (start .medium)) (start .store) (rolloverOf false []) (createCall (start .vol) (withLeft left (start .medium)) (start .store) name false [])) start-next
+          (create-made (start .vol) (withLeft left (start .medium)) (start .store) (start-keeps .whole .inv) (start-keeps .readable) start-fresh start-cursor name fine start-less
           (λ e. let z : 1 ≡ 2 ^ 32 - 1 = sym start-next ∙ e in omega (arith, z)) start-alone false [] set (rw start-chunks h))
 
-      pub create-enough : createCall (start .vol) (withLeft left (start .medium)) (start .store) name false [] .answer ≡ ok tt
+      pub create-enough : createCall (start .vol) (withLeft left (start .medium)) (start .store) name false [] .call .answer ≡ ok tt
       unfolding openedOut
       create-enough = rw (opened .is)
 
-      create-run : ran start making ≡ record {
+      pub create-run : ran start making ≡ record {
         world = record {
-          vol = opened .vol;
-          store = writtenBy (nextToken (opened .medium)) 1 (opened .store);
-          appender = newAppender (nextToken (opened .medium)) (opened .slot) 1 (opened .chunk) 0 (At 0) (rolloverOf false []);
-          medium = withToken (opened .medium);
+          vol = opened .out .vol;
+          store = writtenBy (nextToken (opened .out .ans .medium)) 1 (opened .out .ans .store);
+          appender = newAppender (nextToken (opened .out .ans .medium)) 0 1 0 0 (At 0) (rolloverOf false []);
+          medium = withToken (opened .out .ans .medium);
         };
         accepted = true;
         steps = (record { kind = created; skipped = [] }) ∷ [];
@@ -161,21 +169,21 @@ module _ (n size seed : ℕ) (m : Medium) (ap₀ : Appender) (enough : 64 ≤ n 
       w₂ = ran start making .world
 
       -- the file, with its payloads, and the book with it and some bytes unwritten
-      abbrev the : List (List ℕ) → File
+      abbrev pub the : List (List ℕ) → File
       the payloads = record { name = name; id = 1; chunks = 1; payloads = payloads }
 
-      abbrev with : List (List ℕ) → List ℕ → Book
+      abbrev pub with : List (List ℕ) → List ℕ → Book
       with payloads unwritten = record { next = 2; files = the payloads ∷ []; file = 1; rollover = none; unwritten = unwritten }
 
-      create-book : written making (fedBy start making) newBook ≡ with [] []
+      pub create-book : written making (fedBy start making) newBook ≡ with [] []
       unfolding written termsOf enteredAll entered beforeSteps afterSteps pick
       create-book = rw (fed-is start making (ap (λ (x : Ran). x .accepted) create-run) (ap (λ (x : Ran). x .steps) create-run))
 
-      create-steps : (P : Skipped → Type 0) → EachStep P (ran start making .steps)
+      pub create-steps : (P : Skipped → Type 0) → EachStep P (ran start making .steps)
       unfolding EachStep EachSkipped
       create-steps P = subst (λ (x : Ran). EachStep P (x .steps)) (sym create-run) (tt, tt)
 
-      keeps₂ : Keeps w₂ (with [] [])
+      pub keeps₂ : Keeps w₂ (with [] [])
       unfolding Given
       keeps₂ = subst (Keeps w₂) create-book (call-keeps making start newBook start-keeps tt (create-steps Distinct))
 
@@ -281,7 +289,7 @@ module _ (n size seed : ℕ) (m : Medium) (ap₀ : Appender) (enough : 64 ≤ n 
 -- ---- in numbers
 
 -- 128 sectors with chunks of 4 have a body of 9, and so have 576 with one chunk of 512: a first commit takes 11 writes
-eleven-128 : bodyOf (chunksOf (65536 / 512) 4) + 2 ≡ 11
+pub eleven-128 : bodyOf (chunksOf (65536 / 512) 4) + 2 ≡ 11
 unfolding chunksOf
 eleven-128 = refl
 
@@ -289,7 +297,7 @@ eleven-576 : bodyOf (chunksOf (294912 / 512) 512) + 2 ≡ 11
 unfolding chunksOf
 eleven-576 = refl
 
-some-128 : chunksOf (65536 / 512) 4 ≡ 0 → ⊥
+pub some-128 : chunksOf (65536 / 512) 4 ≡ 0 → ⊥
 unfolding chunksOf
 some-128 e = let z : _≡_ {A = ℕ} 16 0 = e in omega (arith, z)
 
@@ -333,10 +341,10 @@ module _ (seed : ℕ) (m : Medium) (ap₀ : Appender) (left : 11 ≤ m .left) (n
     abbrev pub first-create : ℕ → AppCall
     first-create n = createCall (fresh-576 .vol) (withLeft n (fresh-576 .medium)) (fresh-576 .store) name false []
 
-    pub eleven-writes : first-create 11 .answer ≡ ok tt
+    pub eleven-writes : first-create 11 .call .answer ≡ ok tt
     eleven-writes =
         create-enough 294912 512 seed m ap₀ (lit≤ tt) (rw (length-zeros 294912) r) (lit≤ tt) (lit≤ tt) some-576 (rw eleven-576 left) name fine 11 (rw eleven-576 (lit≤ tt))
 
-    pub ten-writes : (first-create 10 .answer ≡ refused 4) × Holds (ran fresh-576 (create 10 name false []) .world .vol) newBook
+    pub ten-writes : (first-create 10 .call .answer ≡ refused 4) × Holds (ran fresh-576 (create 10 name false []) .world .vol) newBook
     ten-writes =
         create-edge 294912 512 seed m ap₀ (lit≤ tt) (rw (length-zeros 294912) r) (lit≤ tt) (lit≤ tt) some-576 (rw eleven-576 left) name fine 10 (rw eleven-576 (lit< tt))

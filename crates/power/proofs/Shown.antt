@@ -11,35 +11,38 @@ use lib.ListN.{length}
 use Rattle.le.specs.Choice.{pick}
 use Rattle.le.specs.Part.{part, over, zeros}
 use Rattle.names.specs.Names.{nameOk, dirOk}
+use Rattle.names.proofs.Laws.{in-root}
 use Rattle.medium.specs.declared.Medium.{Medium}
+use Rattle.medium.specs.declared.Outcome.{Outcome}
 use Rattle.medium.specs.declared.Outcome.the-variants.{Done}
 use Rattle.medium.specs.Refusal.{ok, onDone}
+use Rattle.medium.specs.Sector.{Readable}
 use Rattle.handles.specs.declared.Store.{Store}
 use Rattle.handles.specs.declared.Writer.the-variants.{Nobody}
-use Rattle.directory.specs.Rows.{rowOf, RowsOut, rowsOf}
-use Rattle.table.specs.Table.{Counted, countOf}
+use Rattle.directory.specs.Rows.{rowOf, RowsOut, rowsOf, rowsTold}
+use Rattle.directory.specs.Scan.{onFound}
+use Rattle.table.specs.Table.{Counted, countOf, onChain}
+use Rattle.directory.specs.Entry.{entryAt}
 use Rattle.reader.specs.Reader.{startOf}
 use Rattle.safe.specs.Inv.{Inv}
 use Rattle.safe.proofs.Invs.{reads, inv-mount, inv-writer}
 use Rattle.layout.specs.Views.{named, diskOf}
 use Rattle.layout.specs.Segments.{Segment, segmentAt, payloadsOf}
 use Rattle.layout.proofs.Facts.{case}
-use Rattle.views.proofs.Shows.{named-facts}
+use Rattle.layout.proofs.Judged.{named-facts}
 use Rattle.views.proofs.Stays.{writer-unchanged}
 use Rattle.folds.specs.Chain.{chainFor}
 use Rattle.folds.specs.Checked.{Checked}
 use Rattle.folds.proofs.Chains.{chain-view}
 use Rattle.folds.proofs.Chunks.{locate-view}
-use Rattle.folds.proofs.Listed.{in-root}
 use Rattle.folds.proofs.Listings.{Listing, list-view}
 use Rattle.folds.proofs.Named.{find-there}
 use Rattle.reading.specs.Gives.{Gives}
 use Rattle.reading.proofs.Reading.{reads-all}
 use Rattle.store.specs.Asked.{askedOf}
-use Rattle.store.specs.Reading.{StoreCall, mountCall, ListCall, listAt, listCall, readerAt, onChain, onFound, readerCall}
+use Rattle.store.specs.Reading.{StoreCall, mountCall, ListCall, listAt, listCall, readerAnswer, readerCall}
 use Rattle.store.proofs.Lists.{short, rows-told}
 use Rattle.power.specs.Book.{File, Book}
-use Rattle.power.specs.History.{Readable}
 use Rattle.power.specs.Claim.{Shows, Holds}
 use Rattle.power.proofs.Whole.{fileOf, Whole}
 use Rattle.power.proofs.Checks.{inv-checked}
@@ -48,15 +51,15 @@ use Rattle.power.proofs.Unmade.{whole-same}
 -- ---- mount
 
 -- the store value that mount gives: no one writes to it
-abbrev pub unwritten : Store → Store
-unwritten st = record { copy = st .copy; head = st .head; writer = Nobody }
+abbrev pub asMounted : Store → Store
+asMounted st = record { copy = st .copy; head = st .head; writer = Nobody }
 
-pub mount-gives : (vol : List ℕ) (m : Medium) (st : Store) → Inv vol st → Readable vol m → mountCall vol m ≡ record { answer = ok tt; store = unwritten st; medium = m }
+pub mount-gives : (vol : List ℕ) (m : Medium) (st : Store) → Inv vol st → Readable vol m → mountCall vol m ≡ record { answer = ok tt; store = asMounted st; medium = m }
 unfolding mountCall
 mount-gives vol m st inv r = rw (inv-mount vol m st inv r)
 
-pub whole-unwritten : {vol : List ℕ} {st : Store} {G : ℕ → List Segment} {b : Book} → Whole vol st G b → Whole vol (unwritten st) G b
-whole-unwritten {vol} {st} w = whole-same w (inv-writer refl refl (w .inv)) (writer-unchanged vol st (unwritten st) refl refl)
+pub whole-mounted : {vol : List ℕ} {st : Store} {G : ℕ → List Segment} {b : Book} → Whole vol st G b → Whole vol (asMounted st) G b
+whole-mounted {vol} {st} w = whole-same w (inv-writer refl refl (w .inv)) (writer-unchanged vol st (asMounted st) refl refl)
 
 -- ---- the listing and the readers, by any store value on which the invariant holds
 
@@ -97,7 +100,7 @@ module _ (vol : List ℕ) (m : Medium) (st : Store) (G : ℕ → List Segment) (
     list-gives : listAt m Done (made .made .count) (counted .counts) (made .made .rows) ≡ listCall vol m st [] counts rows
     list-gives =
         rows-told vol m st [] counts rows (roomy counts rows counters room) root (sym (asked true refl)) refl refl (sym (all-rows .counted), refl) refl
-        refl (sym (all-rows .made)) refl
+        (ap (λ (o : Outcome). rowsTold (record { outcome = o; count = made .made .count }) (made .made .rows)) (sym (all-rows .made)))
 
     pub lists : Shows (listCall vol m st [] counts rows) (b .files)
     lists =
@@ -117,11 +120,11 @@ module _ (vol : List ℕ) (m : Medium) (st : Store) (G : ℕ → List Segment) (
 
   -- the file of a slot, from its start
   module _ (s : ℕ) (name : List ℕ) (id : ℕ) (h : s < 64) (e : diskOf vol st .entry s ≡ named name id) where
-    reader-gives : readerCall vol m st name ≡ readerAt m Done (startOf st s id (chainFor (st .head .chunk) s (G s)))
+    reader-gives : readerCall vol m st name ≡ readerAnswer (record { outcome = Done; reader = startOf st s id (chainFor (st .head .chunk) s (G s)); medium = m })
     unfolding readerCall onDone onFound onChain
     reader-gives =
         rw (
-          asked (nameOk name) (named-facts vol st s e .fine),
+          asked (nameOk name) (named-facts (entryAt vol st s) e .fine),
           find-there vol m st ok-all G (w .good) name s id h e,
           chain-view vol m st ok-all G (w .good) s h (w .good .held s name id h e),
         )
@@ -145,6 +148,6 @@ pub shown : (vol : List ℕ) (st : Store) (G : ℕ → List Segment) (b : Book) 
 shown vol st G b w =
     record {
       mounted = λ m r. ap (λ (c : StoreCall). c .answer) (mount-gives vol m st (w .inv) r);
-      listed = λ m r counts rows c d. rw (mount-gives vol m st (w .inv) r) (lists vol m (unwritten st) G b (whole-unwritten w) r counts rows c d);
-      reads = λ m r f mem. rw (mount-gives vol m st (w .inv) r) (each-reads vol m (unwritten st) G b (whole-unwritten w) r f mem);
+      listed = λ m r counts rows c d. rw (mount-gives vol m st (w .inv) r) (lists vol m (asMounted st) G b (whole-mounted w) r counts rows c d);
+      reads = λ m r f mem. rw (mount-gives vol m st (w .inv) r) (each-reads vol m (asMounted st) G b (whole-mounted w) r f mem);
     }

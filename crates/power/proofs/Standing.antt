@@ -11,14 +11,15 @@ use Rattle.medium.specs.Sector.{sectorsOf}
 use Rattle.names.specs.Names.{dirOk}
 use Rattle.handles.specs.declared.Store.{Store}
 use Rattle.handles.proofs.Laws.{Sane}
+use Rattle.directory.specs.Entry.{entryAt}
 use Rattle.append.specs.declared.Appender.{Appender}
 use Rattle.append.specs.declared.Tail.{Tail}
 use Rattle.append.specs.declared.Tail.the-variants.{At, Reopened, Closed}
 use Rattle.append.specs.Appender.{dirBytes, tailOk, fillOk, appenderOk, Fit}
 use Rattle.layout.specs.Segments.{Segment, segmentAt}
 use Rattle.layout.proofs.Tallies.{chunks-bound}
+use Rattle.layout.proofs.Judged.{named-facts}
 use Rattle.views.proofs.Commits.{inv-sane}
-use Rattle.views.proofs.Shows.{named-facts}
 use Rattle.power.specs.Book.{Book}
 use Rattle.power.proofs.Whole.{Whole, TailAt, Stands}
 
@@ -51,8 +52,8 @@ module _ {vol : List ℕ} {st : Store} {a : Appender} {G : ℕ → List Segment}
   pub id-small : a .id < 2 ^ 32
   id-small = omega (arith, w .good .older (a .slot) (s .name) (a .id) (s .below) (s .entry), w .inv .range .next)
 
-  pub id-some : 1 ≤ a .id
-  id-some = named-facts vol st (a .slot) (s .entry) .some
+  pub id-some : a .id ≡ 0 → ⊥
+  id-some = named-facts (entryAt vol st (a .slot)) (s .entry) .some
 
   pub tail-in : tailOk (a .tail) (st .head .chunk) ≡ true
   tail-in = tail-ok (a .tail) _ (st .head .chunk) count-in (s .tail)
@@ -64,7 +65,7 @@ module _ {vol : List ℕ} {st : Store} {a : Appender} {G : ℕ → List Segment}
   pub stands-passes : a .fill < 486 → appenderOk a st ≡ true
   unfolding appenderOk fillOk
   stands-passes h =
-      let z : a .id ≡ 0 → ⊥ = λ q. omega (arith, id-some) in
+      let z : a .id ≡ 0 → ⊥ = id-some in
       rw (lt-ltb (a .slot) 64 (s .below), ne-eqb (a .id) 0 z, lt-ltb (a .chunk) (st .head .chunks) chunk-in, le-leb (a .position) 2047 position-in, lt-ltb (a .fill) 486 h, tail-in)
       (rolls-in (a .rolls) refl)
 

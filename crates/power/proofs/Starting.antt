@@ -10,23 +10,22 @@ use lib.Dec.{eqb, lit≤, lit<}
 use lib.ListN.{getD, replicate}
 use Rattle.le.specs.Choice.{pick}
 use Rattle.le.specs.Part.{zeros}
-use Rattle.le.proofs.Parts.{length-zeros}
+use Rattle.le.proofs.Parts.{length-zeros, part-zeros}
+use Rattle.le.proofs.Bools.{and-true}
 use Rattle.runs.specs.Run.{startsWith}
 use Rattle.medium.specs.declared.Medium.{Medium}
 use Rattle.medium.specs.declared.Outcome.the-variants.{Done}
 use Rattle.medium.specs.Refusal.{ok, outcomeOf}
-use Rattle.medium.specs.Sector.{sectorsOf, sectorAt}
 use Rattle.handles.specs.declared.Header.{Header}
 use Rattle.handles.specs.declared.Store.{Store}
 use Rattle.handles.specs.Handles.{bodyOf, baseOf}
-use Rattle.handles.proofs.Laws.{and-true}
 use Rattle.header.specs.declared.codec.Replica.the-variants.{Absent}
 use Rattle.header.specs.Header.{ours, bare}
 use Rattle.header.specs.Copies.{copyOf, bothOf, headersOf, sameStore}
 use Rattle.header.proofs.Accepted.{headers-both}
 use Rattle.header.proofs.Edges.{headers-read}
 use Rattle.header.proofs.Fill.{length-unmarked}
-use Rattle.header.proofs.RoundTrip.{part-zeros, zeros-absent}
+use Rattle.header.proofs.RoundTrip.{zeros-absent}
 use Rattle.record.specs.Record.{matchesOf, carriesOf, dataAt}
 use Rattle.record.proofs.Laws.{data-inside}
 use Rattle.plan.specs.Copy.{Plan, Out, isFormat}
@@ -35,14 +34,15 @@ use Rattle.format.proofs.Accepted.{Made, format-made}
 use Rattle.format.proofs.Crcs.{length-crcs}
 use Rattle.format.proofs.Enough.{format-is, format-done}
 use Rattle.format.proofs.Numbers.{copy-lt, chunks-most}
-use Rattle.safe.specs.Frame.{Kept}
+use Rattle.medium.specs.Sector.{sectorsOf, sectorAt, Readable}
+use Rattle.medium.specs.Frame.{Kept}
 use Rattle.safe.specs.Copy.{Good}
 use Rattle.safe.specs.Inv.{FormatMade}
 use Rattle.safe.proofs.Copy.{copy-frame}
 use Rattle.safe.proofs.Invs.{reads}
 use Rattle.safe.proofs.Mounts.{beside}
 use Rattle.store.specs.Writing.{formatCall}
-use Rattle.power.specs.History.{Readable, Clean}
+use Rattle.power.specs.History.{Clean}
 
 -- ---- after any format
 

@@ -9,17 +9,17 @@ use Rattle.handles.specs.declared.Writer.{Writer}
 use Rattle.handles.specs.declared.Writer.the-variants.{Nobody, Open}
 use Rattle.append.specs.declared.Appender.{Appender}
 use Rattle.plan.specs.Copy.{Out}
-use Rattle.layout.specs.Views.{Disk, diskOf}
 use Rattle.layout.specs.Segments.{Segment}
 use Rattle.layout.specs.Changes.{Unchanged}
+use Rattle.layout.specs.Views.{diskOf}
 use Rattle.layout.proofs.Unchanged.{good-same}
-use Rattle.safe.specs.Frame.{Used}
 use Rattle.safe.specs.Inv.{Inv, CommitStopped}
-use Rattle.safe.proofs.Frame.{used-none}
 use Rattle.safe.proofs.Invs.{readable-still}
 use Rattle.views.proofs.Commits.{commit-unchanged}
 use Rattle.power.specs.Book.{Book}
-use Rattle.power.specs.History.{World, Readable}
+use Rattle.medium.specs.Frame.{Spends}
+use Rattle.medium.specs.Sector.{Readable}
+use Rattle.power.specs.History.{World}
 use Rattle.power.proofs.Whole.{Whole, Stands, Writes, Owns, Keeps}
 use Rattle.power.proofs.Ties.{ties-same}
 
@@ -57,7 +57,7 @@ pub record Unmade (vol : List ℕ) (m : Medium) (st : Store) (G : ℕ → List S
   pub whole : Whole v t G b
   pub store : t ≡ st
   pub size : length v ≡ length vol
-  pub used : Used m u
+  pub used : Spends m u
   pub same : Unchanged (diskOf vol st) (diskOf v t)
 
 pub commit-unmade : {vol : List ℕ} {m : Medium} {st : Store} {G : ℕ → List Segment} {b : Book} {o : Out} → Whole vol st G b → CommitStopped vol m st o
@@ -65,14 +65,6 @@ pub commit-unmade : {vol : List ℕ} {m : Medium} {st : Store} {G : ℕ → List
 commit-unmade w c =
     let same = commit-unchanged (w .inv) c in
     record { whole = whole-same w (rw (c .store) (c .inv)) same; store = c .store; size = c .frame .size; used = c .used; same = same }
-
--- nothing done
-unchanged-none : {D : Disk} → Unchanged D D
-unchanged-none =
-    record { shape = record { size = refl; chunks = refl }; next = refl; entries = λ t h. refl; links = λ c h. refl; records = λ c i h k. refl }
-
-pub none-unmade : {vol : List ℕ} (m : Medium) {st : Store} {G : ℕ → List Segment} {b : Book} → Whole vol st G b → Unmade vol m st G b vol m st
-none-unmade m w = record { whole = w; store = refl; size = refl; used = used-none m; same = unchanged-none }
 
 module _ {vol : List ℕ} {m : Medium} {st : Store} {G : ℕ → List Segment} {b : Book} {v : List ℕ} {u : Medium} {t : Store} (n : Unmade vol m st G b v u t) where
   pub unmade-stands : {ap : Appender} {rest : List ℕ} → Stands vol st ap G b rest → Stands v t ap G b rest

@@ -2,13 +2,13 @@
 -- layout G, which segments the file of each slot has, that stands nowhere in the store.
 use Prim.Native.Nat.{ℕ, _+_, _<_, _≤_}
 use mathlib.Core.Path.{_≡_}
-use mathlib.Core.Logic.{_≢_, _⊎_}
-use mathlib.Core.Bool.{Bool, true, false}
+use mathlib.Core.Logic.{_≢_}
+use mathlib.Core.Bool.{true, false}
 use mathlib.Core.List.{List, [], _∷_, _++_, List·Memᴰ}
 use lib.ListN.{length}
 use Rattle.le.specs.Part.{part}
+use Rattle.medium.specs.Sector.{Readable}
 use Rattle.names.specs.Names.{dirOk}
-use Rattle.medium.specs.declared.Medium.{Medium}
 use Rattle.handles.specs.declared.Store.{Store}
 use Rattle.handles.specs.declared.Writer.{Writer}
 use Rattle.handles.specs.declared.Writer.the-variants.{Nobody, Open}
@@ -21,7 +21,7 @@ use Rattle.layout.specs.Views.{Disk, named, diskOf}
 use Rattle.layout.specs.Segments.{Segment, segmentAt, payloadsOf, tally, Good}
 use Rattle.folds.specs.Rows.{listedIn}
 use Rattle.power.specs.Book.{File, Book, ifSet}
-use Rattle.power.specs.History.{World, Readable}
+use Rattle.power.specs.History.{World}
 
 -- ---- the files of the book and the directory
 

@@ -7,15 +7,16 @@ use lib.ListN.{length, getD}
 use Rattle.le.specs.Part.{part}
 use Rattle.medium.specs.declared.Medium.{Medium}
 use Rattle.medium.specs.Refusal.{ok}
+use Rattle.medium.specs.Sector.{Readable}
 use Rattle.directory.specs.Rows.{rowOf}
-use Rattle.plan.specs.Copy.{Skipped}
+use Rattle.plan.specs.Copy.{Skipped, Distinct}
 use Rattle.append.specs.declared.Appender.{Appender}
 use Rattle.reading.specs.Gives.{Gives}
 use Rattle.store.specs.Reading.{mountCall, ListCall, listCall, readerCall}
 use Rattle.store.specs.Writing.{WriteCall, formatCall}
 use Rattle.power.specs.Calls.{Call}
 use Rattle.power.specs.Book.{File, Book, newBook}
-use Rattle.power.specs.History.{World, after, bookOf, Readable, Clean, Honest, Distinct, Premise}
+use Rattle.power.specs.History.{World, after, bookOf, Clean, Honest, Premise}
 
 -- row k of a listing is this file's
 abbrev pub RowIs : List ℕ → ℕ → File → Type 0

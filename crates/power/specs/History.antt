@@ -1,20 +1,19 @@
 -- Demand 3: a history is a list of calls. Each gets the volume as left and the store value, appender and medium record last returned. What a call gives
 -- is what the definitions say that the contracts of the calls cite, and nothing else: mountCall, formatCall, createCall, openCall, appendCall,
 -- syncCall, deleteCall, oldestCall, listCall, findCall, readerCall, nextCall and seekCall. Assumes nothing.
-use Prim.Native.Nat.{ℕ, _<_, _≤_}
+use Prim.Native.Nat.{ℕ, _<_}
 use mathlib.Core.Path.{_≡_}
 use mathlib.Core.Bool.{Bool, true, false}
 use mathlib.Core.Option.{Option, none, some}
 use mathlib.Core.List.{List, [], _∷_, map}
-use Rattle.checksum.specs.Crc.{crc32Of}
 use Rattle.medium.specs.declared.Medium.{Medium}
 use Rattle.medium.specs.Refusal.{Answer, ok, refused}
-use Rattle.medium.specs.Sector.{sectorsOf, sectorAt}
+use Rattle.medium.specs.Sector.{sectorAt, Readable}
 use Rattle.handles.specs.declared.Store.{Store}
 use Rattle.handles.specs.declared.Writer.{Writer}
 use Rattle.handles.specs.declared.Writer.the-variants.{Nobody, Open}
 use Rattle.record.specs.Record.{carriesOf, dataAt}
-use Rattle.plan.specs.Copy.{Skipped, Step}
+use Rattle.plan.specs.Copy.{Skipped, EachSkipped, Step}
 use Rattle.append.specs.declared.Appender.{Appender}
 use Rattle.append.specs.Calls.{AppCall, appendCall, syncCall}
 use Rattle.reader.specs.Calls.{NextCall, nextCall, SeekCall, seekCall}
@@ -86,8 +85,8 @@ ranOldest w c =
 abbrev pub ranCreate : World → AppCall → Ran
 ranCreate w c =
     record {
-      world = record { vol = c .vol; store = c .store; appender = ifOk (c .answer) (c .appender) (w .appender); medium = c .medium };
-      accepted = isOk (c .answer);
+      world = record { vol = c .vol; store = c .call .store; appender = ifOk (c .call .answer) (c .call .appender) (w .appender); medium = c .call .medium };
+      accepted = isOk (c .call .answer);
       steps = c .steps;
     }
 
@@ -95,16 +94,16 @@ ranCreate w c =
 abbrev pub ranReopen : World → AppCall → Ran
 ranReopen w c =
     record {
-      world = record { vol = w .vol; store = c .store; appender = ifOk (c .answer) (c .appender) (w .appender); medium = c .medium };
-      accepted = isOk (c .answer);
+      world = record { vol = w .vol; store = c .call .store; appender = ifOk (c .call .answer) (c .call .appender) (w .appender); medium = c .call .medium };
+      accepted = isOk (c .call .answer);
       steps = [];
     }
 
 abbrev pub ranAppend : AppCall → Ran
 ranAppend c =
     record {
-      world = record { vol = c .vol; store = c .store; appender = c .appender; medium = c .medium };
-      accepted = isOk (c .answer);
+      world = record { vol = c .vol; store = c .call .store; appender = c .call .appender; medium = c .call .medium };
+      accepted = isOk (c .call .answer);
       steps = c .steps;
     }
 
@@ -151,10 +150,6 @@ bookOf w (c ∷ cs) b = bookOf (ran w c .world) cs (written c (fedBy w c) b)
 
 -- ---- premises
 
--- every sector reads
-abbrev pub Readable : List ℕ → Medium → Type 0
-Readable vol m = sectorsOf vol ≤ m .unreadable
-
 -- no data sector of a store passes as a record of its id, whatever file and number it has
 abbrev pub Clean : List ℕ → Store → Type 0
 Clean vol st = (c i : ℕ) → c < st .head .chunks → i < st .head .chunk → carriesOf (st .head .id) (sectorAt vol (dataAt st c i)) ≡ false
@@ -173,21 +168,13 @@ Given w (deleteOldest left dir) = Unit
 Given w (query q) = Unit
 
 -- of each body sector that a finished commit left unwritten
-unfoldable pub EachSkipped : (Skipped → Type 0) → List Skipped → Type 0
-EachSkipped P [] = Unit
-EachSkipped P (s ∷ ss) = P s × EachSkipped P ss
-
 unfoldable pub EachStep : (Skipped → Type 0) → List Step → Type 0
 EachStep P [] = Unit
 EachStep P (s ∷ ss) = EachSkipped P (s .skipped) × EachStep P ss
 
--- demand 3's words: it held the bytes due there
+-- demand 3's words: it held the bytes due there. The theorem is proved under a weaker premise, `Distinct`: if the checksums are equal, the bytes are
 abbrev pub Honest : Skipped → Type 0
 Honest s = s .held ≡ s .due
-
--- and the weaker premise under which the theorem is proved: if the checksums are equal, the bytes are
-abbrev pub Distinct : Skipped → Type 0
-Distinct s = crc32Of (s .held) ≡ crc32Of (s .due) → s .held ≡ s .due
 
 unfoldable pub Premise : (Skipped → Type 0) → World → List Call → Type 0
 Premise P w [] = Unit

@@ -2,22 +2,24 @@
 use mathlib.Core.Path.{_≡_, refl}
 use mathlib.Core.Bool.{Bool, true, false}
 use mathlib.Core.List.{List}
-use Prim.Native.Nat.{ℕ, _+_, _*_, _^_, _≤_, _<_}
-use native.Mathlib.Nat.{le-refl, mul-le-mul}
+use Prim.Native.Nat.{ℕ, _+_, _≤_, _<_}
+use native.Mathlib.Nat.{le-refl}
 use native.Mathlib.Omega.{arith}
 use borrow.Author.Tests.{ltb-true, leb-true, leb-false, eqb-false, not-true, lt-ltb, le-leb, ne-eqb}
 use lib.Dec.{ltb, leb}
 use Rattle.le.specs.Choice.{pick}
 use Rattle.le.proofs.Choices.{pick-keeps}
 use Rattle.le.proofs.Turns.{told}
+use Rattle.le.proofs.Bools.{and-true}
 use Rattle.medium.specs.declared.Error.the-variants.{Handle, Stale}
 use Rattle.medium.specs.declared.Medium.{Medium}
 use Rattle.medium.specs.declared.Outcome.{Outcome}
 use Rattle.medium.specs.declared.Outcome.the-variants.{Done, No}
 use Rattle.medium.specs.Sector.{sectorsOf}
+use Rattle.medium.proofs.Laws.{not-done}
 use Rattle.handles.specs.declared.Store.{Store}
 use Rattle.handles.specs.Handles.{storeOk}
-use Rattle.handles.proofs.Laws.{and-true, Held, store-facts}
+use Rattle.handles.proofs.Laws.{Held, store-facts}
 use Rattle.table.specs.declared.Link.{Link}
 use Rattle.table.specs.declared.ChainParts.{ChainParts}
 use Rattle.table.specs.declared.Chained.the-variants.{Whole}
@@ -26,7 +28,7 @@ use Rattle.table.proofs.Walks.{chain-range}
 use Rattle.reader.specs.declared.End.{End}
 use Rattle.reader.specs.declared.End.the-variants.{Last, Records}
 use Rattle.reader.specs.declared.Reader.{Reader}
-use Rattle.reader.specs.Reader.{endOk, readerOk, endOf, startOf, movedTo, insideOf}
+use Rattle.reader.specs.Reader.{endOk, readerOk, noReader, endOf, startOf, movedTo, insideOf}
 use Rattle.reader.specs.Next.{passedEnd, limitOf}
 use Rattle.reader.specs.Calls.{usableOf}
 
@@ -68,11 +70,16 @@ unfolding readerOk
 reader-ok rd st r =
     rw (lt-ltb _ _ (r .slot), ne-eqb _ _ (r .id), le-leb _ _ (r .chunks-least), le-leb _ _ (r .chunks-most), lt-ltb _ _ (r .chunk), le-leb _ _ (r .position), le-leb _ _ (r .index), r .end)
 
+-- what a refused call holds never passes
+pub none-fails : (st : Store) → readerOk noReader st ≡ false
+unfolding readerOk noReader
+none-fails st = refl
+
 -- the store value and the reader of an accepted call
 used : (a b : Bool) → pick a (pick b Done (No Stale)) (No Handle) ≡ Done → a ≡ true
 unfolding pick
 used true b e = refl
-used false b e = absurd (let z : _≡_ {A = ℕ} 0 1 = cc in omega arith)
+used false b e = not-done e
 
 pub usable-facts : (vol : List ℕ) (st : Store) (rd : Reader) {o : Outcome} → o ≡ usableOf vol st rd → o ≡ Done → (storeOk st (sectorsOf vol) ≡ true) × (readerOk rd st ≡ true)
 unfolding usableOf
@@ -148,14 +155,8 @@ start-ok vol m st slot id {p} ok s i e =
 
 -- ---- numbers
 
--- of a reader that passes
-pub number-small : (position size index : ℕ) → position ≤ 2048 → size ≤ 512 → index ≤ 512 → position * size + index < 2 ^ 32
-number-small position size index p s i =
-    let q : position * size ≤ 2048 * 512 = mul-le-mul p s in
-    omega arith
-
 pub number-needs : (st : Store) (rd : Reader) (sectors i : ℕ) → storeOk st sectors ≡ true → Reads rd st → i ≤ st .head .chunk
-    → (rd .position ≤ 2048) × (st .head .chunk ≤ 512) × (i ≤ 512)
+    → (rd .position ≤ 32767) × (st .head .chunk ≤ 512) × (i ≤ 512)
 number-needs st rd sectors i ok r h =
     let s : st .head .chunk ≤ 512 = store-facts st sectors ok .head .size-most in
     (omega (arith, r .position, r .chunks-most), s, omega arith)

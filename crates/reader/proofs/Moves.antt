@@ -17,23 +17,15 @@ use Rattle.medium.specs.declared.Outcome.the-variants.{Done, No}
 use Rattle.medium.specs.Refusal.{onDone}
 use Rattle.medium.proofs.Laws.{onDone-keeps}
 use Rattle.handles.specs.declared.Store.{Store}
-use Rattle.table.specs.declared.Link.{Link}
-use Rattle.table.specs.declared.Place.{Place}
-use Rattle.table.specs.declared.Place.the-variants.{Refused, At}
 use Rattle.table.specs.Table.{locateOf}
 use Rattle.table.proofs.Walks.{locate-range}
+use Rattle.table.proofs.Decides.{onPlace-keeps}
 use Rattle.reader.specs.declared.Reader.{Reader}
 use Rattle.reader.specs.declared.Entered.{Entered}
 use Rattle.reader.specs.declared.Arrived.{Arrived}
-use Rattle.reader.specs.Reader.{readerOk, movedTo, insideOf, onPlace, enterOf, seekOf}
+use Rattle.reader.specs.Reader.{movedTo, insideOf, enterOf, seekOf}
 use Rattle.reader.specs.Next.{passedEnd, limitOf, arriveStep, arriveOf}
-use Rattle.reader.proofs.Facts.{Reads, reader-facts, reader-ok, below-limit, moved-reads, inside-reads}
-
-pub onPlace-keeps : {A : Type 0} (P : A → Type 0) (p : Place) (f : Error → A) (g : ℕ → Link → A) → ((e : Error) → p ≡ Refused e → P (f e))
-    → ((c : ℕ) (l : Link) → p ≡ At c l → P (g c l)) → P (onPlace p f g)
-unfolding onPlace
-onPlace-keeps P (Refused e) f g a b = a e refl
-onPlace-keeps P (At c l) f g a b = b c l refl
+use Rattle.reader.proofs.Facts.{Reads, below-limit, moved-reads, inside-reads}
 
 -- ---- entering
 
@@ -52,10 +44,6 @@ module _ (vol : List ℕ) (m : Medium) (st : Store) (rd : Reader) (position inde
   unfolding enterOf insideOf
   enter-inside =
       onPlace-keeps Inside (locateOf vol m st (rd .slot) position) _ _ (λ e q z. absurd (let z : _≡_ {A = ℕ} 0 1 = cc in omega arith)) (λ c l q z. (refl, refl))
-
-pub enter-ok : (vol : List ℕ) (m : Medium) (st : Store) (rd : Reader) (position index : ℕ) → readerOk rd st ≡ true → position ≤ rd .chunks → index ≤ st .head .chunk
-    → readerOk (enterOf vol m st rd position index .reader) st ≡ true
-enter-ok vol m st rd position index r p i = reader-ok _ st (enter-reads vol m st rd position index (reader-facts rd st r) p i)
 
 -- ---- seeking
 

@@ -10,10 +10,11 @@ use lib.ListN.{length}
 use Rattle.le.specs.Choice.{pick}
 use Rattle.le.proofs.Choices.{pick-keeps-by}
 use Rattle.medium.specs.declared.Error.{Error}
+use Rattle.medium.specs.declared.Error.the-variants.{Range}
 use Rattle.medium.specs.declared.Medium.{Medium}
 use Rattle.medium.specs.declared.Outcome.{Outcome}
 use Rattle.medium.specs.declared.Outcome.the-variants.{Done, No}
-use Rattle.medium.specs.Refusal.{numberOf, Answer, ok, refused, onDone, outcomeOf}
+use Rattle.medium.specs.Refusal.{numberOf, ok, refused, onDone}
 use Rattle.medium.specs.Sector.{sectorsOf}
 use Rattle.medium.proofs.Laws.{onDone-keeps}
 use Rattle.handles.specs.declared.Store.{Store}
@@ -25,7 +26,7 @@ use Rattle.reader.specs.declared.Next.the-variants as found
 use Rattle.reader.specs.declared.Taken.{Taken}
 use Rattle.reader.specs.Reader.{readerOk, seekOf}
 use Rattle.reader.specs.Next.{nextOf}
-use Rattle.reader.specs.Calls.{usableOf, Item, payload, nextAnswer, NextCall, nextCall, SeekCall, seekCall}
+use Rattle.reader.specs.Calls.{usableOf, payload, nextAnswer, NextCall, readAnswer, nextCall, SeekCall, soughtAnswer, seekCall}
 use Rattle.reader.proofs.Facts.{reader-facts, reader-ok, usable-facts}
 use Rattle.reader.proofs.Moves.{seek-reads}
 use Rattle.reader.proofs.Finds.{Finds, next-finds}
@@ -33,17 +34,15 @@ use Rattle.reader.proofs.Finds.{Finds, next-finds}
 -- ---- seek
 
 module _ (vol : List ℕ) (m : Medium) (st : Store) (rd : Reader) (number : ℕ) {o : Outcome} (asked : o ≡ usableOf vol st rd) where
-  abbrev Seeks : Answer (Unit {0}) → Reader → Type 0
-  Seeks a r = (a ≡ seekCall vol m st rd number .answer) × (r ≡ seekCall vol m st rd number .reader) × (m ≡ seekCall vol m st rd number .medium)
-
-  pub seek-refused : {e : Error} → o ≡ No e → Seeks (refused (numberOf e)) rd
+  pub seek-refused : {e : Error} → o ≡ No e → soughtAnswer (record { outcome = No e; reader = rd; medium = m }) ≡ seekCall vol m st rd number
   unfolding seekCall onDone
-  seek-refused q = rw (← asked, q) (refl, refl, refl)
+  seek-refused q = rw (← asked, q)
 
-  pub seek-done : {d : Entered} → o ≡ Done → d ≡ seekOf vol m st rd number → Seeks (outcomeOf (d .outcome)) (d .reader)
+  pub seek-done : {d : Entered} → o ≡ Done → d ≡ seekOf vol m st rd number → soughtAnswer (record { outcome = d .outcome; reader = d .reader; medium = m }) ≡ seekCall vol m st rd number
   unfolding seekCall onDone
-  seek-done q e = rw (← asked, q, e) (refl, refl, refl)
+  seek-done q e = rw (← asked, q, e)
 
+-- the reader handed back passes refusal 3 again
 pub seek-ok : (vol : List ℕ) (m : Medium) (st : Store) (rd : Reader) (number : ℕ) → readerOk rd st ≡ true → readerOk (seekCall vol m st rd number .reader) st ≡ true
 unfolding seekCall
 seek-ok vol m st rd number r =
@@ -54,21 +53,19 @@ seek-ok vol m st rd number r =
 -- ---- next
 
 module _ (vol : List ℕ) (m : Medium) (st : Store) (rd : Reader) (out : List ℕ) where
-  abbrev Gives : Answer Item → Reader → List ℕ → Type 0
-  Gives a r l = (a ≡ nextCall vol m st rd out .answer) × (r ≡ nextCall vol m st rd out .reader) × (l ≡ nextCall vol m st rd out .out) × (m ≡ nextCall vol m st rd out .medium)
-
-  pub next-short : length out < 486 → Gives (refused 2) rd out
+  pub next-short : length out < 486 → readAnswer (record { next = found.Refused Range; reader = rd; medium = m }) out ≡ nextCall vol m st rd out
   unfolding nextCall pick
-  next-short h = rw (lt-ltb _ _ h) (refl, refl, refl, refl)
+  next-short h = rw (lt-ltb _ _ h)
 
   module _ (enough : 486 ≤ length out) {o : Outcome} (asked : o ≡ usableOf vol st rd) where
-    pub next-no : {e : Error} → o ≡ No e → Gives (refused (numberOf e)) rd out
+    pub next-no : {e : Error} → o ≡ No e → readAnswer (record { next = found.Refused e; reader = rd; medium = m }) out ≡ nextCall vol m st rd out
     unfolding nextCall pick onDone
-    next-no q = rw (le-ltb _ _ enough, ← asked, q) (refl, refl, refl, refl)
+    next-no q = rw (le-ltb _ _ enough, ← asked, q)
 
-    pub next-done : {t : Taken} {l : List ℕ} → o ≡ Done → l ≡ nextOf vol m st rd out .out → t ≡ nextOf vol m st rd out .ans → Gives (nextAnswer (t .next)) (t .reader) l
+    pub next-done : {t : Taken} {l : List ℕ} → o ≡ Done → l ≡ nextOf vol m st rd out .out → t ≡ nextOf vol m st rd out .ans
+        → readAnswer (record { next = t .next; reader = t .reader; medium = m }) l ≡ nextCall vol m st rd out
     unfolding nextCall pick onDone
-    next-done q e f = rw (le-ltb _ _ enough, ← asked, q, e, f) (refl, refl, refl, refl)
+    next-done q e f = rw (le-ltb _ _ enough, ← asked, q, e, f)
 
 -- what it hands back: a reader that passes, an output of the same length, and no more payload than a record has
 pub record Offered (st : Store) (out : List ℕ) (c : NextCall) : Type 0 where
@@ -99,6 +96,3 @@ module _ (vol : List ℕ) (m : Medium) (st : Store) (rd : Reader) (out : List �
         size = λ n w. f .size n (payload-only (nextOf vol m st rd out .ans .next) n w);
       })
       (λ e q. declined (numberOf e)))
-
-  pub next-ok : readerOk (nextCall vol m st rd out .reader) st ≡ true
-  next-ok = next-offered .reader

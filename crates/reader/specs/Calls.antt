@@ -16,6 +16,8 @@ use Rattle.handles.specs.declared.Store.{Store}
 use Rattle.handles.specs.Handles.{storeOk}
 use Rattle.record.specs.Record.{numberAt}
 use Rattle.reader.specs.declared.Reader.{Reader}
+use Rattle.reader.specs.declared.Read.{Read}
+use Rattle.reader.specs.declared.Sought.{Sought}
 use Rattle.reader.specs.declared.Entered.{Entered}
 use Rattle.reader.specs.declared.Next.{Next}
 use Rattle.reader.specs.declared.Next.the-variants as found
@@ -50,6 +52,10 @@ pub record NextCall : Type 0 where
   pub out : List ℕ
   pub medium : Medium
 
+-- the answer, beside what the lent output holds
+abbrev pub readAnswer : Read → List ℕ → NextCall
+readAnswer r out = record { answer = nextAnswer (r .next); reader = r .reader; out = out; medium = r .medium }
+
 unfoldable pub nextCall : List ℕ → Medium → Store → Reader → List ℕ → NextCall
 nextCall vol m st rd out =
     let no : ℕ → NextCall = λ n. record { answer = refused n; reader = rd; out = out; medium = m } in
@@ -65,6 +71,9 @@ pub record SeekCall : Type 0 where
   pub answer : Answer (Unit {0})
   pub reader : Reader
   pub medium : Medium
+
+abbrev pub soughtAnswer : Sought → SeekCall
+soughtAnswer r = record { answer = outcomeOf (r .outcome); reader = r .reader; medium = r .medium }
 
 unfoldable pub seekCall : List ℕ → Medium → Store → Reader → ℕ → SeekCall
 seekCall vol m st rd number =

@@ -4,15 +4,12 @@ use mathlib.Core.Bool.{Bool, true, not, _&&_}
 use mathlib.Core.List.{List}
 use lib.Dec.{ltb, leb, eqb}
 use Rattle.le.specs.Choice.{pick}
-use Rattle.medium.specs.declared.Error.{Error}
 use Rattle.medium.specs.declared.Medium.{Medium}
 use Rattle.medium.specs.declared.Outcome.the-variants.{Done, No}
 use Rattle.handles.specs.declared.Store.{Store}
 use Rattle.table.specs.declared.Link.{Link}
-use Rattle.table.specs.declared.Place.{Place}
-use Rattle.table.specs.declared.Place.the-variants.{Refused, At}
 use Rattle.table.specs.declared.ChainParts.{ChainParts}
-use Rattle.table.specs.Table.{locateOf}
+use Rattle.table.specs.Table.{locateOf, onPlace}
 use Rattle.reader.specs.declared.End.{End}
 use Rattle.reader.specs.declared.End.the-variants.{Last, Records}
 use Rattle.reader.specs.declared.Reader.{Reader}
@@ -53,24 +50,9 @@ startOf st slot id p =
       index = 0;
     }
 
--- the reader at another record of its chunk, or past its chunks
-unfoldable pub movedTo : Reader → ℕ → ℕ → Reader
-movedTo rd position index =
-    record {
-      store = rd .store;
-      generation = rd .generation;
-      slot = rd .slot;
-      id = rd .id;
-      chunks = rd .chunks;
-      chunk = rd .chunk;
-      end = rd .end;
-      position = position;
-      index = index;
-    }
-
--- the reader in another chunk of its file
-unfoldable pub insideOf : Store → Reader → ℕ → ℕ → ℕ → Link → Reader
-insideOf st rd position index chunk l =
+-- the same reader, elsewhere in its file: in a chunk that ends so, at a position and an index
+abbrev pub standing : Reader → ℕ → End → ℕ → ℕ → Reader
+standing rd chunk end position index =
     record {
       store = rd .store;
       generation = rd .generation;
@@ -78,15 +60,19 @@ insideOf st rd position index chunk l =
       id = rd .id;
       chunks = rd .chunks;
       chunk = chunk;
-      end = endOf (rd .chunks) position (st .head .chunk) (l .partial) (l .records);
+      end = end;
       position = position;
       index = index;
     }
 
--- a decision by what the table says of a position. It stays shut in proofs
-unfoldable pub onPlace : {A : Type 0} → Place → (Error → A) → (ℕ → Link → A) → A
-onPlace (Refused e) f g = f e
-onPlace (At chunk l) f g = g chunk l
+-- at another record of its chunk, or past its chunks
+unfoldable pub movedTo : Reader → ℕ → ℕ → Reader
+movedTo rd position index = standing rd (rd .chunk) (rd .end) position index
+
+-- in another chunk
+unfoldable pub insideOf : Store → Reader → ℕ → ℕ → ℕ → Link → Reader
+insideOf st rd position index chunk l =
+    standing rd chunk (endOf (rd .chunks) position (st .head .chunk) (l .partial) (l .records)) position index
 
 -- entering the chunk at a position: the table says where it is. Refused, the reader has not moved
 unfoldable pub enterOf : List ℕ → Medium → Store → Reader → ℕ → ℕ → Entered

@@ -23,7 +23,7 @@ use Rattle.handles.specs.Handles.{storeOk}
 use Rattle.handles.proofs.Laws.{Held, store-facts}
 use Rattle.table.specs.declared.Link.{Link}
 use Rattle.table.specs.declared.Place.the-variants.{At}
-use Rattle.table.specs.Table.{locateOf}
+use Rattle.table.specs.Table.{locateOf, onPlace}
 use Rattle.directory.specs.Entry.{entryAt}
 use Rattle.record.specs.declared.Judged.{Judged}
 use Rattle.record.specs.declared.Judged.the-variants as judged
@@ -33,7 +33,7 @@ use Rattle.reader.specs.declared.End.{End}
 use Rattle.reader.specs.declared.End.the-variants.{Last, Records}
 use Rattle.reader.specs.declared.Reader.{Reader}
 use Rattle.reader.specs.declared.Next.the-variants as found
-use Rattle.reader.specs.Reader.{endOf, startOf, movedTo, insideOf, onPlace, enterOf}
+use Rattle.reader.specs.Reader.{endOf, startOf, movedTo, insideOf, enterOf}
 use Rattle.reader.specs.Next.{passedEnd, arriveOf, recordAt, tells, NextOut, nextOf}
 use Rattle.reader.specs.Calls.{payload, end, nextAnswer, NextCall, nextCall}
 use Rattle.reader.proofs.Facts.{Reads, end-within}
@@ -43,7 +43,7 @@ use Rattle.layout.specs.Views.{named, diskOf}
 use Rattle.layout.specs.Segments.{Segment, noSegment, segmentAt, payloadsOf, linkFor, Good}
 use Rattle.layout.proofs.Facts.{case, full-link, partial-link, one-place}
 use Rattle.layout.proofs.Tallies.{chunks-bound}
-use Rattle.layout.proofs.Judged.{Passed, stored-judged, judged-other, named-some}
+use Rattle.layout.proofs.Judged.{Passed, stored-judged, judged-other, named-facts}
 use Rattle.reading.specs.Gives.{Gives}
 use Rattle.reading.proofs.Turns.{usable, next-alike, next-here, take-valid, take-other, search-none, hole-none}
 
@@ -134,7 +134,7 @@ module _ (vol : List ℕ) (m : Medium) (st : Store) (G : ℕ → List Segment) (
   accepted p i h k =
       record {
         slot = s<;
-        id = named-some (entryAt vol st s) is;
+        id = named-facts (entryAt vol st s) is .some;
         chunks-least = d .held s name id s< is;
         chunks-most = omega (arith, chunks-bound d s s<, held .head .chunks-most);
         chunk = d .inside s p s< h;
@@ -299,11 +299,7 @@ module _ (vol : List ℕ) (m : Medium) (st : Store) (G : ℕ → List Segment) (
           rw (called p i out h k e, a) (refl, part-over 0 x out (omega (arith, w, e)), ih (t .q) (t .j) (t .in-file) (t .in-chunk) (t .left ∙ v))
       go ih (over-now a b) out e = absurd (let z : _≡_ {A = ℕ} 0 1 = cc in omega (arith, z))
 
-  -- from any place of the file what is left of its payloads, and from its start all of them
-  pub reads-from : (p i : ℕ) → p < length (G s) → i ≤ length (segmentAt (G s) p .payloads)
-      → Gives vol m st (readerAt st s id (G s) p i) (drop i (segmentAt (G s) p .payloads) ++ payloadsOf (drop (p + 1) (G s)))
-  reads-from p i h k = gives (rest (G s) p i) p i h k refl
-
+  -- from the file's start
   pub reads-all : (last : ℕ)
       → Gives vol m st
       (startOf st s id record {

@@ -1,16 +1,14 @@
 -- The sector of a record, and what the functions' answers are, over plain values. Assumes nothing.
-use mathlib.Core.Path.{_≡_, sym, ap, ap₂, _∙_}
-use mathlib.Core.List.{List, [], _++_, append-nil}
+use mathlib.Core.Path.{_≡_, sym, ap, _∙_}
+use mathlib.Core.List.{List, _++_}
 use Prim.Native.Nat.{ℕ, _+_, _-_, _*_, _/_, _%_, _^_, _≤_, _<_}
-use native.Mathlib.Nat.{mul-le-mul, zero-add, add-sub-cancel-left}
+use native.Mathlib.Nat.{mul-le-mul}
 use native.Mathlib.Omega.{arith}
 use lib.Arith.{digits-lt, digits-div, digits-mod}
-use lib.ListN.{length, take, drop}
-use lib.Seq.{drop-length}
+use lib.ListN.{length}
 use Rattle.le.specs.Part.{over, zeros}
 use Rattle.le.specs.Field.{putLe}
-use Rattle.le.proofs.Parts.{length-zeros, over-over, over-back}
-use Rattle.medium.specs.Sector.{writeAt}
+use Rattle.le.proofs.Parts.{length-zeros, over-over, over-whole}
 use Rattle.seal.specs.Seal.{sealed}
 use Rattle.handles.specs.declared.Store.{Store}
 use Rattle.record.specs.Record.{mark, unsealedOf, recordOf, dataAt, numberAt}
@@ -45,19 +43,18 @@ pub number-one : (size a i b j : ℕ) → i < size → j < size → numberAt a s
 unfolding numberAt
 number-one size a i b j hi hj e = place-one size a i b j hi hj e
 
--- ---- a sector filled, and lent and written back
+-- the number of a record fits 32 bits
+pub number-small : (position size index : ℕ) → position ≤ 32767 → size ≤ 512 → index ≤ 512 → position * size + index < 2 ^ 32
+number-small position size index p s i =
+    let q : position * size ≤ 32767 * 512 = mul-le-mul p s in
+    omega arith
 
--- all of a list written over
-over-all : (vs l : List ℕ) → length vs ≡ length l → over 0 vs l ≡ vs
-unfolding over
-over-all vs l e =
-    let z : drop (length vs) l ≡ [] = rw e (drop-length l) in
-    rw (zero-add, z) (append-nil vs)
+-- ---- a sector filled
 
 marked : (l : List ℕ) → length l ≡ 512 → over 4 (zeros 508) (over 0 mark l) ≡ mark ++ zeros 508
 marked l e =
     let n : length {A = ℕ} (zeros 508) ≡ 508 = length-zeros 508 in
-    over-over 0 mark (zeros 508) l (omega arith) ∙ over-all (mark ++ zeros 508) l (omega arith)
+    over-over 0 mark (zeros 508) l (omega arith) ∙ over-whole (mark ++ zeros 508) l (omega arith)
 
 -- the mark, zeros, the fields, the payload and the checksum, put one after the other
 pub record-made : (id file number : ℕ) (payload l : List ℕ) {a b u v w x y z : List ℕ} → length l ≡ 512 → a ≡ over 0 mark l → b ≡ over 4 (zeros 508) a
@@ -65,11 +62,3 @@ pub record-made : (id file number : ℕ) (payload l : List ℕ) {a b u v w x y z
     → z ≡ recordOf id file number payload
 unfolding recordOf unsealedOf
 record-made id file number payload l h ea eb eu ev ew ex ey ez = rw (ez, ey, ex, ew, ev, eu, eb, ea, marked l h)
-
--- a sector of the volume, lent and filled
-pub written-back : (vol bytes : List ℕ) {a k : ℕ} {vs : List ℕ} → a ≡ k → vs ≡ bytes → length bytes ≡ 512
-    → take (512 * a) vol ++ (vs ++ drop (512 * a + 512 - 512 * a) (drop (512 * a) vol)) ≡ writeAt vol k bytes
-unfolding writeAt
-written-back vol bytes {a} {k} {vs} d e n =
-    let m : length vs ≡ 512 * a + 512 - 512 * a = ap length e ∙ n ∙ sym (add-sub-cancel-left (512 * a) 512) in
-    over-back (512 * a) (512 * a + 512) vs vol m ∙ ap₂ (λ (j : ℕ) (r : List ℕ). over (512 * j) r vol) d e

@@ -1,7 +1,7 @@
 -- What was made is judged valid, at its own store, file and number only, and its payload is read back. Assumes nothing.
 use mathlib.Core.Path.{_≡_, refl, ap, _∙_}
 use mathlib.Core.Bool.{Bool, true, false, _&&_}
-use mathlib.Core.List.{List, [], _∷_, _++_}
+use mathlib.Core.List.{List, _++_}
 use Prim.Native.Nat.{ℕ, _+_, _*_, _^_, _≤_, _<_}
 use native.Mathlib.Nat.{mod-eq-of-lt}
 use native.Mathlib.Omega.{arith}
@@ -16,7 +16,9 @@ use Rattle.le.proofs.Parts.{length-zeros, length-over, part-over, part-before, 
 use Rattle.le.proofs.Fields.{length-put, put-before}
 use Rattle.le.proofs.Layouts.{length-all, outside, got, none}
 use Rattle.le.proofs.Turns.{told}
+use Rattle.le.proofs.Bools.{and-true}
 use Rattle.runs.specs.Run.{startsWith}
+use Rattle.runs.proofs.Tests.{starts-front}
 use Rattle.checksum.specs.Crc.{crc32Of}
 use Rattle.seal.specs.Seal.{sealed, isSealed}
 use Rattle.seal.proofs.Laws.{sealed-is}
@@ -26,7 +28,6 @@ use Rattle.medium.specs.declared.Outcome.the-variants.{Done, No}
 use Rattle.medium.specs.Refusal.{onDone}
 use Rattle.medium.specs.Sector.{sectorAt, readOf}
 use Rattle.handles.specs.declared.Store.{Store}
-use Rattle.handles.proofs.Laws.{and-true}
 use Rattle.record.specs.declared.Judged.{Judged}
 use Rattle.record.specs.declared.Judged.the-variants.{Refused, Valid, Other}
 use Rattle.record.specs.Record.{mark, fieldsOf, unsealedOf, recordOf, matchesOf, judgeOf, carriesOf, payloadOf, dataAt, readRecordOf}
@@ -93,16 +94,6 @@ unfolding carriesOf judgeOf pick
 carries-judge id s e = rw e
 
 -- ---- what was made
-
--- a list that begins with another
-starts-front : (w s : List ℕ) → take (length w) s ≡ w → startsWith w s ≡ true
-unfolding startsWith
-starts-front [] s e = refl
-starts-front (w ∷ ws) [] e = absurd (let z : _≡_ {A = ℕ} 0 1 = cc in omega arith)
-starts-front (w ∷ ws) (x ∷ xs) e =
-    let p : x ≡ w = cc in
-    let q : take (length ws) xs ≡ ws = cc in
-    rw (eq-eqb x w p) (starts-front ws xs q)
 
 length-blank : length (mark ++ zeros 508) ≡ 512
 length-blank = let n : length {A = ℕ} (zeros 508) ≡ 508 = length-zeros 508 in omega arith
@@ -194,9 +185,6 @@ module _ (id file number : ℕ) (payload : List ℕ) (short : length payload ≤
     judge-other id′ file′ number′ e =
         let p = judge-facts id′ file′ number′ (recordOf id file number payload) e in
         (told (p .store) store-back, (told (p .owner) owner-back, (told (p .place) place-back, told (p .size) size-back)))
-
-    pub carries-other : (id′ : ℕ) → carriesOf id′ (recordOf id file number payload) ≡ true → id′ ≡ id
-    carries-other id′ e = judge-other id′ _ _ (carries-judge id′ (recordOf id file number payload) e) .0
 
 -- ---- what was read
 

@@ -8,7 +8,7 @@ ghost use mathlib.Core.Path.{_≡_};
 ghost use Prim.Native.Nat.{_≤_, _<_};
 ghost use lib.ListN.{length};
 ghost use Rattle.medium.specs.Sector.{sectorsOf};
-ghost use Rattle.record.specs.Record.{recordOf, matchesOf, judgeOf, dataAt, readRecordOf, writeRecordOf};
+ghost use Rattle.record.specs.Record.{recordOf, matchesOf, judgeOf, dataAt, numberAt, readRecordOf, writeRecordOf};
 
 // What a data sector is found to be: unread, a record with so many bytes of payload, or anything else.
 pub enum Judged {
@@ -22,6 +22,14 @@ pub fn data(store: Store, chunk: u32, index: u32) -> u64
     ensures { λ r. ⌜ r ≡ dataAt store chunk index ⌝ }
 {
     64 + (chunk as u64) * (store.head.chunk as u64) + (index as u64)
+}
+
+// The number of a record, by its chunk's position in the file, the chunk size and its index there.
+pub fn number_at(position: u32, size: u32, index: u32) -> u32
+    requires { ⌜ (position ≤ 32767) × (size ≤ 512) × (index ≤ 512) ⌝ }
+    ensures { λ r. ⌜ r ≡ numberAt position size index ⌝ }
+{
+    position * size + index
 }
 
 // Every test of a record but its checksum, so that a sector that holds another costs no checksum.

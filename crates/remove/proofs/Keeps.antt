@@ -6,15 +6,16 @@ use Prim.Native.Nat.{ℕ, _≤_}
 use borrow.Author.Tests.{eqb-false, ne-eqb}
 use lib.Dec.{eqb, lit≤}
 use lib.ListN.{length}
-use Rattle.le.specs.Part.{part}
 use Rattle.le.proofs.Choices.{pick-keeps, pick-keeps-by, pick-false}
 use Rattle.medium.specs.declared.Medium.{Medium}
 use Rattle.medium.specs.Sector.{sectorsOf}
+use Rattle.medium.specs.Frame.{Spends}
 use Rattle.medium.proofs.Laws.{onDone-keeps}
+use Rattle.medium.proofs.Frame.{spends-none, spends-more}
 use Rattle.handles.specs.declared.Store.{Store}
 use Rattle.handles.specs.declared.Writer.{Writer}
 use Rattle.handles.specs.declared.Writer.the-variants.{Nobody, Open}
-use Rattle.handles.specs.Handles.{storeOk}
+use Rattle.handles.specs.Handles.{storeOk, isOpen, openId}
 use Rattle.directory.specs.declared.Old.{Old}
 use Rattle.directory.specs.declared.OldestFile.{OldestFile}
 use Rattle.directory.specs.declared.OldestFile.the-variants as oldest
@@ -23,10 +24,9 @@ use Rattle.directory.proofs.Ranges.{oldest-file}
 use Rattle.plan.specs.declared.Edit.{Edit}
 use Rattle.plan.specs.declared.Edit.the-variants.{Remove}
 use Rattle.plan.specs.Copy.{Out}
-use Rattle.plan.proofs.Keeps.{Spends, spends-none, spends-more}
 use Rattle.commit.specs.Commit.{commitOf}
 use Rattle.commit.proofs.Keeps.{Kept, commit-keeps}
-use Rattle.remove.specs.Remove.{writerWithout, closedFor, removeOf, GoneOut, goneOf, oldestGone, removeOldestOf, isOpen, openId}
+use Rattle.remove.specs.Remove.{writerWithout, closedFor, removeOf, GoneOut, goneOf, oldestGone, removeOldestOf}
 
 -- a store value that passes refusal 3, with its 24 checksums
 pub record Good (vol : List ℕ) (st : Store) : Type 0 where

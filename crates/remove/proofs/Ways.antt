@@ -12,9 +12,9 @@ use Rattle.le.specs.Part.{part, over, zeros}
 use Rattle.le.proofs.Parts.{length-part, length-zeros}
 use Rattle.medium.specs.declared.Error.{Error}
 use Rattle.medium.specs.declared.Medium.{Medium}
-use Rattle.medium.specs.declared.Outcome.{Outcome}
 use Rattle.medium.specs.declared.Outcome.the-variants.{Done, No}
 use Rattle.medium.specs.Refusal.{onDone}
+use Rattle.medium.proofs.Laws.{onDone-no}
 use Rattle.handles.specs.declared.Store.{Store}
 use Rattle.directory.specs.declared.Old.{Old}
 use Rattle.directory.specs.declared.OldestFile.{OldestFile}
@@ -28,17 +28,12 @@ use Rattle.plan.specs.Copy.{Out}
 use Rattle.commit.specs.Commit.{commitOf}
 use Rattle.commit.proofs.Commits.{GivesC}
 use Rattle.remove.specs.declared.Gone.{Gone}
-use Rattle.remove.specs.Remove.{closedFor, removeOf, GoneOut, goneOf, oldestGone, removeOldestOf}
+use Rattle.remove.specs.Remove.{closedFor, removeOf, GoneOut, noneGone, goneOf, oldestGone, removeOldestOf}
 
 abbrev pub GivesG : List ℕ → Gone → GoneOut → Type 0
 GivesG vol a o = (vol ≡ o .vol) × (a ≡ o .ans)
 
 -- ---- by its slot
-
--- what follows a refusal
-pub onDone-no : {A : Type 0} {o : Outcome} {e : Error} (a : A) (f : Error → A) → o ≡ No e → onDone o a f ≡ f e
-unfolding onDone
-onDone-no a f q = rw q
 
 module _ (vol : List ℕ) (m : Medium) (st : Store) (slot id : ℕ) {v : List ℕ} {c : Committed} (g : GivesC v c (commitOf (Remove slot) [] vol m st)) where
   pub remove-refused : {e : Error} → c .outcome ≡ No e → GivesC v c (removeOf vol m st slot id)
@@ -65,7 +60,7 @@ whole-name vol st i {a} {n} e fits h =
 
 module _ (name : List ℕ) (len : ℕ) (o : Out) {v : List ℕ} {c : Committed} (g : GivesC v c o) where
   pub gone-refused : {e : Error} → c .outcome ≡ No e
-      → GivesG v (record { outcome = No e; medium = c .medium; store = c .store; any = false; name = zeros 40; length = 0 }) (goneOf name len o)
+      → GivesG v (noneGone (No e) (c .medium) (c .store)) (goneOf name len o)
   unfolding goneOf onDone
   gone-refused d = rw (← (g .0), ← (g .1), d) (refl, refl)
 
@@ -78,13 +73,13 @@ module _ (name : List ℕ) (len : ℕ) (o : Out) {v : List ℕ} {c : Committed} 
 
 module _ (vol : List ℕ) (m : Medium) (st : Store) (dir : List ℕ) (keeping : Bool) (keep : ℕ) {f : OldestFile} (h : f ≡ oldestOf vol m st dir keeping keep) where
   pub oldest-refused : {e : Error} → f ≡ oldest.Refused e
-      → GivesG vol (record { outcome = No e; medium = m; store = st; any = false; name = zeros 40; length = 0 }) (removeOldestOf vol m st dir keeping keep)
+      → GivesG vol (noneGone (No e) m st) (removeOldestOf vol m st dir keeping keep)
   unfolding removeOldestOf oldestGone
   oldest-refused d = rw (← h, d) (refl, refl)
 
   module _ {old : Old} (d : f ≡ oldest.Done old) where
     pub oldest-none : old .any ≡ false
-        → GivesG vol (record { outcome = Done; medium = m; store = st; any = false; name = zeros 40; length = 0 }) (removeOldestOf vol m st dir keeping keep)
+        → GivesG vol (noneGone Done m st) (removeOldestOf vol m st dir keeping keep)
     unfolding removeOldestOf oldestGone pick
     oldest-none t = rw (← h, d, t) (refl, refl)
 

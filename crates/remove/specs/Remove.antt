@@ -5,9 +5,9 @@ use mathlib.Core.List.{List, []}
 use lib.Dec.{eqb}
 use Rattle.le.specs.Choice.{pick}
 use Rattle.le.specs.Part.{part, zeros}
-use Rattle.medium.specs.declared.Error.{Error}
 use Rattle.medium.specs.declared.Medium.{Medium}
-use Rattle.medium.specs.declared.Outcome.the-variants.{Done, No}
+use Rattle.medium.specs.declared.Outcome.{Outcome}
+use Rattle.medium.specs.declared.Outcome.the-variants.{Done}
 use Rattle.medium.specs.Refusal.{onDone}
 use Rattle.handles.specs.declared.Store.{Store}
 use Rattle.handles.specs.declared.Writer.{Writer}
@@ -17,7 +17,7 @@ use Rattle.directory.specs.declared.OldestFile.the-variants as oldest
 use Rattle.directory.specs.Entry.{entryAt}
 use Rattle.directory.specs.Scan.{oldestOf}
 use Rattle.plan.specs.declared.Edit.the-variants.{Remove}
-use Rattle.plan.specs.Copy.{Out, Skipped}
+use Rattle.plan.specs.Copy.{Out, Skipped, refusedOut}
 use Rattle.commit.specs.Commit.{commitOf}
 use Rattle.remove.specs.declared.Gone.{Gone}
 
@@ -44,39 +44,25 @@ pub record GoneOut : Type 0 where
   pub skipped : List Skipped
 
 -- no file went
-abbrev pub noneGone : Out → GoneOut
-noneGone o =
-    record {
-      vol = o .vol;
-      ans = record { outcome = o .ans .outcome; medium = o .ans .medium; store = o .ans .store; any = false; name = zeros 40; length = 0 };
-      skipped = [];
-    }
+abbrev pub noneGone : Outcome → Medium → Store → Gone
+noneGone o m st = record { outcome = o; medium = m; store = st; any = false; name = zeros 40; length = 0 }
+
+abbrev pub noneOut : Out → GoneOut
+noneOut o = record { vol = o .vol; ans = noneGone (o .ans .outcome) (o .ans .medium) (o .ans .store); skipped = [] }
 
 -- the file went, unless its removal was refused; its name stands in the entry with zeros to 40
 unfoldable pub goneOf : List ℕ → ℕ → Out → GoneOut
 goneOf name len o =
     onDone (o .ans .outcome)
     (record { vol = o .vol; ans = record { outcome = Done; medium = o .ans .medium; store = o .ans .store; any = true; name = name; length = len }; skipped = o .skipped })
-    (λ e. noneGone o)
-
-abbrev pub stands : Error → List ℕ → Medium → Store → Out
-stands e vol m st = record { vol = vol; ans = record { outcome = No e; medium = m; store = st }; skipped = [] }
+    (λ e. noneOut o)
 
 -- smallest id goes first, of equal ids the lowest slot; where `keeping`, files of the id `keep` are spared. None is no refusal here
 unfoldable pub oldestGone : List ℕ → Medium → Store → OldestFile → GoneOut
-oldestGone vol m st (oldest.Refused e) = noneGone (stands e vol m st)
+oldestGone vol m st (oldest.Refused e) = noneOut (refusedOut st vol m e)
 oldestGone vol m st (oldest.Done old) =
     pick (old .any) (goneOf (part 0 40 (entryAt vol st (old .slot))) (old .len) (removeOf vol m st (old .slot) (old .id)))
-    (noneGone (record { vol = vol; ans = record { outcome = Done; medium = m; store = st }; skipped = [] }))
+    (noneOut (record { vol = vol; ans = record { outcome = Done; medium = m; store = st }; skipped = [] }))
 
 unfoldable pub removeOldestOf : List ℕ → Medium → Store → List ℕ → Bool → ℕ → GoneOut
 removeOldestOf vol m st dir keeping keep = oldestGone vol m st (oldestOf vol m st dir keeping keep)
-
--- what is spared for the open file: 01's delete_oldest and extending
-abbrev pub isOpen : Writer → Bool
-isOpen Nobody = false
-isOpen (Open token id) = true
-
-abbrev pub openId : Writer → ℕ
-openId Nobody = 0
-openId (Open token id) = id

@@ -10,11 +10,11 @@ use plan::Edit;
 ghost use mathlib.Core.Path.{_≡_};
 ghost use mathlib.Core.Bool.{true, false};
 ghost use Prim.Native.Nat.{_<_};
-ghost use Rattle.le.specs.Part.{part, zeros};
+ghost use Rattle.le.specs.Part.{part};
 ghost use Rattle.medium.specs.Sector.{sectorsOf};
 ghost use Rattle.handles.specs.Handles.{storeOk};
 ghost use Rattle.directory.specs.Entry.{entryAt};
-ghost use Rattle.remove.specs.Remove.{writerWithout, closedFor, removeOf, goneOf, removeOldestOf};
+ghost use Rattle.remove.specs.Remove.{writerWithout, closedFor, removeOf, noneGone, goneOf, removeOldestOf};
 
 // What removing the oldest gives: whether a file went, and its name, with zeros to 40, where one did.
 pub struct Gone {
@@ -77,8 +77,8 @@ pub fn remove(volume: &mut [u8], medium: Medium, store: Store, slot: usize, id: 
 }
 
 // No file went.
-fn none_gone(outcome: Outcome, medium: Medium, store: Store) -> Gone
-    ensures { λ r. ⌜ r ≡ record { outcome = outcome; medium = medium; store = store; any = false; name = zeros 40; length = 0 } ⌝ }
+pub fn none_gone(outcome: Outcome, medium: Medium, store: Store) -> Gone
+    ensures { λ r. ⌜ r ≡ noneGone outcome medium store ⌝ }
 {
     Gone {
         outcome,

@@ -18,9 +18,8 @@ use Rattle.handles.proofs.Laws.{Held, store-facts}
 use Rattle.record.specs.declared.Judged.{Judged}
 use Rattle.record.specs.declared.Judged.the-variants as judged
 use Rattle.record.specs.Record.{dataAt}
-use Rattle.record.proofs.Laws.{data-inside}
+use Rattle.record.proofs.Laws.{data-inside, number-small}
 use Rattle.reader.specs.Next.{onJudged}
-use Rattle.reader.proofs.Facts.{number-small}
 use Rattle.reader.proofs.Finds.{onJudged-keeps}
 use Rattle.append.specs.declared.Tail.{Tail}
 use Rattle.append.specs.declared.Tail.the-variants.{At, Reopened}

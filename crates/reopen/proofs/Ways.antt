@@ -13,11 +13,11 @@ use Rattle.handles.specs.Handles.{storeOk}
 use Rattle.handles.proofs.Laws.{Held, store-facts}
 use Rattle.directory.specs.declared.Found.{Found}
 use Rattle.directory.specs.declared.Found.the-variants as found
-use Rattle.directory.specs.Scan.{findOf}
+use Rattle.directory.specs.Scan.{findOf, onFound}
 use Rattle.table.specs.declared.Chained.{Chained}
 use Rattle.table.specs.declared.Chained.the-variants as chained
 use Rattle.table.specs.declared.ChainParts.{ChainParts}
-use Rattle.table.specs.Table.{chainOf}
+use Rattle.table.specs.Table.{chainOf, onChain}
 use Rattle.table.proofs.Walks.{chain-range}
 use Rattle.append.specs.declared.Flushed.{Flushed}
 use Rattle.append.specs.declared.Tail.{Tail}
@@ -25,18 +25,18 @@ use Rattle.files.specs.declared.Rollover.{Rollover}
 use Rattle.files.specs.Opened.{refusedAt, openedOut}
 use Rattle.reopen.specs.declared.Records.{Records}
 use Rattle.reopen.specs.declared.Records.the-variants as records
-use Rattle.reopen.specs.Reopen.{recordsFrom, tailFor, onRecords, onChain, onFound, fileOut, reopenOf}
+use Rattle.reopen.specs.Reopen.{recordsFrom, tailFor, onRecords, fileOut, reopenOf}
 
 -- an answer does not tell the volume: these calls only read it
-answer-alike : (vol : List ℕ) (m : Medium) (st : Store) (slot id chunk position : ℕ) (tail : Tail) (over : Rollover)
-    → openedOut [] m st slot id chunk position tail over .ans ≡ openedOut vol m st slot id chunk position tail over .ans
+answer-alike : (vol : List ℕ) (m : Medium) (st : Store) (slot id chunk position : ℕ) (tail : Tail) (rollover : Rollover)
+    → openedOut [] m st slot id chunk position tail rollover .ans ≡ openedOut vol m st slot id chunk position tail rollover .ans
 unfolding openedOut
-answer-alike vol m st slot id chunk position tail over = refl
+answer-alike vol m st slot id chunk position tail rollover = refl
 
 -- ---- the file found
 
-module _ (over : Rollover) (vol : List ℕ) (m : Medium) (st : Store) (slot id : ℕ) {c : Chained} (asked : c ≡ chainOf vol m st slot) where
-  pub no-chain : {e : Error} {r : Flushed} → c ≡ chained.Refused e → r ≡ refusedAt [] m st e .ans → r ≡ fileOut over vol m st slot id .ans
+module _ (rollover : Rollover) (vol : List ℕ) (m : Medium) (st : Store) (slot id : ℕ) {c : Chained} (asked : c ≡ chainOf vol m st slot) where
+  pub no-chain : {e : Error} {r : Flushed} → c ≡ chained.Refused e → r ≡ refusedAt [] m st e .ans → r ≡ fileOut rollover vol m st slot id .ans
   unfolding fileOut onChain
   no-chain q h = rw (h, ← asked, q)
 
@@ -49,22 +49,22 @@ module _ (over : Rollover) (vol : List ℕ) (m : Medium) (st : Store) (slot id :
         (f .least, f .last, omega (arith, f .most, h .head .chunks-most))
 
     module _ {n : Records} (counted : n ≡ recordsFrom vol m st id (p .last) (p .count - 1) (st .head .chunk)) where
-      pub no-count : {e : Error} {r : Flushed} → n ≡ records.Refused e → r ≡ refusedAt [] m st e .ans → r ≡ fileOut over vol m st slot id .ans
+      pub no-count : {e : Error} {r : Flushed} → n ≡ records.Refused e → r ≡ refusedAt [] m st e .ans → r ≡ fileOut rollover vol m st slot id .ans
       unfolding fileOut onChain onRecords
       no-count t h = rw (h, ← asked, q, ← counted, t)
 
       pub file-opened : {k : ℕ} {tail : Tail} {r : Flushed} → n ≡ records.Are k → tail ≡ tailFor (st .head .chunk) k
-          → r ≡ openedOut [] m st slot id (p .last) (p .count - 1) tail over .ans → r ≡ fileOut over vol m st slot id .ans
+          → r ≡ openedOut [] m st slot id (p .last) (p .count - 1) tail rollover .ans → r ≡ fileOut rollover vol m st slot id .ans
       unfolding fileOut onChain onRecords
-      file-opened t l h = h ∙ rw (← asked, q, ← counted, t, ← l) (answer-alike vol m st slot id (p .last) (p .count - 1) _ over)
+      file-opened t l h = h ∙ rw (← asked, q, ← counted, t, ← l) (answer-alike vol m st slot id (p .last) (p .count - 1) _ rollover)
 
 -- ---- the name
 
-module _ (name : List ℕ) (over : Rollover) (vol : List ℕ) (m : Medium) (st : Store) {f : Found} (asked : f ≡ findOf vol m st name) where
-  pub not-found : {e : Error} {r : Flushed} → f ≡ found.Refused e → r ≡ refusedAt [] m st e .ans → r ≡ reopenOf name over vol m st .ans
+module _ (name : List ℕ) (rollover : Rollover) (vol : List ℕ) (m : Medium) (st : Store) {f : Found} (asked : f ≡ findOf vol m st name) where
+  pub not-found : {e : Error} {r : Flushed} → f ≡ found.Refused e → r ≡ refusedAt [] m st e .ans → r ≡ reopenOf name rollover vol m st .ans
   unfolding reopenOf onFound
   not-found q h = rw (h, ← asked, q)
 
-  pub name-found : {slot id : ℕ} {r : Flushed} → f ≡ found.At slot id → r ≡ fileOut over vol m st slot id .ans → r ≡ reopenOf name over vol m st .ans
+  pub name-found : {slot id : ℕ} {r : Flushed} → f ≡ found.At slot id → r ≡ fileOut rollover vol m st slot id .ans → r ≡ reopenOf name rollover vol m st .ans
   unfolding reopenOf onFound
   name-found q h = rw (h, ← asked, q)

@@ -7,12 +7,8 @@ use Rattle.le.specs.Choice.{pick}
 use Rattle.medium.specs.declared.Error.{Error}
 use Rattle.medium.specs.declared.Medium.{Medium}
 use Rattle.handles.specs.declared.Store.{Store}
-use Rattle.directory.specs.declared.Found.{Found}
-use Rattle.directory.specs.declared.Found.the-variants as found
-use Rattle.directory.specs.Scan.{findOf}
-use Rattle.table.specs.declared.Chained.{Chained}
-use Rattle.table.specs.declared.Chained.the-variants as chained
-use Rattle.table.specs.Table.{chainOf}
+use Rattle.directory.specs.Scan.{findOf, onFound}
+use Rattle.table.specs.Table.{chainOf, onChain}
 use Rattle.record.specs.Record.{numberAt, readRecordOf}
 use Rattle.record.specs.declared.Judged.{Judged}
 use Rattle.reader.specs.Next.{onJudged}
@@ -38,25 +34,17 @@ recordsFrom vol m st id chunk position (suc n) =
 unfoldable pub tailFor : ℕ → ℕ → Tail
 tailFor size n = pick (eqb n 0) (At 0) (pick (eqb n size) (At size) (Reopened n))
 
--- decisions by the count, by the chain and by the file found. They stay shut in proofs
+-- a decision by the count. It stays shut in proofs
 unfoldable pub onRecords : {A : Type 0} → Records → (Error → A) → (ℕ → A) → A
 onRecords (records.Refused e) f g = f e
 onRecords (records.Are n) f g = g n
 
-unfoldable pub onChain : {A : Type 0} → Chained → (Error → A) → (ℕ → ℕ → A) → A
-onChain (chained.Refused e) f g = f e
-onChain (chained.Whole p) f g = g (p .count - 1) (p .last)
-
-unfoldable pub onFound : {A : Type 0} → Found → (Error → A) → (ℕ → ℕ → A) → A
-onFound (found.Refused e) f g = f e
-onFound (found.At slot id) f g = g slot id
-
 -- the file found: the records of its last chunk say where the next one goes
 unfoldable pub fileOut : Rollover → List ℕ → Medium → Store → ℕ → ℕ → AppOut
-fileOut over vol m st slot id =
+fileOut rollover vol m st slot id =
     onChain (chainOf vol m st slot) (refusedAt vol m st)
-    (λ position last. onRecords (recordsFrom vol m st id last position (st .head .chunk)) (refusedAt vol m st)
-    (λ n. openedOut vol m st slot id last position (tailFor (st .head .chunk) n) over))
+    (λ p. onRecords (recordsFrom vol m st id (p .last) (p .count - 1) (st .head .chunk)) (refusedAt vol m st)
+    (λ n. openedOut vol m st slot id (p .last) (p .count - 1) (tailFor (st .head .chunk) n) rollover))
 
 unfoldable pub reopenOf : List ℕ → Rollover → List ℕ → Medium → Store → AppOut
-reopenOf name over vol m st = onFound (findOf vol m st name) (refusedAt vol m st) (fileOut over vol m st)
+reopenOf name rollover vol m st = onFound (findOf vol m st name) (refusedAt vol m st) (fileOut rollover vol m st)

@@ -88,10 +88,10 @@ fn open_file(
     store: Store,
     slot: usize,
     id: u32,
-    over: Rollover,
+    rollover: Rollover,
 ) -> Flushed
     requires { ⌜ storeOk store (sectorsOf (now volume)) ≡ true ⌝ }
-    ensures { λ r. ⌜ r ≡ fileOut over (now (volume .entry)) medium store slot id .ans ⌝ }
+    ensures { λ r. ⌜ r ≡ fileOut rollover (now (volume .entry)) medium store slot id .ans ⌝ }
 {
     let c = table::chain(volume, medium, store, slot);
     match c {
@@ -103,7 +103,7 @@ fn open_file(
                 Records::Refused(e) => files::refused(e, medium, store),
                 Records::Are(count) => {
                     let tail = tail_for(store.head.chunk, count);
-                    files::opened(medium, store, slot, id, p.last, position, tail, over)
+                    files::opened(medium, store, slot, id, p.last, position, tail, rollover)
                 }
             }
         }
@@ -116,14 +116,14 @@ pub fn open_append(
     medium: Medium,
     store: Store,
     name: &[u8],
-    over: Rollover,
+    rollover: Rollover,
 ) -> Flushed
     requires { ⌜ storeOk store (sectorsOf (now volume)) ≡ true ⌝ }
-    ensures { λ r. ⌜ r ≡ reopenOf (now (name .entry)) over (now (volume .entry)) medium store .ans ⌝ }
+    ensures { λ r. ⌜ r ≡ reopenOf (now (name .entry)) rollover (now (volume .entry)) medium store .ans ⌝ }
 {
     let f = directory::find(volume, medium, store, name);
     match f {
         Found::Refused(e) => files::refused(e, medium, store),
-        Found::At { slot, id } => open_file(volume, medium, store, slot, id, over),
+        Found::At { slot, id } => open_file(volume, medium, store, slot, id, rollover),
     }
 }

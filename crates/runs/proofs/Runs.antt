@@ -1,17 +1,17 @@
 -- Laws of the loops over runs of bytes. Assumes nothing.
-use mathlib.Core.Path.{_≡_, refl, sym, ap, ap₂, _∙_}
-use mathlib.Core.Bool.{Bool, true, false, _&&_}
-use mathlib.Core.List.{List, [], _∷_, _++_}
-use Prim.Native.Nat.{ℕ, zero, suc, _+_, _≤_, _<_}
-use native.Mathlib.Nat.{add-suc, add-assoc}
+use mathlib.Core.Path.{_≡_, refl, sym, ap, _∙_}
+use mathlib.Core.Bool.{Bool, true, false, _&&_, and-false}
+use mathlib.Core.List.{List, [], _∷_}
+use Prim.Native.Nat.{ℕ, suc, _+_, _≤_, _<_}
+use native.Mathlib.Nat.{add-suc}
 use native.Mathlib.Numerals.{add-one}
 use native.Mathlib.Omega.{arith}
 use borrow.Author.Tests.{eq-eqb, ne-eqb}
 use lib.Dec.{eqb}
-use lib.ListN.{length, getD, take, drop, set, getD-replicate}
+use lib.ListN.{length, getD, drop, set}
 use lib.Seq.{paste, paste-suc, take-length, drop-length, drop-cons}
 use Rattle.le.specs.Part.{over, zeros}
-use Rattle.le.proofs.Parts.{length-zeros}
+use Rattle.le.proofs.Parts.{length-zeros, getD-zeros}
 use Rattle.le.proofs.Turns.{drop-one, drop-end}
 use Rattle.runs.specs.Run.{startsWith, sameBytes, allZero}
 
@@ -23,15 +23,11 @@ pub copy-all : (d s : List ℕ) (at : ℕ) → paste d at s (length s) ≡ over 
 unfolding over
 copy-all d s at = rw take-length
 
-getD-zeros : (n i : ℕ) → i < n → getD (zeros n) i 0 ≡ 0
-unfolding zeros
-getD-zeros n i k = getD-replicate n i 0 0 k
-
 -- the same of n zeros
 pub zero-more : (d : List ℕ) (at n i : ℕ) → at + n ≤ length d → i < n → set (paste d at (zeros n) i) (at + i) 0 ≡ paste d at (zeros n) (i + 1)
 zero-more d at n i h k =
     let e : length {A = ℕ} (zeros n) ≡ n = length-zeros n in
-    ap (λ (x : ℕ). set (paste d at (zeros n) i) (at + i) x) (sym (getD-zeros n i k))
+    ap (λ (x : ℕ). set (paste d at (zeros n) i) (at + i) x) (sym (getD-zeros n i))
     ∙ copy-more d (zeros n) at i (rw e h) (rw e k)
 
 pub zero-all : (d : List ℕ) (at n : ℕ) → paste d at (zeros n) n ≡ over at (zeros n) d
@@ -56,10 +52,6 @@ unfolding startsWith
 same-all w r = rw drop-length
 
 -- lists of different lengths are not the same
-and-false : (b : Bool) → (b && false) ≡ false
-and-false true = refl
-and-false false = refl
-
 pub same-long : (a b : List ℕ) → (length a ≡ length b → ⊥) → sameBytes a b ≡ false
 unfolding sameBytes
 same-long [] [] h = absurd (h refl)

@@ -8,20 +8,21 @@ use native.Mathlib.Omega.{arith}
 use borrow.Author.Tests.{eqb-true}
 use lib.Dec.{eqb}
 use lib.ListN.{getD}
+use Rattle.le.proofs.Bools.{and-true}
 use Rattle.medium.specs.declared.Error.{Error}
 use Rattle.medium.specs.declared.Medium.{Medium}
 use Rattle.medium.specs.declared.Outcome.the-variants.{Done, No}
 use Rattle.medium.specs.Sector.{sectorsOf}
+use Rattle.medium.specs.Frame.{Kept}
 use Rattle.handles.specs.declared.Header.{Header}
 use Rattle.handles.specs.Handles.{baseOf}
-use Rattle.handles.proofs.Laws.{and-true, sane-facts}
+use Rattle.handles.proofs.Laws.{sane-facts}
 use Rattle.header.specs.declared.codec.Replica.the-variants.{Absent}
 use Rattle.header.specs.Header.{ours, bare, decodeOf}
 use Rattle.header.specs.Copies.{isOurs, copyOf, sameStore}
 use Rattle.header.proofs.Accepted.{copy-valid, copy-sane}
 use Rattle.header.proofs.Range.{no-way}
 use Rattle.plan.specs.Copy.{Plan, isFormat, copyOut}
-use Rattle.safe.specs.Frame.{Kept}
 use Rattle.safe.specs.Copy.{target, Good, Tied}
 use Rattle.safe.specs.Mounts.{Newest, Lists, Sound}
 use Rattle.safe.proofs.Frame.{body-beside}
@@ -42,8 +43,8 @@ format-tied p vol f n = record { start = λ q. no-way (sym q ∙ f); own = λ q.
 pub sound-tied : (p : Plan) (vol : List ℕ) → Sound vol (p .store .copy) (p .store .head) → p .store .copy + p .copy ≡ 1
     → p .head .crcs ≡ p .store .head .crcs → p .head .chunks ≡ p .store .head .chunks
     → p .known ≡ (isOurs (copyOf vol (target p) .kind) && sameStore (p .store .head) (copyOf vol (target p) .head))
-    → p .held ≡ copyOf vol (target p) .head .crcs → Tied p vol
-sound-tied p vol s two crcs chunks known held =
+    → p .listed ≡ copyOf vol (target p) .head .crcs → Tied p vol
+sound-tied p vol s two crcs chunks known listed =
     let e : 1 - p .store .copy ≡ p .copy = omega arith in
     record {
       start = λ _. crcs;
@@ -52,7 +53,7 @@ sound-tied p vol s two crcs chunks known held =
           let g : Header = copyOf vol (target p) .head in
           let t = and-true (isOurs (copyOf vol (target p) .kind)) (sameStore (p .store .head) g) (sym known ∙ q) in
           let o = rw e at (s .other g) in
-          o (copy-valid vol (target p) (t .0)) (t .1) k (rw (chunks ∙ same-chunks (p .store .head) g (t .1)) at l) ∙ ap (λ (x : List ℕ). getD x k 0) (sym held);
+          o (copy-valid vol (target p) (t .0)) (t .1) k (rw (chunks ∙ same-chunks (p .store .head) g (t .1)) at l) ∙ ap (λ (x : List ℕ). getD x k 0) (sym listed);
     }
 
 -- ---- the laws

@@ -2,7 +2,6 @@
 use mathlib.Core.Path.{_≡_, refl, sym, ap, _∙_}
 use mathlib.Core.List.{List}
 use Prim.Native.Nat.{ℕ, _+_, _-_, _^_, _<_, _≤_}
-use native.Mathlib.Nat.{mod-lt}
 use native.Mathlib.Omega.{arith}
 use borrow.Author.Tests.{eqb-false}
 use lib.Dec.{eqb}
@@ -15,6 +14,7 @@ use Rattle.medium.specs.declared.Medium.{Medium}
 use Rattle.medium.specs.declared.Outcome.the-variants.{Done, No}
 use Rattle.medium.specs.Sector.{sectorsOf}
 use Rattle.medium.proofs.Laws.{onDone-keeps}
+use Rattle.medium.proofs.Frame.{kept-none, spends-none}
 use Rattle.handles.specs.declared.Header.{Header}
 use Rattle.handles.specs.declared.Store.{Store}
 use Rattle.handles.specs.Handles.{baseOf}
@@ -29,11 +29,11 @@ use Rattle.plan.specs.Edit.{nextAfter, cursorAfter, headAfter, Fits}
 use Rattle.plan.specs.Copy.{Plan, Out, dueBytes, refusedOut, copyOut}
 use Rattle.commit.specs.Commit.{isCurrent, commitPlan, commitOf}
 use Rattle.commit.proofs.Absent.{commit-first}
-use Rattle.commit.proofs.Keeps.{sane-after}
+use Rattle.commit.proofs.Keeps.{cursor-after, sane-after}
 use Rattle.safe.specs.Copy.{Good, Tied}
 use Rattle.safe.specs.Mounts.{Newest}
 use Rattle.safe.specs.Inv.{Inv, planOf, CommitDistinct, CommitStopped, CommitMade}
-use Rattle.safe.proofs.Frame.{clash, kept-none, used-none, body-beside}
+use Rattle.safe.proofs.Frame.{clash, body-beside}
 use Rattle.safe.proofs.Copy.{copy-frame, copy-used, copy-stopped, copy-finished}
 use Rattle.safe.proofs.Sums.{finished-body}
 use Rattle.safe.proofs.Current.{stands-choice, current-choice}
@@ -48,13 +48,6 @@ next-lt Format h f n = n
 next-lt (Create slot id chunk) h f n = f .1
 next-lt (Extend slot position next last partial records) h f n = n
 next-lt (Remove slot) h f n = n
-
-cursor-lt : (e : Edit) (h : Header) → 1 ≤ h .chunks → h .cursor < h .chunks → cursorAfter e h < h .chunks
-unfolding cursorAfter
-cursor-lt Format h p c = c
-cursor-lt (Create slot id chunk) h p c = mod-lt (chunk + 1) p
-cursor-lt (Extend slot position next last partial records) h p c = mod-lt (next + 1) p
-cursor-lt (Remove slot) h p c = c
 
 module _ (edit : Edit) (name vol : List ℕ) (m : Medium) (st : Store) (inv : Inv vol st) where
   held : Held st (sectorsOf vol)
@@ -78,7 +71,7 @@ module _ (edit : Edit) (name vol : List ℕ) (m : Medium) (st : Store) (inv : In
 
   -- ---- its plan meets the premises
 
-  plan-good : length name ≤ 40 → Good (planOf edit name vol m st) vol
+  pub plan-good : length name ≤ 40 → Good (planOf edit name vol m st) vol
   unfolding commitPlan headAfter
   plan-good short =
       record { enough = held .enough; chunks = held .head .chunks-most; count = inv .range .count; first = length-zeros 512; name = short; own = λ _. two }
@@ -87,11 +80,11 @@ module _ (edit : Edit) (name vol : List ℕ) (m : Medium) (st : Store) (inv : In
     found : currentOf vol m ≡ takenOf (st .copy) (st .head) (copyOf vol (baseOf (1 - st .copy)) .head) (isOurs (copyOf vol (baseOf (1 - st .copy)) .kind))
     found = current-choice vol m d ∙ stands-choice vol (st .head) (st .copy) (inv .sound .stands)
 
-    plan-tied : Tied (planOf edit name vol m st) vol
+    pub plan-tied : Tied (planOf edit name vol m st) vol
     unfolding commitPlan headAfter takenOf
     plan-tied =
         sound-tied (planOf edit name vol m st) vol (inv .sound) two refl refl
-        (ap (λ (c : Current). c .known) found) (ap (λ (c : Current). c .held) found)
+        (ap (λ (c : Current). c .known) found) (ap (λ (c : Current). c .listed) found)
 
   -- the copy beside the one that is written is the store's
   abbrev Beside : Header → Type 0
@@ -108,7 +101,7 @@ module _ (edit : Edit) (name vol : List ℕ) (m : Medium) (st : Store) (inv : In
     unfolding headAfter
     after-range =
         let r = inv .range in
-        let c : cursorAfter edit (st .head) < st .head .chunks = cursor-lt edit (st .head) (held .head .chunks-least) (held .head .cursor) in
+        let c : cursorAfter edit (st .head) < st .head .chunks = cursor-after edit (st .head) (held .head .chunks-least) (held .head .cursor) in
         record {
           id = r .id;
           generation = omega (arith, r .generation);
@@ -147,7 +140,7 @@ module _ (edit : Edit) (name vol : List ℕ) (m : Medium) (st : Store) (inv : In
           body = λ k l. refl;
           records = λ j l. refl;
           frame = kept-none (baseOf (1 - st .copy)) 25 vol;
-          used = used-none m;
+          used = spends-none m;
         })
         (λ d g q. record {
           store = copy-stopped p vol m good q .0;

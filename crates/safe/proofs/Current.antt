@@ -8,6 +8,7 @@ use borrow.Author.Tests.{le-ltb, lt-ltb, ltb-true, ltb-false}
 use lib.Dec.{ltb, lit<}
 use Rattle.le.specs.Choice.{pick}
 use Rattle.le.proofs.Choices.{pick-keeps, pick-keeps-by}
+use Rattle.le.proofs.Bools.{and-true}
 use Rattle.medium.specs.declared.Medium.{Medium}
 use Rattle.medium.specs.declared.Outcome.the-variants.{Done}
 use Rattle.medium.specs.Refusal.{onDone}
@@ -16,13 +17,12 @@ use Rattle.medium.proofs.Laws.{onDone-keeps}
 use Rattle.handles.specs.declared.Header.{Header}
 use Rattle.handles.specs.declared.Writer.the-variants.{Nobody}
 use Rattle.handles.specs.Handles.{baseOf}
-use Rattle.handles.proofs.Laws.{and-true}
 use Rattle.header.specs.declared.answers.Copies.{Copies}
 use Rattle.header.specs.declared.answers.Current.{Current}
 use Rattle.header.specs.Header.{ours}
 use Rattle.header.specs.Copies.{isOurs, isForeign, isDamaged, copyOf, bothOf, headersOf, takesB, takenOf, noCurrent, choiceOf, currentOf, mountOf}
-use Rattle.header.proofs.Accepted.{headers-both, copy-valid, mount-current}
 use Rattle.header.proofs.Edges.{headers-read}
+use Rattle.header.proofs.Accepted.{headers-both, copy-valid}
 use Rattle.safe.specs.Mounts.{Stands}
 use Rattle.safe.proofs.Frame.{clash}
 
@@ -115,6 +115,3 @@ module _ (vol : List ℕ) where
         onDone-keeps Found (headersOf vol m .outcome) _ _
         (λ o. let b = headers-both vol m o in rw (b .same) (choice-stands (b .enough) (b .not-a) (b .not-b)))
         (λ e _. clash refl)
-
-    pub mount-stands : mountOf vol m .outcome ≡ Done → Stands vol (mountOf vol m .store .copy) (mountOf vol m .store .head)
-    mount-stands o = let t = mount-current vol m o in rw (t .1) (current-stands (t .0))

@@ -9,18 +9,19 @@ use lib.Dec.{eqb, leb, lit<, lit≤}
 use lib.ListN.{length}
 use Rattle.le.specs.Choice.{pick}
 use Rattle.le.proofs.Choices.{pick-keeps, pick-keeps-by}
+use Rattle.le.proofs.Bools.{and-true}
 use Rattle.medium.specs.declared.Error.{Error}
 use Rattle.medium.specs.declared.Error.the-variants.{Range, Spent}
 use Rattle.medium.specs.declared.Medium.{Medium}
 use Rattle.medium.specs.declared.Outcome.the-variants.{Done, No}
 use Rattle.medium.specs.Sector.{sectorsOf}
 use Rattle.medium.proofs.Laws.{onDone-keeps}
+use Rattle.medium.proofs.Frame.{spends-none}
 use Rattle.handles.specs.declared.Header.{Header}
 use Rattle.handles.specs.declared.Store.{Store}
 use Rattle.handles.specs.Handles.{bodyOf, baseOf, saneOf, noStore}
-use Rattle.handles.proofs.Laws.{and-true, Sane, sane-facts}
+use Rattle.handles.proofs.Laws.{Sane, sane-facts, next-fits}
 use Rattle.header.specs.declared.answers.Copies.{Copies}
-use Rattle.header.specs.declared.codec.Decoded.{Decoded}
 use Rattle.header.specs.Header.{ours, Bytes}
 use Rattle.header.specs.Copies.{isOurs, isForeign, copyOf, bothOf, headersOf, sameStore}
 use Rattle.header.proofs.Accepted.{Both, headers-both, copy-valid}
@@ -35,7 +36,7 @@ use Rattle.format.proofs.Numbers.{copy-lt, chunks-most, head-sane, head-range}
 use Rattle.safe.specs.Copy.{Good, Tied}
 use Rattle.safe.specs.Mounts.{Stands, Newest}
 use Rattle.safe.specs.Inv.{Inv, Numbered, FormatStopped, FormatMade}
-use Rattle.safe.proofs.Frame.{clash, used-none, body-beside}
+use Rattle.safe.proofs.Frame.{clash, body-beside}
 use Rattle.safe.proofs.Moves.{due-format}
 use Rattle.safe.proofs.Copy.{copy-frame, copy-used, copy-stopped, copy-finished}
 use Rattle.safe.proofs.Sums.{format-distinct, finished-body}
@@ -180,13 +181,10 @@ module _ (size seed : ℕ) (vol : List ℕ) (m : Medium) where
         record {
           number = copy-lt (both vol);
           sane = new-sane;
-          range = head-range (both vol) m (sectorsOf vol) size seed (a .most) (below (newestOf (both vol)) l (a .less));
+          range = head-range (both vol) m (sectorsOf vol) size seed (a .most) (next-fits (newestOf (both vol)) l (a .less));
           known = beside-known;
           older = λ g e. omega (arith, copy-older vol g e, copy-lt (both vol));
         }
-      where
-        below : (g : ℕ) → g < 2 ^ 64 → (g ≡ 2 ^ 64 - 1 → ⊥) → g + 1 < 2 ^ 64
-        below g h f = omega arith
 
   -- ---- the laws
 
@@ -194,7 +192,7 @@ module _ (size seed : ℕ) (vol : List ℕ) (m : Medium) where
   unfolding formatPlan
   format-stopped {e} =
       ways (λ (o : Out). o .ans .outcome ≡ No e → FormatStopped vol m o)
-      (λ x _. record { store = refl; size = refl; inv = λ st i. i; body = λ st i k l. refl; records = λ j l. refl; used = used-none m })
+      (λ x _. record { store = refl; size = refl; inv = λ st i. i; body = λ st i k l. refl; records = λ j l. refl; used = spends-none m })
       (λ a q.
       let kept = copy-frame plan vol m (good a) in
       let two : (st : Store) → Inv vol st → st .copy + copyFor (both vol) ≡ 1 = λ st i. copy-other vol (st .head) (st .copy) (i .sound .stands) (λ g e. omega (arith, i .newer g e)) in

@@ -1,6 +1,6 @@
 -- What holds between the calls: mount gives the store value, writing a record keeps it, and so does a copy written anew, by any plan. Assumes nothing.
 use mathlib.Core.Path.{_≡_, refl, sym, ap, _∙_}
-use mathlib.Core.Bool.{Bool, true}
+use mathlib.Core.Bool.{true}
 use mathlib.Core.List.{List}
 use mathlib.Core.Logic.{_⊎_, inl, inr, ⊎-elim}
 use Prim.Native.Nat.{ℕ, zero, suc, _+_, _-_, _<_, _≤_}
@@ -8,30 +8,29 @@ use native.Mathlib.Omega.{arith}
 use borrow.Author.Tests.{lt-ltb, eq-eqb, ne-eqb}
 use lib.ListN.{length}
 use Rattle.le.specs.Choice.{pick}
-use Rattle.le.proofs.Choices.{pick-keeps, pick-true, pick-false}
+use Rattle.le.proofs.Choices.{pick-true, pick-false}
 use Rattle.medium.specs.declared.Error.{Error}
 use Rattle.medium.specs.declared.Medium.{Medium}
-use Rattle.medium.specs.declared.Outcome.{Outcome}
 use Rattle.medium.specs.declared.Outcome.the-variants.{Done, No}
 use Rattle.medium.specs.Refusal.{onDone}
-use Rattle.medium.specs.Sector.{sectorsOf, sectorAt, readOf, writeOf}
+use Rattle.medium.specs.Frame.{Kept, Spends}
+use Rattle.medium.specs.Sector.{sectorsOf, sectorAt, readOf, Readable, writeOf}
+use Rattle.medium.proofs.Frame.{kept-sectors, write-kept}
 use Rattle.handles.specs.declared.Header.{Header}
 use Rattle.handles.specs.declared.Store.{Store}
 use Rattle.handles.specs.declared.Writer.the-variants.{Nobody}
-use Rattle.handles.specs.Body.{bodyAt, checkOf, dueOf}
 use Rattle.handles.specs.Handles.{bodyOf, baseOf, storeOk}
-use Rattle.handles.proofs.Laws.{Held, store-facts}
+use Rattle.handles.proofs.Laws.{Held, store-facts, base-most}
+use Rattle.handles.specs.Body.{bodyAt, checkOf}
 use Rattle.header.specs.declared.codec.Decoded.{Decoded}
 use Rattle.header.specs.declared.codec.Replica.the-variants.{Absent}
 use Rattle.header.specs.Header.{ours, bare, decodeOf, Bytes}
 use Rattle.header.specs.Copies.{copyOf, sameStore, mountOf}
 use Rattle.header.proofs.Accepted.{copy-range}
 use Rattle.plan.specs.Copy.{Plan, copyOut}
-use Rattle.safe.specs.Frame.{Kept, Used}
 use Rattle.safe.specs.Copy.{Good, Tied}
 use Rattle.safe.specs.Mounts.{Newest, Lists}
-use Rattle.safe.specs.Inv.{Readable, Inv, SameRecords, Numbered}
-use Rattle.safe.proofs.Frame.{kept-sectors, write-kept, base-le}
+use Rattle.safe.specs.Inv.{Inv, SameRecords, Numbered}
 use Rattle.safe.proofs.Copy.{copy-frame, copy-finished}
 use Rattle.safe.proofs.Sums.{finished-range, finished-sane}
 use Rattle.safe.proofs.Current.{stands-mount}
@@ -45,7 +44,7 @@ unfolding readOf
 reads m vol r k l = pick-false _ _ (ne-eqb k (m .unreadable) (λ e. omega arith))
 
 -- writes leave it so
-pub readable-still : {m u : Medium} (vol v : List ℕ) → Used m u → length v ≡ length vol → Readable vol m → Readable v u
+pub readable-still : {m u : Medium} (vol v : List ℕ) → Spends m u → length v ≡ length vol → Readable vol m → Readable v u
 readable-still vol v used size r = rw (size, used .unreadable) r
 
 -- ---- mount
@@ -65,12 +64,8 @@ module _ (vol : List ℕ) (m : Medium) (st : Store) (inv : Inv vol st) (r : Read
   pub inv-check : checkOf vol m st k ≡ Done
   unfolding checkOf onDone
   inv-check =
-      let f : bodyAt st k < sectorsOf vol = omega (arith, base-le (st .copy), inv-held inv .enough, inv-held inv .head .chunks-most) in
+      let f : bodyAt st k < sectorsOf vol = omega (arith, base-most (st .copy), inv-held inv .enough, inv-held inv .head .chunks-most) in
       rw (reads m vol r (bodyAt st k) f) (pick-true _ _ (eq-eqb _ _ (inv .sound .own k l)))
-
-  pub inv-due : (enters : Bool) → dueOf vol m st enters k ≡ Done
-  unfolding dueOf
-  inv-due enters = pick-keeps (λ (o : Outcome). o ≡ Done) enters _ _ inv-check refl
 
 -- ---- whom the store value serves is not asked
 
@@ -84,8 +79,8 @@ inv-writer {vol} {st} {su} a b inv =
 -- a volume whose first 64 sectors are as they were
 pub inv-beyond : (vol v : List ℕ) (st : Store) → Inv vol st → length v ≡ length vol → ((j : ℕ) → j < 64 → sectorAt v j ≡ sectorAt vol j) → Inv v st
 inv-beyond vol v st inv size same =
-    let head : (c : ℕ) → copyOf v (baseOf c) ≡ copyOf vol (baseOf c) = λ c. copy-same vol v (baseOf c) (rw size) (same (baseOf c) (omega (arith, base-le c))) in
-    let body : (c k : ℕ) → k < 24 → sectorAt v (baseOf c + 1 + k) ≡ sectorAt vol (baseOf c + 1 + k) = λ c k l. same (baseOf c + 1 + k) (omega (arith, base-le c)) in
+    let head : (c : ℕ) → copyOf v (baseOf c) ≡ copyOf vol (baseOf c) = λ c. copy-same vol v (baseOf c) (rw size) (same (baseOf c) (omega (arith, base-most c))) in
+    let body : (c k : ℕ) → k < 24 → sectorAt v (baseOf c + 1 + k) ≡ sectorAt vol (baseOf c + 1 + k) = λ c k l. same (baseOf c + 1 + k) (omega (arith, base-most c)) in
     let s = inv .sound in
     record {
       ok = rw size (inv .ok);
@@ -115,7 +110,7 @@ inv-record vol m k bytes st inv far inside size =
 
 -- no record is touched
 pub kept-records : {vol v : List ℕ} (c : ℕ) → Kept (baseOf c) 25 vol v → SameRecords vol v
-kept-records c kept j l = kept .same j (inr (omega (arith, base-le c)))
+kept-records c kept j l = kept .same j (inr (omega (arith, base-most c)))
 
 module _ (p : Plan) (vol : List ℕ) (m : Medium) (good : Good p vol) where
   -- refused: the store beside it holds on
@@ -169,4 +164,4 @@ inv-numbered {vol} {st} inv c h e =
     (either c (st .copy) (inv-held inv .copy))
 
 pub bytes-numbered : (vol : List ℕ) → Bytes vol → 64 ≤ sectorsOf vol → Numbered vol
-bytes-numbered vol small enough c h e = copy-range vol (baseOf c) h e (omega (arith, base-le c)) small .generation
+bytes-numbered vol small enough c h e = copy-range vol (baseOf c) h e (omega (arith, base-most c)) small .generation

@@ -8,6 +8,8 @@ use Rattle.medium.specs.declared.Error.{Error}
 use Rattle.medium.specs.declared.Medium.{Medium}
 use Rattle.medium.specs.declared.Outcome.the-variants.{Done, No}
 use Rattle.medium.specs.Sector.{sectorsOf, sectorAt, readOf}
+use Rattle.medium.specs.Frame.{Kept}
+use Rattle.medium.proofs.Frame.{kept-sectors}
 use Rattle.handles.specs.declared.Header.{Header}
 use Rattle.handles.specs.declared.Writer.the-variants.{Nobody}
 use Rattle.handles.specs.Handles.{baseOf}
@@ -19,10 +21,9 @@ use Rattle.header.proofs.Accepted.{mount-current}
 use Rattle.header.proofs.Range.{no-way}
 use Rattle.header.proofs.RoundTrip.{decode-encode}
 use Rattle.plan.specs.Copy.{Plan, copyOut}
-use Rattle.safe.specs.Frame.{Kept}
 use Rattle.safe.specs.Copy.{target, Good}
 use Rattle.safe.specs.Mounts.{Stands, Newest}
-use Rattle.safe.proofs.Frame.{kept-sectors, header-beside}
+use Rattle.safe.proofs.Frame.{header-beside}
 use Rattle.safe.proofs.Copy.{copy-frame, copy-stopped, copy-finished}
 use Rattle.safe.proofs.Sums.{finished-range, finished-sane}
 use Rattle.safe.proofs.Current.{stands-mount, current-stands}

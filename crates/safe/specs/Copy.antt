@@ -7,12 +7,11 @@ use lib.ListN.{length, getD}
 use Rattle.checksum.specs.Crc.{crc32Of}
 use Rattle.medium.specs.declared.Medium.{Medium}
 use Rattle.medium.specs.Sector.{sectorsOf, sectorAt}
-use Rattle.handles.specs.declared.Header.{Header}
 use Rattle.handles.specs.declared.Store.{Store}
 use Rattle.handles.specs.Body.{bodyAt}
 use Rattle.handles.specs.Handles.{bodyOf, baseOf}
-use Rattle.header.specs.Header.{encodeOf}
-use Rattle.plan.specs.Copy.{Plan, Move, unread, held, put, bad, isFormat, moveOf, dueBytes, unwritten}
+use Rattle.header.specs.Header.{encodeOf, withCrcs}
+use Rattle.plan.specs.Copy.{Plan, Move, unread, matched, put, bad, isFormat, moveOf, Distinct, skips, skippedAt}
 
 -- the first sector of the copy that a plan writes, and body sector k of it
 abbrev pub target : Plan → ℕ
@@ -40,25 +39,18 @@ pub record Good (p : Plan) (vol : List ℕ) : Type 0 where
 pub record Tied (p : Plan) (vol : List ℕ) : Type 0 where
   pub start : isFormat (p .edit) ≡ false → p .head .crcs ≡ p .store .head .crcs
   pub own : isFormat (p .edit) ≡ false → (k : ℕ) → k < bodyCount p → crc32Of (sectorAt vol (bodyAt (p .store) k)) ≡ getD (p .store .head .crcs) k 0
-  pub other : p .known ≡ true → (k : ℕ) → k < bodyCount p → crc32Of (sectorAt vol (targetAt p k)) ≡ getD (p .held) k 0
+  pub other : p .known ≡ true → (k : ℕ) → k < bodyCount p → crc32Of (sectorAt vol (targetAt p k)) ≡ getD (p .listed) k 0
 
 -- the premise on body sectors left unwritten: no two that differ there have one checksum
-abbrev pub Distinct : Plan → List ℕ → Medium → Type 0
-Distinct p vol m =
-    (k : ℕ) → k < bodyCount p → unwritten p vol m k ≡ true
-    → crc32Of (sectorAt vol (targetAt p k)) ≡ crc32Of (dueBytes p vol k) → sectorAt vol (targetAt p k) ≡ dueBytes p vol k
+abbrev pub PlanDistinct : Plan → List ℕ → Medium → Type 0
+PlanDistinct p vol m = (k : ℕ) → k < bodyCount p → skips p vol m k ≡ true → Distinct (skippedAt p vol k)
 
 -- ---- what is left
-
--- a header with other checksums
-abbrev pub withCrcs : Header → List ℕ → Header
-withCrcs h crcs =
-    record { id = h .id; generation = h .generation; «next_id» = h .«next_id»; cursor = h .cursor; chunks = h .chunks; chunk = h .chunk; crcs = crcs }
 
 -- a move was made: of the sector s and its checksum c it left s′ and c′
 unfoldable pub Made : Move → List ℕ → ℕ → List ℕ → ℕ → Type 0
 Made unread s c s′ c′ = (s′ ≡ s) × (c′ ≡ c)
-Made (held x) s c s′ c′ = (s′ ≡ s) × (c′ ≡ x)
+Made (matched x) s c s′ c′ = (s′ ≡ s) × (c′ ≡ x)
 Made (put x bytes) s c s′ c′ = (s′ ≡ bytes) × (c′ ≡ x)
 Made (bad e) s c s′ c′ = ⊥
 

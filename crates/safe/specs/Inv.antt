@@ -5,28 +5,23 @@ use mathlib.Core.Path.{_≡_}
 use mathlib.Core.Bool.{true}
 use mathlib.Core.List.{List}
 use lib.ListN.{length}
-use Rattle.le.specs.Choice.{pick}
 use Rattle.le.specs.Part.{zeros}
 use Rattle.medium.specs.declared.Medium.{Medium}
 use Rattle.medium.specs.Sector.{sectorsOf, sectorAt}
+use Rattle.medium.specs.Frame.{Kept, Spends}
 use Rattle.handles.specs.declared.Header.{Header}
 use Rattle.handles.specs.declared.Store.{Store}
 use Rattle.handles.specs.declared.Writer.the-variants.{Nobody}
 use Rattle.handles.specs.Body.{bodyAt}
 use Rattle.handles.specs.Handles.{bodyOf, baseOf, storeOk, noStore}
-use Rattle.header.specs.Header.{ours, InRange}
 use Rattle.header.specs.Copies.{copyOf, currentOf}
+use Rattle.header.specs.Header.{withCrcs, ours, InRange}
 use Rattle.plan.specs.declared.Edit.{Edit}
-use Rattle.plan.specs.Edit.{changesOf, editOf, headAfter}
 use Rattle.plan.specs.Copy.{Plan, Out}
+use Rattle.plan.specs.Edit.{editedOf, headAfter}
 use Rattle.commit.specs.Commit.{commitPlan}
-use Rattle.safe.specs.Frame.{Kept, Used}
-use Rattle.safe.specs.Copy.{Distinct, withCrcs}
+use Rattle.safe.specs.Copy.{PlanDistinct}
 use Rattle.safe.specs.Mounts.{Sound}
-
--- every sector reads
-abbrev pub Readable : List ℕ → Medium → Type 0
-Readable vol m = sectorsOf vol ≤ m .unreadable
 
 -- the store value is the one that mount gives: its copy stands with its header and the body that this lists. The other copy, where it is valid, is
 -- strictly older; equal generations are met only before the first format
@@ -45,13 +40,9 @@ SameRecords vol v = (j : ℕ) → 64 ≤ j → sectorAt v j ≡ sectorAt vol j
 abbrev pub planOf : Edit → List ℕ → List ℕ → Medium → Store → Plan
 planOf edit name vol m st = commitPlan (currentOf vol m) edit name st
 
--- what becomes of the bytes s of body sector k
-abbrev pub edited : Edit → List ℕ → ℕ → List ℕ → List ℕ
-edited edit name k s = pick (changesOf edit k) (editOf edit name k s) s
-
 -- the premise on the body sectors that this commit leaves unwritten: no two that differ there have one checksum
 abbrev pub CommitDistinct : Edit → List ℕ → List ℕ → Medium → Store → Type 0
-CommitDistinct edit name vol m st = Distinct (planOf edit name vol m st) vol m
+CommitDistinct edit name vol m st = PlanDistinct (planOf edit name vol m st) vol m
 
 -- refused, however many writes were made: the old store
 pub record CommitStopped (vol : List ℕ) (m : Medium) (st : Store) (o : Out) : Type 0 where
@@ -60,7 +51,7 @@ pub record CommitStopped (vol : List ℕ) (m : Medium) (st : Store) (o : Out) : 
   pub body : (k : ℕ) → k < 24 → sectorAt (o .vol) (bodyAt st k) ≡ sectorAt vol (bodyAt st k)
   pub records : SameRecords vol (o .vol)
   pub frame : Kept (baseOf (1 - st .copy)) 25 vol (o .vol)
-  pub used : Used m (o .ans .medium)
+  pub used : Spends m (o .ans .medium)
 
 -- accepted: the new store, whose body is the old one's edited
 pub record CommitMade (edit : Edit) (name vol : List ℕ) (m : Medium) (st : Store) (o : Out) : Type 0 where
@@ -68,10 +59,10 @@ pub record CommitMade (edit : Edit) (name vol : List ℕ) (m : Medium) (st : Sto
   pub copy : o .ans .store .copy ≡ 1 - st .copy
   pub head : o .ans .store .head ≡ withCrcs (headAfter edit (st .head)) (o .ans .store .head .crcs)
   pub writer : o .ans .store .writer ≡ st .writer
-  pub body : (k : ℕ) → k < bodyOf (st .head .chunks) → sectorAt (o .vol) (bodyAt (o .ans .store) k) ≡ edited edit name k (sectorAt vol (bodyAt st k))
+  pub body : (k : ℕ) → k < bodyOf (st .head .chunks) → sectorAt (o .vol) (bodyAt (o .ans .store) k) ≡ editedOf edit name k (sectorAt vol (bodyAt st k))
   pub records : SameRecords vol (o .vol)
   pub frame : Kept (baseOf (1 - st .copy)) 25 vol (o .vol)
-  pub used : Used m (o .ans .medium)
+  pub used : Spends m (o .ans .medium)
 
 -- ---- format
 
@@ -86,7 +77,7 @@ pub record FormatStopped (vol : List ℕ) (m : Medium) (o : Out) : Type 0 where
   pub inv : (st : Store) → Inv vol st → Inv (o .vol) st
   pub body : (st : Store) → Inv vol st → (k : ℕ) → k < 24 → sectorAt (o .vol) (bodyAt st k) ≡ sectorAt vol (bodyAt st k)
   pub records : SameRecords vol (o .vol)
-  pub used : Used m (o .ans .medium)
+  pub used : Spends m (o .ans .medium)
 
 -- accepted: an empty store with an id of its own
 pub record FormatMade (chunk : ℕ) (vol : List ℕ) (m : Medium) (o : Out) : Type 0 where
@@ -103,4 +94,4 @@ pub record FormatMade (chunk : ℕ) (vol : List ℕ) (m : Medium) (o : Out) : Ty
   pub body : (k : ℕ) → k < bodyOf (o .ans .store .head .chunks) → sectorAt (o .vol) (bodyAt (o .ans .store) k) ≡ zeros 512
   pub records : SameRecords vol (o .vol)
   pub size : length (o .vol) ≡ length vol
-  pub used : Used m (o .ans .medium)
+  pub used : Spends m (o .ans .medium)

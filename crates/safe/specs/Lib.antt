@@ -1,4 +1,3 @@
-pub mod Frame
 pub mod Copy
 pub mod Mounts
 pub mod Inv

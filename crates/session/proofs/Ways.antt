@@ -1,5 +1,5 @@
 -- A line's ways, over plain values: a law for each return. Assumes nothing.
-use mathlib.Core.Path.{_≡_, refl, sym, ap, _∙_}
+use mathlib.Core.Path.{_≡_, refl, ap, _∙_}
 use mathlib.Core.Bool.{Bool, true, false, not}
 use mathlib.Core.List.{List, []}
 use Prim.Native.Nat.{ℕ, _-_, _≤_}
@@ -14,16 +14,15 @@ use Rattle.words.proofs.Forms.{parsed-as}
 use Rattle.words.proofs.Split.{tail-part}
 use Rattle.medium.specs.declared.Error.{Error}
 use Rattle.medium.specs.declared.Error.the-variants.{Range, Uninitialized, Stale}
-use Rattle.medium.specs.declared.Medium.{Medium}
 use Rattle.medium.specs.declared.Outcome.{Outcome}
 use Rattle.medium.specs.declared.Outcome.the-variants as end
-use Rattle.medium.specs.Refusal.{numberOf, outcomeOf}
-use Rattle.handles.specs.declared.Store.{Store}
+use Rattle.medium.specs.Refusal.{numberOf, onOk, outcomeOf}
 use Rattle.append.specs.declared.Appender.{Appender}
 use Rattle.append.specs.declared.Flushed.{Flushed}
 use Rattle.append.specs.declared.Room.{Room}
 use Rattle.append.specs.declared.Room.the-variants as room
-use Rattle.append.specs.Calls.{AppCall, appendCall, syncCall, roomAnswer, roomCall}
+use Rattle.append.specs.Calls.{appendCall, syncCall, roomAnswer, roomCall}
+use Rattle.append.proofs.Offers.{Offers}
 use Rattle.store.specs.declared.StoreAnswer.{StoreAnswer}
 use Rattle.store.specs.declared.ListAnswer.{ListAnswer}
 use Rattle.store.specs.Reading.{storeAnswer, listAnswer, listCall}
@@ -33,12 +32,8 @@ use Rattle.store.specs.Opening as store
 use Rattle.session.specs.declared.Session.{Session}
 use Rattle.session.specs.declared.Told.{Told}
 use Rattle.session.specs.declared.Reply.{Reply}
-use Rattle.session.specs.declared.Reply.the-variants.{Number, Rows, No}
-use Rattle.session.specs.Session.{ok, listed, no, saidOf, onOk, allowedOf, heldOf, formattedOf, createdOf, Turn, turnOf, formatLine, opened, createLine, roomSaid, appendLine, syncLine, deleteLine, listLine, afterFormat, afterCreate, lineStep, stepOf}
-
--- what a call of an appender promises
-abbrev pub Gives : Flushed → List ℕ → AppCall → Type 0
-Gives f v r = (v ≡ r .vol) × (outcomeOf (f .outcome) ≡ r .answer) × (f .medium ≡ r .medium) × (f .store ≡ r .store) × (f .appender ≡ r .appender)
+use Rattle.session.specs.declared.Reply.the-variants.{Number, No}
+use Rattle.session.specs.Session.{ok, listed, no, saidOf, allowedOf, heldOf, formattedOf, createdOf, Turn, turnOf, formatLine, opened, createLine, roomSaid, appendLine, syncLine, deleteLine, listLine, afterFormat, afterCreate, lineStep, stepOf}
 
 -- ---- before an accepted format, and before an accepted create
 
@@ -86,7 +81,7 @@ create-as vol s name true dir = refl
 create-as vol s name false dir = refl
 
 module _ (vol : List ℕ) (s : Session) (fine : not (s .formatted) ≡ false) (name : List ℕ) (rolls : Bool) (dir : List ℕ) (f : Flushed) {v : List ℕ}
-    (g : Gives f v (createCall vol (s .medium) (s .store) name rolls dir)) where
+    (g : Offers v f (createCall vol (s .medium) (s .store) name rolls dir)) where
   opened-as : {t : Turn} → t ≡ opened s (createCall vol (s .medium) (s .store) name rolls dir) → t ≡ afterFormat vol s (createLine vol s name (pick rolls (rollover dir) noRollover))
   opened-as e = e ∙ create-as vol s name rolls dir ∙ with-format vol s fine _
 
@@ -96,7 +91,7 @@ module _ (vol : List ℕ) (s : Session) (fine : not (s .formatted) ≡ false) (n
   create-refused {e = e} o = opened-as go
     where
       go : turnOf v (record { session = heldOf s (f .store) (s .appender) (f .medium); reply = No e }) ≡ opened s (createCall vol (s .medium) (s .store) name rolls dir)
-      go = rw (← (g .0), ← (g .1), ← (g .2), ← (g .3), ← (g .4), o)
+      go = rw (← (g .0), ← (g .1), o)
 
   pub create-done : f .outcome ≡ end.Done
       → turnOf v (record { session = createdOf s (f .store) (f .appender) (f .medium); reply = Number (f .appender .id) }) ≡ afterFormat vol s (createLine vol s name (pick rolls (rollover dir) noRollover))
@@ -104,7 +99,7 @@ module _ (vol : List ℕ) (s : Session) (fine : not (s .formatted) ≡ false) (n
   create-done o = opened-as go
     where
       go : turnOf v (record { session = createdOf s (f .store) (f .appender) (f .medium); reply = Number (f .appender .id) }) ≡ opened s (createCall vol (s .medium) (s .store) name rolls dir)
-      go = rw (← (g .0), ← (g .1), ← (g .2), ← (g .3), ← (g .4), o)
+      go = rw (← (g .0), ← (g .1), o)
 
 -- ---- append and sync: bytes until a record
 
@@ -124,19 +119,19 @@ module _ (o : Outcome) (ap : Appender) where
 
 module _ (vol : List ℕ) (s : Session) (fine : not (s .formatted) ≡ false) (made : not (s .created) ≡ false) (f : Flushed) {v : List ℕ} (r : Told)
     (q : (r .session ≡ heldOf s (f .store) (f .appender) (f .medium)) × (saidOf (r .reply) ≡ roomSaid (outcomeOf (f .outcome)) (roomCall (f .appender)))) where
-  pub append-told : (text : List ℕ) → Gives f v (appendCall vol (s .medium) (s .store) (s .appender) text) → turnOf v r ≡ afterCreate vol s (appendLine vol s text)
+  pub append-told : (text : List ℕ) → Offers v f (appendCall vol (s .medium) (s .store) (s .appender) text) → turnOf v r ≡ afterCreate vol s (appendLine vol s text)
   unfolding appendLine
   append-told text g = go ∙ with-create vol s fine made _
     where
       go : turnOf v r ≡ appendLine vol s text
-      go = rw (q .0, q .1, ← (g .0), ← (g .1), ← (g .2), ← (g .3), ← (g .4))
+      go = rw (q .0, q .1, ← (g .0), ← (g .1))
 
-  pub sync-told : Gives f v (syncCall vol (s .medium) (s .store) (s .appender)) → turnOf v r ≡ afterCreate vol s (syncLine vol s)
+  pub sync-told : Offers v f (syncCall vol (s .medium) (s .store) (s .appender)) → turnOf v r ≡ afterCreate vol s (syncLine vol s)
   unfolding syncLine
   sync-told g = go ∙ with-create vol s fine made _
     where
       go : turnOf v r ≡ syncLine vol s
-      go = rw (q .0, q .1, ← (g .0), ← (g .1), ← (g .2), ← (g .3), ← (g .4))
+      go = rw (q .0, q .1, ← (g .0), ← (g .1))
 
 -- ---- delete and list
 

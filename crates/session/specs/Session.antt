@@ -6,8 +6,7 @@ use Rattle.le.specs.Choice.{pick}
 use Rattle.le.specs.Part.{zeros}
 use Rattle.words.specs.Lines.{Rollover, noRollover, rollover, Line, format, create, append, sync, delete, list, other, lineOf}
 use Rattle.medium.specs.declared.Medium.{Medium}
-use Rattle.medium.specs.Refusal.{Answer, numberOf}
-use Rattle.medium.specs.Refusal as call
+use Rattle.medium.specs.Refusal.{Answer, numberOf, onOk}
 use Rattle.handles.specs.declared.Store.{Store}
 use Rattle.handles.specs.Handles.{noStore}
 use Rattle.append.specs.declared.Appender.{Appender}
@@ -33,11 +32,6 @@ abbrev pub saidOf : Reply → Said
 saidOf (Number n) = ok n
 saidOf (Rows n) = listed n
 saidOf (No e) = no (numberOf e)
-
--- x where a call is accepted, else f of its number. It stays shut in proofs
-unfoldable pub onOk : {A B : Type 0} → Answer A → (A → B) → (ℕ → B) → B
-onOk (call.ok a) x f = x a
-onOk (call.refused e) x f = f e
 
 -- ---- what is held: entropy 0, nothing unreadable, all writes allowed
 
@@ -110,9 +104,9 @@ dirOf (rollover dir) = dir
 
 abbrev pub opened : Session → AppCall → Turn
 opened s r =
-    onOk (r .answer)
-    (λ _. turn (r .vol) (createdOf s (r .store) (r .appender) (r .medium)) (ok (r .appender .id)))
-    (λ n. turn (r .vol) (heldOf s (r .store) (s .appender) (r .medium)) (no n))
+    onOk (r .call .answer)
+    (λ _. turn (r .vol) (createdOf s (r .call .store) (r .call .appender) (r .call .medium)) (ok (r .call .appender .id)))
+    (λ n. turn (r .vol) (heldOf s (r .call .store) (s .appender) (r .call .medium)) (no n))
 
 unfoldable pub createLine : List ℕ → Session → List ℕ → Rollover → Turn
 createLine vol s name over = opened s (createCall vol (s .medium) (s .store) name (rolls over) (dirOf over))
@@ -123,7 +117,7 @@ abbrev pub roomSaid : Answer Unit → Answer ℕ → Said
 roomSaid a room = onOk a (λ _. onOk room ok no) no
 
 abbrev pub appended : Session → AppCall → Turn
-appended s r = turn (r .vol) (heldOf s (r .store) (r .appender) (r .medium)) (roomSaid (r .answer) (roomCall (r .appender)))
+appended s r = turn (r .vol) (heldOf s (r .call .store) (r .call .appender) (r .call .medium)) (roomSaid (r .call .answer) (roomCall (r .call .appender)))
 
 unfoldable pub appendLine : List ℕ → Session → List ℕ → Turn
 appendLine vol s text = appended s (appendCall vol (s .medium) (s .store) (s .appender) text)

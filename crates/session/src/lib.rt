@@ -9,11 +9,11 @@ use medium::Outcome;
 use words::Parsed;
 ghost use mathlib.Core.Path.{_≡_};
 ghost use Rattle.words.specs.Lines.{noRollover, rollover, list};
-ghost use Rattle.medium.specs.Refusal.{outcomeOf};
+ghost use Rattle.medium.specs.Refusal.{onOk, outcomeOf};
 ghost use Rattle.append.specs.Calls.{roomCall};
 ghost use Rattle.le.specs.Choice.{pick};
 ghost use Rattle.session.specs.declared.Reply.the-variants.{No};
-ghost use Rattle.session.specs.Session.{ok, listed, no, saidOf, onOk, startOf, allowedOf, heldOf, turnOf, formatLine, createLine, roomSaid, appendLine, syncLine, deleteLine, afterFormat, afterCreate, lineStep, stepOf};
+ghost use Rattle.session.specs.Session.{ok, listed, no, saidOf, startOf, allowedOf, heldOf, turnOf, formatLine, createLine, roomSaid, appendLine, syncLine, deleteLine, afterFormat, afterCreate, lineStep, stepOf};
 
 // What is held from line to line, beside the volume. `formatted`, `created`: a format, a create was accepted.
 pub struct Session {

@@ -13,6 +13,7 @@ use Rattle.medium.specs.declared.Outcome.the-variants.{Done}
 use Rattle.medium.specs.declared.Written.{Written}
 use Rattle.medium.specs.Refusal.{ok, outcomeOf}
 use Rattle.medium.specs.Sector.{spendOf, writeOf}
+use Rattle.medium.proofs.Laws.{onDone-done}
 use Rattle.handles.specs.declared.Store.{Store}
 use Rattle.plan.specs.Copy.{Step}
 use Rattle.append.specs.declared.Appender.{Appender}
@@ -20,7 +21,7 @@ use Rattle.append.specs.declared.Tail.the-variants.{At}
 use Rattle.append.specs.Flush.{AppOut, after, andThen, done, withRun, recordOut, onTail, writeOut, flushOf, appendOf}
 use Rattle.append.specs.Calls.{callOf, offered, appendCall, roomCall}
 use Rattle.append.proofs.Runs.{run-short, run-fills}
-use Rattle.append.proofs.Then.{onDone-done, then-done, append-parts}
+use Rattle.append.proofs.Then.{then-done, append-parts}
 use Rattle.store.specs.Edges.{aRecord, Wrote, Ready}
 
 -- ---- a record with a write left

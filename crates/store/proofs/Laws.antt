@@ -14,6 +14,7 @@ use Rattle.medium.specs.declared.Error.the-variants.{Name, Handle}
 use Rattle.medium.specs.declared.Outcome.{Outcome}
 use Rattle.medium.specs.declared.Outcome.the-variants.{Done, No}
 use Rattle.medium.specs.Sector.{sectorsOf}
+use Rattle.medium.proofs.Laws.{not-done}
 use Rattle.handles.specs.declared.Store.{Store}
 use Rattle.handles.specs.Handles.{storeOk}
 use Rattle.handles.proofs.Laws.{Held, store-facts}
@@ -31,8 +32,8 @@ asked-done vol st fine e d = go (storeOk st (sectorsOf vol)) refl fine refl (sym
   where
     go : (a : Bool) → storeOk st (sectorsOf vol) ≡ a → (b : Bool) → fine ≡ b → pick a (pick b Done (No Name)) (No Handle) ≡ Done → Accepted vol st fine
     go true p true q r = record { ok = p; held = store-facts st (sectorsOf vol) p; named = q }
-    go true p false q r = absurd (let z : _≡_ {A = ℕ} 0 1 = cc in omega arith)
-    go false p b q r = absurd (let z : _≡_ {A = ℕ} 0 1 = cc in omega arith)
+    go true p false q r = not-done r
+    go false p b q r = not-done r
 
 -- ---- the first 64 counts set to 0
 

@@ -10,17 +10,16 @@ use lib.ListN.{length}
 use Rattle.le.specs.Part.{over, zeros}
 use Rattle.le.specs.Choice.{pick}
 use Rattle.le.proofs.Parts.{length-zeros, part-over}
+use Rattle.le.proofs.Bools.{and-true}
 use Rattle.names.specs.Names.{nameOk, dirOk}
 use Rattle.names.proofs.Laws.{name-short, dir-short}
 use Rattle.medium.specs.declared.Medium.{Medium}
-use Rattle.medium.specs.declared.Outcome.{Outcome}
-use Rattle.medium.specs.declared.Outcome.the-variants.{Done, No}
-use Rattle.medium.specs.Refusal.{ok, outcomeOf}
+use Rattle.medium.specs.declared.Outcome.the-variants.{Done}
+use Rattle.medium.specs.Refusal.{ok}
 use Rattle.medium.specs.Sector.{sectorsOf}
-use Rattle.medium.proofs.Laws.{onDone-keeps}
+use Rattle.medium.proofs.Laws.{onDone-keeps, not-done, done-told}
 use Rattle.handles.specs.declared.Store.{Store}
-use Rattle.handles.proofs.Laws.{and-true, store-facts}
-use Rattle.plan.proofs.Keeps.{not-done}
+use Rattle.handles.proofs.Laws.{store-facts}
 use Rattle.remove.proofs.Keeps.{Stands, stands-none}
 use Rattle.append.specs.declared.Flushed.{Flushed}
 use Rattle.append.specs.declared.Tail.the-variants.{At}
@@ -36,10 +35,6 @@ use Rattle.store.specs.Asked.{askedOf}
 use Rattle.store.specs.Edges.{Ready}
 use Rattle.store.specs.Opening.{openFine, rolloverOf, opening, createCall, openCall}
 use Rattle.store.proofs.Laws.{Accepted, asked-done}
-
-done-told : (o : Outcome) → outcomeOf o ≡ ok tt → o ≡ Done
-done-told Done q = refl
-done-told (No e) q = absurd (let z : _≡_ {A = ℕ} 0 1 = cc in omega arith)
 
 -- a directory that is set and passes its rule makes a rollover that does
 dir-kept : (dir : List ℕ) → length dir ≤ 40 → dirBytes (record { bytes = over 0 dir (zeros 40); length = length dir }) ≡ dir
@@ -78,7 +73,7 @@ module _ (vol : List ℕ) (m : Medium) (st : Store) (name : List ℕ) (rolls : B
   abbrev May : AppOut → Type 0
   May o = o .ans .outcome ≡ Done → mayWrite vol (o .ans .store) (o .ans .appender) ≡ Done
 
-  pub open-may : openCall vol m st name rolls dir .answer ≡ ok tt → mayWrite vol (openCall vol m st name rolls dir .store) (openCall vol m st name rolls dir .appender) ≡ Done
+  pub open-may : openCall vol m st name rolls dir .call .answer ≡ ok tt → mayWrite vol (openCall vol m st name rolls dir .call .store) (openCall vol m st name rolls dir .call .appender) ≡ Done
   unfolding openCall opening
   open-may a =
       onDone-keeps May (askedOf vol st (openFine name rolls dir)) _ _
@@ -104,8 +99,8 @@ module _ (vol : List ℕ) (m : Medium) (st : Store) (name : List ℕ) (rolls : B
         left = left;
       }
 
-  pub create-ready : length (st .head .crcs) ≡ 24 → createCall vol m st name rolls dir .answer ≡ ok tt → 1 ≤ createCall vol m st name rolls dir .medium .left
-      → Ready (createCall vol m st name rolls dir .vol) (createCall vol m st name rolls dir .medium) (createCall vol m st name rolls dir .store) (createCall vol m st name rolls dir .appender)
+  pub create-ready : length (st .head .crcs) ≡ 24 → createCall vol m st name rolls dir .call .answer ≡ ok tt → 1 ≤ createCall vol m st name rolls dir .call .medium .left
+      → Ready (createCall vol m st name rolls dir .vol) (createCall vol m st name rolls dir .call .medium) (createCall vol m st name rolls dir .call .store) (createCall vol m st name rolls dir .call .appender)
   unfolding createCall opening
   create-ready count a =
       onDone-keeps (λ (o : AppOut). Readies (o .vol) (o .ans)) (askedOf vol st (openFine name rolls dir)) _ _

@@ -1,27 +1,28 @@
 -- `create` and `open_append`, by the way that they go: a law for each return, over plain values. Assumes nothing.
 use mathlib.Core.Path.{_≡_, refl, sym, ap, _∙_}
-use mathlib.Core.Bool.{Bool, true, false, not, _||_, false≢true}
+use mathlib.Core.Bool.{Bool, true, false, not, _||_}
 use mathlib.Core.List.{List, []}
 use Prim.Native.Nat.{ℕ, _≤_, zero-le}
 use lib.ListN.{length}
 use Rattle.le.specs.Part.{over, zeros}
 use Rattle.le.proofs.Choices.{pick-true, pick-false, pick-keeps-by}
+use Rattle.le.proofs.Bools.{and-true, where-true}
 use Rattle.names.specs.Names.{nameOk, dirOk}
 use Rattle.names.proofs.Laws.{name-short, dir-short}
 use Rattle.medium.specs.declared.Error.{Error}
 use Rattle.medium.specs.declared.Medium.{Medium}
 use Rattle.medium.specs.declared.Outcome.{Outcome}
 use Rattle.medium.specs.declared.Outcome.the-variants.{Done, No}
-use Rattle.medium.specs.Refusal.{onDone, outcomeOf}
+use Rattle.medium.specs.Refusal.{onDone}
 use Rattle.medium.specs.Sector.{sectorsOf}
 use Rattle.medium.proofs.Laws.{onDone-keeps}
 use Rattle.handles.specs.declared.Store.{Store}
 use Rattle.handles.specs.Handles.{storeOk}
-use Rattle.handles.proofs.Laws.{and-true}
 use Rattle.append.specs.declared.Dir.{Dir}
 use Rattle.append.specs.declared.Flushed.{Flushed}
-use Rattle.append.specs.Calls.{AppCall}
+use Rattle.append.specs.Calls.{appAnswer}
 use Rattle.append.specs.Flush.{AppOut}
+use Rattle.append.proofs.Offers.{Offers}
 use Rattle.files.specs.declared.Rollover.{Rollover}
 use Rattle.files.specs.Opened.{refusedAt}
 use Rattle.files.specs.Create.{createOf}
@@ -39,16 +40,12 @@ pub record Opened (vol : List ℕ) (st : Store) (name : List ℕ) (rolls : Bool)
   pub short : length name ≤ 40
   pub near : rolls ≡ true → length dir ≤ 40
 
-set-passes : (rolls fine : Bool) → (not rolls || fine) ≡ true → rolls ≡ true → fine ≡ true
-set-passes true fine h q = h
-set-passes false fine h q = absurd (false≢true q)
-
 pub input-fits : (vol : List ℕ) (st : Store) (name : List ℕ) (rolls : Bool) (dir : List ℕ) {fine : Bool} {o : Outcome} → fine ≡ openFine name rolls dir → o ≡ askedOf vol st fine
     → o ≡ Done → Opened vol st name rolls dir
 input-fits vol st name rolls dir f q d =
     let a : Accepted vol st _ = asked-done vol st _ q d in
     let b = and-true (nameOk name) (not rolls || dirOk dir) (sym f ∙ a .named) in
-    record { ok = a .ok; short = name-short name (b .0); near = λ r. dir-short dir (set-passes rolls (dirOk dir) (b .1) r) }
+    record { ok = a .ok; short = name-short name (b .0); near = λ r. dir-short dir (where-true rolls (dirOk dir) (b .1) r) }
 
 -- ---- the rollover
 
@@ -67,40 +64,33 @@ rollover-near rolls dir e h = rw e (pick-keeps-by (λ (d : Dir). d .length ≤ 4
 
 -- ---- the ways out
 
--- the volume and an answer are what a call gives; where the volume is not written, the answer alone
-abbrev pub Gives : List ℕ → Flushed → AppCall → Type 0
-Gives v r c = (v ≡ c .vol) × (outcomeOf (r .outcome) ≡ c .answer) × (r .medium ≡ c .medium) × (r .store ≡ c .store) × (r .appender ≡ c .appender)
-
-abbrev pub Tells : Flushed → AppCall → Type 0
-Tells r c = (outcomeOf (r .outcome) ≡ c .answer) × (r .medium ≡ c .medium) × (r .store ≡ c .store) × (r .appender ≡ c .appender)
-
 module _ (vol : List ℕ) (m : Medium) (st : Store) (name : List ℕ) (rolls : Bool) (dir : List ℕ) {fine : Bool} {o : Outcome} (f : fine ≡ openFine name rolls dir)
     (q : o ≡ askedOf vol st fine) where
   module _ (work : Rollover → AppOut) where
-    opening-refused : {e : Error} {r : Flushed} → o ≡ No e → r ≡ refusedAt [] m st e .ans → Gives vol r (opening vol m st name rolls dir work)
+    opening-refused : {e : Error} {r : Flushed} → o ≡ No e → r ≡ refusedAt [] m st e .ans → Offers vol r (opening vol m st name rolls dir work)
     unfolding opening onDone
-    opening-refused h k = rw (k, ← f, ← q, h) (refl, refl, refl, refl, refl)
+    opening-refused h k = rw (k, ← f, ← q, h) (refl, refl)
 
     opening-worked : {over : Rollover} {v : List ℕ} {r : Flushed} → o ≡ Done → over ≡ rolloverOf rolls dir → (v ≡ work over .vol) × (r ≡ work over .ans)
-        → Gives v r (opening vol m st name rolls dir work)
+        → Offers v r (opening vol m st name rolls dir work)
     unfolding opening onDone
-    opening-worked h k g = rw (← f, ← q, h, ← k, g .1) (g .0, refl, refl, refl, refl)
+    opening-worked h k g = rw (← f, ← q, h, ← k) (g .0, ap appAnswer (g .1))
 
   module _ {e : Error} {r : Flushed} (h : o ≡ No e) (k : r ≡ refusedAt [] m st e .ans) where
-    pub open-refused : Tells r (openCall vol m st name rolls dir)
+    pub open-refused : appAnswer r ≡ openCall vol m st name rolls dir .call
     unfolding openCall
-    open-refused = let g = opening-refused (λ x. reopenOf name x vol m st) h k in (g .1, g .2, g .3, g .4)
+    open-refused = opening-refused (λ x. reopenOf name x vol m st) h k .1
 
-    pub create-refused : Gives vol r (createCall vol m st name rolls dir)
+    pub create-refused : Offers vol r (createCall vol m st name rolls dir)
     unfolding createCall
     create-refused = opening-refused (λ x. createOf name x vol m st) h k
 
   module _ {over : Rollover} {r : Flushed} (h : o ≡ Done) (k : over ≡ rolloverOf rolls dir) where
-    pub open-told : r ≡ reopenOf name over vol m st .ans → Tells r (openCall vol m st name rolls dir)
+    pub open-told : r ≡ reopenOf name over vol m st .ans → appAnswer r ≡ openCall vol m st name rolls dir .call
     unfolding openCall
-    open-told e = let g = opening-worked (λ x. reopenOf name x vol m st) h k (refl, e) in (g .1, g .2, g .3, g .4)
+    open-told e = opening-worked (λ x. reopenOf name x vol m st) h k (refl, e) .1
 
-    pub create-told : {v : List ℕ} → (v ≡ createOf name over vol m st .vol) × (r ≡ createOf name over vol m st .ans) → Gives v r (createCall vol m st name rolls dir)
+    pub create-told : {v : List ℕ} → (v ≡ createOf name over vol m st .vol) × (r ≡ createOf name over vol m st .ans) → Offers v r (createCall vol m st name rolls dir)
     unfolding createCall
     create-told g = opening-worked (λ x. createOf name x vol m st) h k g
 

@@ -1,11 +1,10 @@
 -- The starred rows of 01's Edges hold. Assumes nothing.
-use mathlib.Core.Path.{_≡_, refl, ap}
+use mathlib.Core.Path.{_≡_, ap}
 use mathlib.Core.Bool.{true, false}
-use mathlib.Core.List.{List, []}
+use mathlib.Core.List.{List}
 use Prim.Native.Nat.{ℕ, _≤_}
 use Rattle.le.specs.Choice.{pick}
-use Rattle.runs.specs.Run.{startsWith}
-use Rattle.names.specs.Names.{nameOk, dirOk, inDir}
+use Rattle.names.specs.Names.{nameOk, dirOk}
 use Rattle.medium.specs.declared.Medium.{Medium}
 use Rattle.medium.specs.declared.Outcome.the-variants.{Done}
 use Rattle.medium.specs.Refusal.{ok, refused, onDone, outcomeOf}
@@ -19,16 +18,13 @@ use Rattle.header.specs.Copies.{copyOf}
 use Rattle.format.proofs.Edges.{none-575, one-576}
 use Rattle.header.proofs.Edges.{zeroed-refused, equal-takes-a}
 use Rattle.names.proofs.Edges.{edges}
+use Rattle.names.proofs.Laws.{in-root}
 use Rattle.table.proofs.Edges.{edge-written}
 use Rattle.store.specs.Asked.{askedOf}
 use Rattle.store.specs.Edges.{Starred}
 use Rattle.store.specs.Reading.{mountCall, findCall}
 use Rattle.store.specs.Writing.{formatCall, oldestTold, oldestCall}
 use Rattle.store.proofs.Appends.{append-485, append-486, append-487}
-
-root-all : (name : List ℕ) → inDir [] name ≡ true
-unfolding startsWith
-root-all name = refl
 
 module _ (vol : List ℕ) (m : Medium) (st : Store) (l : List ℕ) (passes : storeOk st (sectorsOf vol) ≡ true) where
   bad-name : nameOk l ≡ false → findCall vol m st l .answer ≡ refused 1
@@ -51,7 +47,7 @@ starred =
     record {
       empty-name = edges .empty-name;
       root = edges .empty-dir;
-      root-all = root-all;
+      root-all = in-root;
       slash = edges .slash-name;
       slash-dir = edges .slash-dir;
       double = edges .double-slash;

@@ -16,7 +16,6 @@ use Rattle.handles.specs.declared.Writer.the-variants.{Nobody}
 use Rattle.handles.specs.Handles.{storeOk}
 use Rattle.header.specs.Header.{ours}
 use Rattle.header.specs.Copies.{copyOf, headersOf}
-use Rattle.table.specs.declared.Link.{Link}
 use Rattle.table.specs.Link.{linkBytes}
 use Rattle.plan.specs.Copy.{Step, recorded}
 use Rattle.format.specs.Format.{newestOf}
@@ -36,7 +35,7 @@ aRecord = record { kind = recorded; skipped = [] }
 
 -- an accepted append that wrote so many records, each of them one of the medium's writes, and the bytes until the next
 abbrev pub Wrote : Medium → AppCall → ℕ → ℕ → Type 0
-Wrote m c records room = (c .answer ≡ ok tt) × (c .steps ≡ replicate records aRecord) × (c .medium .left + records ≡ m .left) × (roomCall (c .appender) ≡ ok room)
+Wrote m c records room = (c .call .answer ≡ ok tt) × (c .steps ≡ replicate records aRecord) × (c .call .medium .left + records ≡ m .left) × (roomCall (c .call .appender) ≡ ok room)
 
 -- an appender that may write, with nothing unwritten in its 486 bytes, room in its chunk, and a write left
 pub record Ready (vol : List ℕ) (m : Medium) (st : Store) (ap : Appender) : Type 0 where

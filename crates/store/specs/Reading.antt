@@ -17,11 +17,9 @@ use Rattle.handles.specs.declared.Store.{Store}
 use Rattle.header.specs.Copies.{mountOf}
 use Rattle.directory.specs.declared.Found.{Found}
 use Rattle.directory.specs.declared.Found.the-variants as found
-use Rattle.directory.specs.Scan.{findOf}
+use Rattle.directory.specs.Scan.{findOf, onFound}
 use Rattle.directory.specs.Rows.{RowsOut, rowsOf}
-use Rattle.table.specs.declared.Chained.{Chained}
-use Rattle.table.specs.declared.Chained.the-variants as chained
-use Rattle.table.specs.Table.{Counted, countOf, chainOf}
+use Rattle.table.specs.Table.{Counted, countOf, chainOf, onChain}
 use Rattle.reader.specs.declared.Reader.{Reader}
 use Rattle.reader.specs.Reader.{startOf, noReader}
 use Rattle.store.specs.Asked.{askedName, askedDir}
@@ -78,18 +76,22 @@ listAt m o made counts rows = record { answer = outcomeOf o; made = made; medium
 abbrev pub listAnswer : ListAnswer → List ℕ → List ℕ → ListCall
 listAnswer r counts rows = listAt (r .medium) (r .outcome) (r .count) counts rows
 
+-- refused, with no row made
+abbrev pub notListed : Medium → Error → ListAnswer
+notListed m e = record { outcome = No e; count = 0; medium = m }
+
 -- the counts set to 0 first, then the whole table, then the directory: a state refusal keeps the counts and rows made before it
 unfoldable pub listed : List ℕ → Medium → Store → List ℕ → List ℕ → List ℕ → ListCall
 listed vol m st dir counts rows =
     let c : Counted = countOf vol m st (over 0 (zeros 64) counts) in
     let r : RowsOut = rowsOf vol m st dir (c .counts) rows in
-    onDone (c .outcome) (listAt m (r .outcome) (r .made .count) (c .counts) (r .made .rows)) (λ e. listAt m (No e) 0 (c .counts) rows)
+    onDone (c .outcome) (listAt m (r .outcome) (r .made .count) (c .counts) (r .made .rows)) (λ e. listAnswer (notListed m e) (c .counts) rows)
 
 -- a refusal of the input leaves every buffer as it was
 unfoldable pub listCall : List ℕ → Medium → Store → List ℕ → List ℕ → List ℕ → ListCall
 listCall vol m st dir counts rows =
-    pick (ltb (length rows) 3072 || ltb (length counts) 64) (listAt m (No no.Range) 0 counts rows)
-    (onDone (askedDir vol st dir) (listed vol m st dir counts rows) (λ e. listAt m (No e) 0 counts rows))
+    pick (ltb (length rows) 3072 || ltb (length counts) 64) (listAnswer (notListed m no.Range) counts rows)
+    (onDone (askedDir vol st dir) (listed vol m st dir counts rows) (λ e. listAnswer (notListed m e) counts rows))
 
 -- ---- reader: from the file's first record
 
@@ -98,25 +100,18 @@ pub record ReaderCall : Type 0 where
   pub reader : Reader
   pub medium : Medium
 
-abbrev pub readerAt : Medium → Outcome → Reader → ReaderCall
-readerAt m o rd = record { answer = outcomeOf o; reader = rd; medium = m }
-
 abbrev pub readerAnswer : ReaderAnswer → ReaderCall
-readerAnswer r = readerAt (r .medium) (r .outcome) (r .reader)
+readerAnswer r = record { answer = outcomeOf (r .outcome); reader = r .reader; medium = r .medium }
 
--- what a refused call hands back
-abbrev pub noReaderAnswer : Error → Medium → ReaderAnswer
-noReaderAnswer e m = record { outcome = No e; reader = noReader; medium = m }
+-- refused, a reader that no call accepts
+abbrev pub noReaderAnswer : Medium → Error → ReaderAnswer
+noReaderAnswer m e = record { outcome = No e; reader = noReader; medium = m }
 
--- the chain of the file found
-unfoldable pub onChain : Medium → Store → ℕ → ℕ → Chained → ReaderCall
-onChain m st slot id (chained.Refused e) = readerAt m (No e) noReader
-onChain m st slot id (chained.Whole p) = readerAt m Done (startOf st slot id p)
-
-unfoldable pub onFound : List ℕ → Medium → Store → Found → ReaderCall
-onFound vol m st (found.Refused e) = readerAt m (No e) noReader
-onFound vol m st (found.At slot id) = onChain m st slot id (chainOf vol m st slot)
-
+-- the file found, with its chain
 unfoldable pub readerCall : List ℕ → Medium → Store → List ℕ → ReaderCall
 readerCall vol m st name =
-    onDone (askedName vol st name) (onFound vol m st (findOf vol m st name)) (λ e. readerAt m (No e) noReader)
+    readerAnswer
+    (onDone (askedName vol st name)
+    (onFound (findOf vol m st name) (noReaderAnswer m)
+    (λ slot id. onChain (chainOf vol m st slot) (noReaderAnswer m) (λ p. record { outcome = Done; reader = startOf st slot id p; medium = m })))
+    (noReaderAnswer m))

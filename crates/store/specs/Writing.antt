@@ -1,25 +1,19 @@
 -- The calls on offer that write, as 01 has them. The steps are for 01's book. Assumes nothing.
 use Prim.Native.Nat.{ℕ}
-use mathlib.Core.Bool.{Bool, false}
 use mathlib.Core.List.{List, [], _∷_}
 use Rattle.le.specs.Choice.{pick}
-use Rattle.le.specs.Part.{part, zeros}
-use Rattle.medium.specs.declared.Error.{Error}
+use Rattle.le.specs.Part.{part}
 use Rattle.medium.specs.declared.Medium.{Medium}
-use Rattle.medium.specs.declared.Outcome.the-variants.{No}
 use Rattle.medium.specs.Refusal.{Answer, ok, refused, numberOf, onDone}
 use Rattle.handles.specs.declared.Store.{Store}
-use Rattle.handles.specs.declared.Writer.{Writer}
-use Rattle.directory.specs.declared.Found.{Found}
-use Rattle.directory.specs.declared.Found.the-variants as found
-use Rattle.directory.specs.Scan.{findOf}
+use Rattle.handles.specs.Handles.{isOpen, openId}
+use Rattle.directory.specs.Scan.{findOf, onFound}
 use Rattle.plan.specs.declared.Committed.{Committed}
-use Rattle.plan.specs.Copy.{Kind, Step, formatted, deleted, deletedOldest, Out, stepsOf}
+use Rattle.plan.specs.Copy.{Kind, Step, formatted, deleted, deletedOldest, Out, stepsOf, refusedOut}
 use Rattle.format.specs.Format.{formatOf}
 use Rattle.remove.specs.declared.Gone.{Gone}
-use Rattle.remove.specs.Remove.{GoneOut, removeOf, removeOldestOf, isOpen, openId}
+use Rattle.remove.specs.Remove.{removeOf, GoneOut, noneOut, removeOldestOf}
 use Rattle.store.specs.declared.StoreAnswer.{StoreAnswer}
-use Rattle.store.specs.declared.Spared.{Spared}
 use Rattle.store.specs.Asked.{askedName, askedDir}
 use Rattle.store.specs.Reading.{StoreCall, storeAnswer}
 
@@ -32,36 +26,22 @@ pub record WriteCall : Type 0 where
 abbrev pub answerOf : Committed → StoreAnswer
 answerOf c = record { outcome = c .outcome; store = c .store; medium = c .medium }
 
-abbrev pub asGiven : Error → Store → Medium → StoreAnswer
-asGiven e st m = record { outcome = No e; store = st; medium = m }
-
 abbrev pub written : Kind → Out → WriteCall
 written kind o = record { vol = o .vol; call = storeAnswer (answerOf (o .ans)); steps = stepsOf kind o }
-
-abbrev pub unwritten : List ℕ → Medium → Store → Error → WriteCall
-unwritten vol m st e = record { vol = vol; call = storeAnswer (asGiven e st m); steps = [] }
 
 -- ---- format: the store; refused, one that no call accepts
 
 unfoldable pub formatCall : List ℕ → Medium → ℕ → ℕ → WriteCall
 formatCall vol m size seed = written formatted (formatOf size seed vol m)
 
--- ---- delete: the file named
-
-unfoldable pub onNamed : List ℕ → Medium → Store → Found → WriteCall
-onNamed vol m st (found.Refused e) = unwritten vol m st e
-onNamed vol m st (found.At slot id) = written deleted (removeOf vol m st slot id)
+-- ---- delete: the file named; refused by the input, or where no file has the name, all is as given
 
 unfoldable pub deleteCall : List ℕ → Medium → Store → List ℕ → WriteCall
-deleteCall vol m st name = onDone (askedName vol st name) (onNamed vol m st (findOf vol m st name)) (unwritten vol m st)
+deleteCall vol m st name =
+    written deleted
+    (onDone (askedName vol st name) (onFound (findOf vol m st name) (refusedOut st vol m) (removeOf vol m st)) (refusedOut st vol m))
 
 -- ---- delete_oldest: the name that went, or none
-
-abbrev pub sparedOf : Writer → Spared
-sparedOf w = record { keeping = isOpen w; keep = openId w }
-
-abbrev pub noneOf : Error → Store → Medium → Gone
-noneOf e st m = record { outcome = No e; medium = m; store = st; any = false; name = zeros 40; length = 0 }
 
 -- the answer as 01 has it: a name's bytes, or none
 pub data Went : Type 0 where
@@ -86,12 +66,12 @@ pub record OldestCall : Type 0 where
   pub gone : Gone
   pub steps : List Step
 
--- the open file is spared; where no file goes, no step is made
+-- where no file goes, no step is made
 unfoldable pub oldestTold : GoneOut → OldestCall
 oldestTold g = record { vol = g .vol; call = goneAnswer (g .ans); gone = g .ans; steps = pick (g .ans .any) ((record { kind = deletedOldest; skipped = g .skipped }) ∷ []) [] }
 
+-- the open file is spared
 unfoldable pub oldestCall : List ℕ → Medium → Store → List ℕ → OldestCall
 oldestCall vol m st dir =
-    onDone (askedDir vol st dir)
-    (oldestTold (removeOldestOf vol m st dir (isOpen (st .writer)) (openId (st .writer))))
-    (λ e. oldestTold (record { vol = vol; ans = noneOf e st m; skipped = [] }))
+    oldestTold
+    (onDone (askedDir vol st dir) (removeOldestOf vol m st dir (isOpen (st .writer)) (openId (st .writer))) (λ e. noneOut (refusedOut st vol m e)))

@@ -3,7 +3,6 @@ mod opening;
 
 use directory::Found;
 use handles::Store;
-use handles::Writer;
 use medium::Error;
 use medium::Medium;
 use medium::Outcome;
@@ -14,12 +13,14 @@ use reader::Reader;
 use remove::Gone;
 use table::Chained;
 ghost use mathlib.Core.Path.{_≡_};
+ghost use mathlib.Core.List.{[]};
 ghost use Prim.Native.Nat.{_≤_};
 ghost use lib.ListN.{length};
 ghost use Rattle.le.specs.Part.{over, zeros};
+ghost use Rattle.plan.specs.Copy.{refusedOut};
 ghost use Rattle.store.specs.Asked.{askedOf};
-ghost use Rattle.store.specs.Writing.{formatCall, asGiven, answerOf, deleteCall, sparedOf, noneOf, goneAnswer, oldestCall};
-ghost use Rattle.store.specs.Reading.{storeAnswer, mountCall, findAnswer, findCall, listAnswer, listCall, noReaderAnswer, readerAnswer, readerCall};
+ghost use Rattle.store.specs.Writing.{formatCall, answerOf, deleteCall, goneAnswer, oldestCall};
+ghost use Rattle.store.specs.Reading.{storeAnswer, mountCall, findAnswer, findCall, listAnswer, notListed, listCall, readerAnswer, noReaderAnswer, readerCall};
 
 // Refusals 3 and 1 of a call that takes a store value and a name or directory; `fine`: that one passes its rule.
 fn asked(volume: &[u8], store: Store, fine: bool) -> Outcome
@@ -40,6 +41,20 @@ pub struct StoreAnswer {
     pub medium: Medium,
 }
 
+// What a commit or a format came to.
+fn committed(c: Committed) -> StoreAnswer
+    ensures { λ r. ⌜ r ≡ answerOf c ⌝ }
+{
+    let outcome = c.outcome;
+    let store = c.store;
+    let medium = c.medium;
+    StoreAnswer {
+        outcome,
+        store,
+        medium,
+    }
+}
+
 // The current metadata of the store in the volume.
 pub fn mount(volume: &[u8], medium: Medium) -> StoreAnswer
     ensures { λ r. ⌜ storeAnswer r ≡ mountCall (now (volume .entry)) medium ⌝ }
@@ -58,15 +73,7 @@ pub fn mount(volume: &[u8], medium: Medium) -> StoreAnswer
 pub fn format(volume: &mut [u8], medium: Medium, size: u32, seed: u64) -> StoreAnswer
     ensures { λ r. ⌜ (now (volume .exit) ≡ formatCall (now (volume .entry)) medium size seed .vol) × (storeAnswer r ≡ formatCall (now (volume .entry)) medium size seed .call) ⌝ }
 {
-    let c = format::format(volume, medium, size, seed);
-    let outcome = c.outcome;
-    let store = c.store;
-    let medium = c.medium;
-    StoreAnswer {
-        outcome,
-        store,
-        medium,
-    }
+    committed(format::format(volume, medium, size, seed))
 }
 
 pub struct FindAnswer {
@@ -95,6 +102,17 @@ pub struct ListAnswer {
     pub medium: Medium,
 }
 
+// Refused with no row made.
+fn not_listed(e: Error, medium: Medium) -> ListAnswer
+    ensures { λ r. ⌜ r ≡ notListed medium e ⌝ }
+{
+    ListAnswer {
+        outcome: Outcome::No(e),
+        count: 0,
+        medium,
+    }
+}
+
 // The first 64 counts set to 0.
 fn clear_counts(counts: &mut [u32])
     requires { ⌜ 64 ≤ length (now counts) ⌝ }
@@ -117,28 +135,16 @@ pub fn list(
     ensures { λ r. ⌜ listAnswer r (now (counts .exit)) (now (rows .exit)) ≡ listCall (now (volume .entry)) medium store (now (dir .entry)) (now (counts .entry)) (now (rows .entry)) ⌝ }
 {
     if (rows.len() < 3072) | (counts.len() < 64) {
-        return ListAnswer {
-            outcome: Outcome::No(Error::Range),
-            count: 0,
-            medium,
-        };
+        return not_listed(Error::Range, medium);
     }
     let o = asked(volume, store, names::dir_ok(dir));
     if let Outcome::No(e) = o {
-        return ListAnswer {
-            outcome: Outcome::No(e),
-            count: 0,
-            medium,
-        };
+        return not_listed(e, medium);
     }
     clear_counts(counts);
     let c = table::count(volume, medium, store, counts);
     if let Outcome::No(e) = c {
-        return ListAnswer {
-            outcome: Outcome::No(e),
-            count: 0,
-            medium,
-        };
+        return not_listed(e, medium);
     }
     let made = directory::list_rows(volume, medium, store, dir, counts, rows);
     let outcome = made.outcome;
@@ -157,7 +163,7 @@ pub struct ReaderAnswer {
 
 // A refused reader call hands back a reader that no call accepts.
 fn no_reader(e: Error, medium: Medium) -> ReaderAnswer
-    ensures { λ r. ⌜ r ≡ noReaderAnswer e medium ⌝ }
+    ensures { λ r. ⌜ r ≡ noReaderAnswer medium e ⌝ }
 {
     let reader = reader::no_reader();
     ReaderAnswer {
@@ -197,23 +203,10 @@ pub fn reader(volume: &[u8], medium: Medium, store: Store, name: &[u8]) -> Reade
 
 // A refused call hands its store value and medium record back.
 fn as_given(e: Error, store: Store, medium: Medium) -> StoreAnswer
-    ensures { λ r. ⌜ r ≡ asGiven e store medium ⌝ }
+    ensures { λ r. ⌜ r ≡ answerOf (refusedOut store [] medium e .ans) ⌝ }
 {
     StoreAnswer {
         outcome: Outcome::No(e),
-        store,
-        medium,
-    }
-}
-
-fn committed(c: Committed) -> StoreAnswer
-    ensures { λ r. ⌜ r ≡ answerOf c ⌝ }
-{
-    let outcome = c.outcome;
-    let store = c.store;
-    let medium = c.medium;
-    StoreAnswer {
-        outcome,
         store,
         medium,
     }
@@ -234,51 +227,16 @@ pub fn delete(volume: &mut [u8], medium: Medium, store: Store, name: &[u8]) -> S
     }
 }
 
-// Whether the store has an open appender, and the id of its file.
-fn open_of(writer: Writer) -> Spared
-    ensures { λ r. ⌜ r ≡ sparedOf writer ⌝ }
-{
-    match writer {
-        Writer::Nobody => Spared {
-            keeping: false,
-            keep: 0,
-        },
-        Writer::Open { token: _, id } => Spared {
-            keeping: true,
-            keep: id,
-        },
-    }
-}
-
-// The file of the open appender, which delete_oldest spares.
-pub struct Spared {
-    pub keeping: bool,
-    pub keep: u32,
-}
-
-// Nothing went: the call was refused.
-fn none_gone(e: Error, store: Store, medium: Medium) -> Gone
-    ensures { λ r. ⌜ r ≡ noneOf e store medium ⌝ }
-{
-    Gone {
-        outcome: Outcome::No(e),
-        medium,
-        store,
-        any: false,
-        name: [0u8; 40],
-        length: 0,
-    }
-}
-
 // Deletes the oldest file in a directory other than the open appender's, and tells its name, or that there is none.
 pub fn delete_oldest(volume: &mut [u8], medium: Medium, store: Store, dir: &[u8]) -> Gone
     ensures { λ r. ⌜ (now (volume .exit) ≡ oldestCall (now (volume .entry)) medium store (now (dir .entry)) .vol) × (goneAnswer r ≡ oldestCall (now (volume .entry)) medium store (now (dir .entry)) .call) × (r ≡ oldestCall (now (volume .entry)) medium store (now (dir .entry)) .gone) ⌝ }
 {
     let o = asked(&volume[..], store, names::dir_ok(dir));
     if let Outcome::No(e) = o {
-        return none_gone(e, store, medium);
+        return remove::none_gone(Outcome::No(e), medium, store);
     }
-    let w = store.writer;
-    let spared = open_of(w);
-    remove::remove_oldest(volume, medium, store, dir, spared.keeping, spared.keep)
+    let writer = store.writer;
+    let keeping = handles::is_open(writer);
+    let keep = handles::open_id(writer);
+    remove::remove_oldest(volume, medium, store, dir, keeping, keep)
 }

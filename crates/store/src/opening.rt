@@ -9,7 +9,7 @@ ghost use mathlib.Core.Path.{_≡_};
 ghost use mathlib.Core.Bool.{true};
 ghost use Prim.Native.Nat.{_≤_};
 ghost use lib.ListN.{length};
-ghost use Rattle.medium.specs.Refusal.{outcomeOf};
+ghost use Rattle.append.specs.Calls.{appAnswer};
 ghost use Rattle.store.specs.Opening.{openFine, rolloverOf, createCall, openCall};
 
 // The name passes its rule, and the directory where it is set.
@@ -52,7 +52,7 @@ pub fn create(
     rolls: bool,
     dir: &[u8],
 ) -> Flushed
-    ensures { λ r. ⌜ (now (volume .exit) ≡ createCall (now (volume .entry)) medium store (now (name .entry)) rolls (now (dir .entry)) .vol) × (outcomeOf (r .outcome) ≡ createCall (now (volume .entry)) medium store (now (name .entry)) rolls (now (dir .entry)) .answer) × (r .medium ≡ createCall (now (volume .entry)) medium store (now (name .entry)) rolls (now (dir .entry)) .medium) × (r .store ≡ createCall (now (volume .entry)) medium store (now (name .entry)) rolls (now (dir .entry)) .store) × (r .appender ≡ createCall (now (volume .entry)) medium store (now (name .entry)) rolls (now (dir .entry)) .appender) ⌝ }
+    ensures { λ r. ⌜ (now (volume .exit) ≡ createCall (now (volume .entry)) medium store (now (name .entry)) rolls (now (dir .entry)) .vol) × (appAnswer r ≡ createCall (now (volume .entry)) medium store (now (name .entry)) rolls (now (dir .entry)) .call) ⌝ }
 {
     let o = crate::asked(&volume[..], store, open_fine(name, rolls, dir));
     if let Outcome::No(e) = o {
@@ -71,7 +71,7 @@ pub fn open_append(
     rolls: bool,
     dir: &[u8],
 ) -> Flushed
-    ensures { λ r. ⌜ (outcomeOf (r .outcome) ≡ openCall (now (volume .entry)) medium store (now (name .entry)) rolls (now (dir .entry)) .answer) × (r .medium ≡ openCall (now (volume .entry)) medium store (now (name .entry)) rolls (now (dir .entry)) .medium) × (r .store ≡ openCall (now (volume .entry)) medium store (now (name .entry)) rolls (now (dir .entry)) .store) × (r .appender ≡ openCall (now (volume .entry)) medium store (now (name .entry)) rolls (now (dir .entry)) .appender) ⌝ }
+    ensures { λ r. ⌜ appAnswer r ≡ openCall (now (volume .entry)) medium store (now (name .entry)) rolls (now (dir .entry)) .call ⌝ }
 {
     let o = crate::asked(volume, store, open_fine(name, rolls, dir));
     if let Outcome::No(e) = o {

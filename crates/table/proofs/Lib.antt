@@ -3,3 +3,4 @@ pub mod Walks
 pub mod Nearest
 pub mod Clears
 pub mod Edges
+pub mod Decides

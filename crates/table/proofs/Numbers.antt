@@ -4,10 +4,9 @@ use mathlib.Core.Bool.{Bool, true, false, _&&_, _||_}
 use mathlib.Core.List.{List}
 use Prim.Native.Nat.{ℕ, _+_, _-_, _*_, _/_, _%_, _≤_, _<_}
 use native.Mathlib.Nat.{add-sub-cancel}
-use native.Mathlib.Numerals.{add-one}
 use native.Mathlib.Omega.{arith}
 use borrow.Author.Tests.{leb-true, ltb-true, eqb-true, lt-ltb, le-leb, lt-leb, eq-eqb, ne-eqb}
-use lib.Dec.{eqb, leb, ltb, eqb·suc-suc}
+use lib.Dec.{eqb, leb, ltb}
 use lib.ListN.{length, length-append}
 use Rattle.le.specs.Choice.{pick}
 use Rattle.le.specs.Part.{part, over, zeros}
@@ -15,6 +14,7 @@ use Rattle.le.specs.Field.{leNumber, leBytes, getLe, putLe}
 use Rattle.le.proofs.Choices.{pick-keeps-by, pick-true, pick-false}
 use Rattle.le.proofs.Parts.{part-part, part-over, over-over}
 use Rattle.le.proofs.Fields.{length-bytes}
+use Rattle.le.proofs.Bools.{and-true, or-right}
 use Rattle.medium.specs.declared.Error.{Error}
 use Rattle.medium.specs.declared.Medium.{Medium}
 use Rattle.medium.specs.declared.Outcome.{Outcome}
@@ -24,12 +24,11 @@ use Rattle.medium.specs.Sector.{sectorAt}
 use Rattle.medium.proofs.Laws.{onDone-keeps}
 use Rattle.handles.specs.declared.Store.{Store}
 use Rattle.handles.specs.Handles.{baseOf}
-use Rattle.handles.specs.Body.{bodyAt}
-use Rattle.handles.proofs.Laws.{and-true}
+use Rattle.handles.specs.Body.{bodyAt, dueOf}
 use Rattle.table.specs.declared.Link.{Link}
 use Rattle.table.specs.declared.LinkAt.{LinkAt}
 use Rattle.table.specs.declared.LinkAt.the-variants.{Refused, Past, Free, Linked}
-use Rattle.table.specs.Link.{ownerOf, placeOf, linkBytes, linkFits, linkOf, linkIn, linkPart, dueOf, linkAt, ownedBy}
+use Rattle.table.specs.Link.{ownerOf, placeOf, linkBytes, linkFits, linkOf, linkIn, linkPart, linkAt}
 
 -- ---- what is found
 
@@ -46,10 +45,6 @@ pub data Said (low : ℕ) (inside : Bool) (size : ℕ) : LinkAt → Type 0 where
   past : low ≡ 0 → Said low inside size Past
   free : low ≡ 0 → inside ≡ true → Said low inside size Free
   linked : {l : Link} → low ≡ l .slot + 1 → inside ≡ true → Sound l size → Said low inside size (Linked l)
-
-or-right : (a b : Bool) → (a || b) ≡ true → a ≡ false → b ≡ true
-or-right true b e q = absurd (let z : _≡_ {A = ℕ} 0 1 = cc in omega arith)
-or-right false b e q = e
 
 pub fits-sound : (owner place size : ℕ) → linkFits owner place size ≡ true
     → Sound (record { slot = owner % 128 - 1; position = place % 32768; partial = leb 32768 place; records = owner / 128 }) size
@@ -92,7 +87,7 @@ module _ (vol : List ℕ) (m : Medium) (st : Store) (c : ℕ) where
 
   links-said : Told (linkAt vol m st c)
   unfolding linkAt linkIn
-  links-said = onDone-keeps Told (dueOf vol m st c) _ _ (λ q. link-said _ _ _ _) (λ e q. refused)
+  links-said = onDone-keeps Told _ _ _ (λ q. link-said _ _ _ _) (λ e q. refused)
 
   -- what a call at c found
   pub found-free : {x : LinkAt} → x ≡ linkAt vol m st c → x ≡ Free → c < st .head .chunks
@@ -194,26 +189,6 @@ pub link-zero : (inside : Bool) (size : ℕ) → linkIn (zeros 4) inside size �
 unfolding linkIn linkOf getLe leNumber part zeros pick
 link-zero inside size = refl
 
--- whose link it is
-module _ (slot : ℕ) (bytes : List ℕ) (inside : Bool) (size : ℕ) where
-  said : {x : LinkAt} → linkIn bytes inside size ≡ x → Said (getLe 2 0 bytes % 128) inside size x
-  unfolding linkIn
-  said e = subst (Said (getLe 2 0 bytes % 128) inside size) e (link-said _ _ inside size)
-
-  pub owned-link : {l : Link} → linkIn bytes inside size ≡ Linked l → ownedBy slot bytes ≡ eqb (l .slot) slot
-  unfolding ownedBy
-  owned-link {l} e = out (said e)
-    where
-      out : Said (getLe 2 0 bytes % 128) inside size (Linked l) → eqb (getLe 2 0 bytes % 128) (slot + 1) ≡ eqb (l .slot) slot
-      out (linked o h s) = rw (o, add-one (l .slot), add-one slot) (eqb·suc-suc (l .slot) slot)
-
-  pub owned-free : linkIn bytes inside size ≡ Free → ownedBy slot bytes ≡ false
-  unfolding ownedBy
-  owned-free e = out (said e)
-    where
-      out : Said (getLe 2 0 bytes % 128) inside size Free → eqb (getLe 2 0 bytes % 128) (slot + 1) ≡ false
-      out (free o h) = ne-eqb _ _ (λ (q : getLe 2 0 bytes % 128 ≡ slot + 1). omega arith)
-
 -- ---- in the volume
 
 -- a field of a link is a field of the volume
@@ -225,7 +200,7 @@ link-field vol st c at o e h =
     let f : at ≡ a + (b + o) = omega arith in
     ap leNumber (ap (λ (k : ℕ). part k 2 vol) f ∙ sym (part-part b 4 o 2 (part a 512 vol) h ∙ part-part a 512 (b + o) 2 vol (omega arith)))
 
-module _ (vol : List ℕ) (m : Medium) (st : Store) (c : ℕ) {o : Outcome} (asked : o ≡ dueOf vol m st c) where
+module _ (vol : List ℕ) (m : Medium) (st : Store) (c : ℕ) {o : Outcome} (asked : o ≡ dueOf vol m st (eqb (c % 128) 0) (8 + c / 128)) where
   pub link-refused : {e : Error} → o ≡ No e → Refused e ≡ linkAt vol m st c
   unfolding linkAt onDone
   link-refused q = rw (← asked, q)

@@ -2,7 +2,7 @@
 -- table sectors agree give the same walks. Assumes nothing.
 use Prim.Native.Nat.{ℕ, _+_, _-_, _/_, _%_, _<_, _≤_, zero-le}
 use mathlib.Core.Path.{_≡_, refl, sym, ap, ap₂, _∙_, subst}
-use mathlib.Core.Bool.{Bool, true, false, _||_}
+use mathlib.Core.Bool.{Bool, true, false}
 use mathlib.Core.List.{List}
 use native.Mathlib.Decide.{ℕ-discrete}
 use native.Mathlib.Omega.{arith}
@@ -12,17 +12,17 @@ use lib.Dec.{eqb, ltb}
 use lib.ListN.{length, getD, set}
 use lib.Seq.{getD-set-same, getD-set-other}
 use Rattle.le.specs.Choice.{pick}
-use Rattle.le.proofs.Choices.{pick-keeps, pick-keeps-by}
+use Rattle.le.proofs.Choices.{pick-keeps-by}
+use Rattle.le.proofs.Bools.{and-true, or-false}
 use Rattle.medium.specs.declared.Error.{Error}
 use Rattle.medium.specs.declared.Medium.{Medium}
-use Rattle.medium.specs.declared.Outcome.{Outcome}
 use Rattle.medium.specs.declared.Outcome.the-variants.{Done}
-use Rattle.medium.specs.Refusal.{onDone}
 use Rattle.medium.specs.Sector.{sectorAt}
+use Rattle.medium.proofs.Laws.{onDone-done}
 use Rattle.handles.specs.declared.Store.{Store}
-use Rattle.handles.specs.Body.{bodyAt, checkOf}
+use Rattle.handles.specs.Body.{bodyAt, checkOf, dueOf}
 use Rattle.handles.specs.Handles.{tableOf}
-use Rattle.handles.proofs.Laws.{and-true}
+use Rattle.handles.proofs.Laws.{due-done}
 use Rattle.walk.specs.Walk.{next, stop, visits}
 use Rattle.walk.proofs.Laws.{walk-keeps, visits-alike}
 use Rattle.table.specs.declared.Link.{Link}
@@ -34,7 +34,7 @@ use Rattle.table.specs.declared.ChainState.{ChainState}
 use Rattle.table.specs.declared.ChainParts.{ChainParts}
 use Rattle.table.specs.declared.Chained.{Chained}
 use Rattle.table.specs.declared.Chained.the-variants as chained
-use Rattle.table.specs.Link.{linkIn, linkPart, dueOf, linkAt}
+use Rattle.table.specs.Link.{linkIn, linkPart, linkAt}
 use Rattle.table.specs.Table.{TableVisit, onLink, linksOf, overTable, sought, locateStep, locateV, locateOf, firstStep, higher, chainMore, chainStep, chainV, chainEnd, chainOf, wholeOf, noChain}
 use Rattle.table.proofs.Numbers.{Sound, found-free, found-link}
 
@@ -82,8 +82,8 @@ module _ (vol vol′ : List ℕ) (m : Medium) (st : Store)
 
 module _ (vol : List ℕ) (m : Medium) (st : Store) (pass : (t : ℕ) → t < tableOf (st .head .chunks) → checkOf vol m st (8 + t) ≡ Done) where
   pub link-checked : (c : ℕ) → c < linksOf (st .head .chunks) → linkAt vol m st c ≡ linkIn (linkPart vol st c) (ltb c (st .head .chunks)) (st .head .chunk)
-  unfolding linkAt dueOf onDone
-  link-checked c h = rw (pick-keeps (λ (o : Outcome). o ≡ Done) (eqb (c % 128) 0) (checkOf vol m st (8 + c / 128)) Done (pass (c / 128) (omega arith)) refl)
+  unfolding linkAt
+  link-checked c h = onDone-done _ _ (due-done vol m st (eqb (c % 128) 0) (8 + c / 128) (pass (c / 128) (omega arith)))
 
 -- ---- locate: the chunk is linked to the slot at the position, and no higher one is
 
@@ -140,10 +140,6 @@ module _ (vol : List ℕ) (m : Medium) (st : Store) (slot position : ℕ) where
   pub locate-range : {c : ℕ} {l : Link} → locateOf vol m st slot position ≡ place.At c l → Located (linksOf (st .head .chunks)) c l
   locate-range e = subst (PlaceOk (linksOf (st .head .chunks))) e locate-ok
 
-or-false : (a b : Bool) → (a || b) ≡ false → a ≡ false
-or-false true b e = absurd (let z : _≡_ {A = ℕ} 0 1 = cc in omega arith)
-or-false false b e = refl
-
 -- ---- chain: the ranges of its numbers, the links of its first and its last chunk
 
 -- a chunk adds at most one to the count
@@ -186,7 +182,7 @@ module _ (vol : List ℕ) (m : Medium) (st : Store) (slot : ℕ) where
       where
         go : (b : Bool) → higher l s ≡ b → Tail (pick b n (s .last)) (pick b (l .position) (s .top))
         go true t = record { tail = l; held = e; chunk = h; owner = q; at = refl }
-        go false t = let z : s .count ≡ 0 → ⊥ = eqb-false _ _ (or-false _ _ t) in p .last (omega arith)
+        go false t = let z : s .count ≡ 0 → ⊥ = eqb-false _ _ (or-false _ _ t .0) in p .last (omega arith)
 
     first-same : eqb (l .slot) slot ≡ true → locateStep slot 0 n l (s .first) ≡ firstStep n l (s .first)
     unfolding locateStep firstStep

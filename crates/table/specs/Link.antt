@@ -9,12 +9,10 @@ use Rattle.le.specs.Part.{part, over, zeros}
 use Rattle.le.specs.Field.{leBytes, getLe}
 use Rattle.medium.specs.declared.Error.the-variants.{Corrupt}
 use Rattle.medium.specs.declared.Medium.{Medium}
-use Rattle.medium.specs.declared.Outcome.{Outcome}
-use Rattle.medium.specs.declared.Outcome.the-variants.{Done}
 use Rattle.medium.specs.Refusal.{onDone}
 use Rattle.medium.specs.Sector.{sectorAt}
 use Rattle.handles.specs.declared.Store.{Store}
-use Rattle.handles.specs.Body.{bodyAt, checkOf}
+use Rattle.handles.specs.Body.{bodyAt, dueOf}
 use Rattle.walk.specs.Walk.{next, visits}
 use Rattle.table.specs.declared.Link.{Link}
 use Rattle.table.specs.declared.LinkAt.{LinkAt}
@@ -51,13 +49,12 @@ linkIn bytes inside size = linkOf (getLe 2 0 bytes) (getLe 2 2 bytes) inside siz
 unfoldable pub linkPart : List ℕ → Store → ℕ → List ℕ
 linkPart vol st c = part (4 * (c % 128)) 4 (sectorAt vol (bodyAt st (8 + c / 128)))
 
--- a sector is checked where a walk enters it, at its first link
-unfoldable pub dueOf : List ℕ → Medium → Store → ℕ → Outcome
-dueOf vol m st c = pick (eqb (c % 128) 0) (checkOf vol m st (8 + c / 128)) Done
-
--- what the table says of chunk c
+-- what a walk finds of chunk c: the sector is checked at its first link
 unfoldable pub linkAt : List ℕ → Medium → Store → ℕ → LinkAt
-linkAt vol m st c = onDone (dueOf vol m st c) (linkIn (linkPart vol st c) (ltb c (st .head .chunks)) (st .head .chunk)) Refused
+linkAt vol m st c =
+    onDone (dueOf vol m st (eqb (c % 128) 0) (8 + c / 128))
+    (linkIn (linkPart vol st c) (ltb c (st .head .chunks)) (st .head .chunk))
+    Refused
 
 -- the low 7 bits are slot + 1, whatever else the link holds
 unfoldable pub ownedBy : ℕ → List ℕ → Bool

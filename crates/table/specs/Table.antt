@@ -23,6 +23,7 @@ use Rattle.table.specs.declared.Place.the-variants as place
 use Rattle.table.specs.declared.Pick.{Pick}
 use Rattle.table.specs.declared.Pick.the-variants as free
 use Rattle.table.specs.declared.ChainState.{ChainState}
+use Rattle.table.specs.declared.ChainParts.{ChainParts}
 use Rattle.table.specs.declared.Chained.{Chained}
 use Rattle.table.specs.declared.Chained.the-variants as chained
 use Rattle.table.specs.Link.{linkAt}
@@ -139,3 +140,18 @@ countV =
 
 unfoldable pub countOf : List ℕ → Medium → Store → List ℕ → Counted
 countOf vol m st counts = overTable countV vol m st counts
+
+-- ---- decisions by what a walk answers. They stay shut in proofs
+
+unfoldable pub onPlace : {A : Type 0} → Place → (Error → A) → (ℕ → Link → A) → A
+onPlace (place.Refused e) f g = f e
+onPlace (place.At chunk l) f g = g chunk l
+
+unfoldable pub onChain : {A : Type 0} → Chained → (Error → A) → (ChainParts → A) → A
+onChain (chained.Refused e) f g = f e
+onChain (chained.Whole p) f g = g p
+
+unfoldable pub onPick : {A : Type 0} → Pick → (Error → A) → A → (ℕ → A) → A
+onPick (free.Refused e) f a g = f e
+onPick free.Nothing f a g = a
+onPick (free.At chunk) f a g = g chunk

@@ -8,7 +8,7 @@ ghost use Prim.Native.Nat.{ℕ, _+_, _*_, _%_, _<_, _≤_};
 ghost use lib.ListN.{length, getD};
 ghost use Rattle.le.specs.Part.{over};
 ghost use Rattle.medium.specs.Sector.{sectorsOf};
-ghost use Rattle.table.specs.Link.{placeOf, linkBytes, linkOf, dueOf, linkAt, clearLink, clearedOf};
+ghost use Rattle.table.specs.Link.{placeOf, linkBytes, linkOf, linkAt, clearLink, clearedOf};
 ghost use Rattle.table.specs.Table.{linksOf, Before, locateOf, firstStep, chainMore, chainEnd, chainOf, freeStep, freeOf, countOf};
 
 // What a chunk's link says: its file's slot, its place in the file, and the records of a chunk that the file left before it was full.
@@ -98,23 +98,12 @@ fn link_of(owner: u16, place: u16, inside: bool, size: u32) -> LinkAt
     LinkAt::Refused(Error::Corrupt)
 }
 
-// The check of a table sector, at its first link.
-fn due(volume: &[u8], medium: Medium, store: Store, chunk: u32) -> Outcome
-    requires { ⌜ (64 ≤ sectorsOf (now volume)) × (chunk < 2048) ⌝ }
-    ensures { λ r. ⌜ r ≡ dueOf (now (volume .entry)) medium store chunk ⌝ }
-{
-    if chunk % 128 == 0 {
-        return store.body(volume, medium, 8 + (chunk / 128) as usize);
-    }
-    Outcome::Done
-}
-
 // What the table says of `chunk`.
 pub fn link_at(volume: &[u8], medium: Medium, store: Store, chunk: u32) -> LinkAt
     requires { ⌜ (64 ≤ sectorsOf (now volume)) × (chunk < 2048) ⌝ }
     ensures { λ r. ⌜ r ≡ linkAt (now (volume .entry)) medium store chunk ⌝ }
 {
-    let o = due(volume, medium, store, chunk);
+    let o = store.due(volume, medium, chunk % 128 == 0, 8 + (chunk / 128) as usize);
     if let Outcome::No(e) = o {
         return LinkAt::Refused(e);
     }

@@ -1,6 +1,6 @@
 -- A part of an edited sector, over its offset and width: entries and links are the instances. Assumes nothing.
 use mathlib.Core.Path.{_≡_, refl, sym}
-use mathlib.Core.Bool.{Bool, true, false, _||_, true≢false}
+use mathlib.Core.Bool.{Bool, true, false, true≢false}
 use mathlib.Core.List.{List}
 use Prim.Native.Nat.{ℕ, _+_, _<_, _≤_}
 use borrow.Author.Tests.{eqb-true, eq-eqb, ltb-true, ltb-false}
@@ -10,6 +10,7 @@ use Rattle.le.specs.Choice.{pick}
 use Rattle.le.specs.Part.{part, over}
 use Rattle.le.proofs.Choices.{pick-keeps-by, pick-true}
 use Rattle.le.proofs.Parts.{part-over, part-before, part-after, length-over}
+use Rattle.le.proofs.Bools.{or-false}
 use Rattle.plan.specs.declared.Edit.{Edit}
 use Rattle.plan.specs.declared.Edit.the-variants.{Format, Create, Extend, Remove}
 use Rattle.plan.specs.Edit.{changesOf, entryPut, linkPut, slotCleared, editOf, slotSector, linkSector}
@@ -34,10 +35,6 @@ module _ (a o : ℕ) (bytes : List ℕ) (k : ℕ) (s : List ℕ) (room : o + len
   put-size = pick-keeps-by (λ (x : List ℕ). length x ≡ length s) (eqb k a) (over o bytes s) s (λ e. length-over o bytes s room) (λ e. refl)
 
 -- ---- a sector that the edit does not change
-
-or-false : (a b : Bool) → (a || b) ≡ false → (a ≡ false) × (b ≡ false)
-or-false true b e = absurd (true≢false e)
-or-false false b e = (refl, e)
 
 left-alone : (e : Edit) (name : List ℕ) (k : ℕ) (s : List ℕ) → changesOf e k ≡ false → editOf e name k s ≡ s
 unfolding changesOf editOf entryPut linkPut slotCleared pick

@@ -12,7 +12,7 @@ use Rattle.handles.specs.declared.Header.{Header}
 use Rattle.handles.specs.declared.Store.{Store}
 use Rattle.handles.specs.Body.{bodyAt}
 use Rattle.handles.specs.Handles.{bodyOf}
-use Rattle.handles.proofs.Laws.{Sane}
+use Rattle.handles.proofs.Laws.{Sane, base-most}
 use Rattle.directory.specs.Entry.{entryAt}
 use Rattle.table.specs.declared.Link.{Link}
 use Rattle.table.specs.declared.LinkAt.the-variants as link
@@ -21,7 +21,6 @@ use Rattle.table.specs.Table.{linksOf}
 use Rattle.table.proofs.Numbers.{Sound, length-link}
 use Rattle.plan.specs.declared.Edit.{Edit}
 use Rattle.plan.specs.Edit.{entryPut, linkPut, editOf, headAfter, nextAfter}
-use Rattle.plan.proofs.Keeps.{base-most}
 use Rattle.layout.specs.Views.{diskOf, linkView}
 use Rattle.layout.specs.Changes.{SameShape, SameRecords}
 use Rattle.views.specs.Edited.{Edited}

@@ -11,6 +11,7 @@ use lib.Dec.{ltb}
 use lib.ListN.{length}
 use Rattle.le.specs.Part.{part, zeros}
 use Rattle.le.proofs.Choices.{pick-false}
+use Rattle.le.proofs.Parts.{part-zeros}
 use Rattle.medium.specs.declared.Medium.{Medium}
 use Rattle.medium.specs.declared.Outcome.the-variants.{Done}
 use Rattle.medium.specs.Sector.{sectorsOf, sectorAt, writeAt, writeOf}
@@ -19,14 +20,12 @@ use Rattle.handles.specs.declared.Header.{Header}
 use Rattle.handles.specs.declared.Store.{Store}
 use Rattle.handles.specs.Body.{bodyAt}
 use Rattle.handles.specs.Handles.{bodyOf, baseOf}
-use Rattle.handles.proofs.Laws.{Sane}
+use Rattle.handles.proofs.Laws.{Sane, base-most}
 use Rattle.directory.specs.Entry.{entryAt}
-use Rattle.directory.proofs.Bytes.{part-zeros}
 use Rattle.table.specs.Link.{linkPart}
 use Rattle.record.specs.Record.{recordOf, carriesOf, dataAt, writeRecordOf}
 use Rattle.record.proofs.Laws.{data-inside, data-one}
 use Rattle.record.proofs.RoundTrip.{length-record}
-use Rattle.plan.proofs.Keeps.{base-most}
 use Rattle.layout.specs.Views.{diskOf, linkView, recView}
 use Rattle.layout.specs.Changes.{SameEntries, SameLinks, SameRecords, Unchanged, Recorded, Fresh}
 use Rattle.views.specs.Edited.{SameSectors}

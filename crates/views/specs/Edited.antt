@@ -9,9 +9,9 @@ use Rattle.medium.specs.Sector.{sectorAt}
 use Rattle.handles.specs.declared.Store.{Store}
 use Rattle.handles.specs.Body.{bodyAt}
 use Rattle.handles.specs.Handles.{bodyOf}
+use Rattle.header.specs.Header.{withCrcs}
 use Rattle.plan.specs.declared.Edit.{Edit}
 use Rattle.plan.specs.Edit.{changesOf, editOf, headAfter}
-use Rattle.safe.specs.Copy.{withCrcs}
 
 -- v and t are vol and st after a finished commit of the edit: each body sector edited where it changes, each data sector as it was, and the header
 -- the edit's but for its checksums

@@ -1,4 +1,5 @@
--- A walk visits i, i + 1, .. n - 1 in order, carries a state, and may stop early with an answer.
+-- 01, "What must change shape": "Closures in scan, table, commit: a named edit or a step". A walk visits i, i + 1, .. n - 1 in order, carries a state,
+-- and may stop early with an answer. Assumes nothing.
 use Prim.Native.Nat.{ℕ, zero, suc, _+_, _-_}
 
 -- what a visit says: go on with this state, or stop with this answer

@@ -1,7 +1,7 @@
 -- A number digit by digit, as the loop adds them. Assumes nothing.
 use Prim.Native.Nat.{ℕ, _+_, _-_, _*_, _≤_, _<_}
 use mathlib.Core.Path.{_≡_, refl, sym, _∙_}
-use mathlib.Core.Bool.{Bool, true, false, _&&_, and-eq-true-iff, and-false}
+use mathlib.Core.Bool.{Bool, true, false, _&&_, and-false}
 use mathlib.Core.List.{List, [], _∷_}
 use native.Mathlib.Omega.{arith}
 use borrow.Author.Tests.{le-leb, lt-leb, leb-true}
@@ -9,12 +9,13 @@ use lib.Dec.{leb}
 use lib.ListN.{length, getD, drop}
 use Rattle.le.specs.Choice.{pick}
 use Rattle.le.proofs.Turns.{drop-one, drop-end}
+use Rattle.le.proofs.Bools.{and-true}
 use Rattle.words.specs.declared.Number.the-variants.{Nothing, Value}
 use Rattle.words.specs.Lines.{isDigit, allDigits, valueFrom, decimalFrom, decimalOf}
 
 pub digit-range : (b : ℕ) → isDigit b ≡ true → (48 ≤ b) × (b ≤ 57)
 unfolding isDigit
-digit-range b e = let both = and-eq-true-iff (leb 48 b) (leb b 57) .0 e in (leb-true 48 b (both .0), leb-true b 57 (both .1))
+digit-range b e = let both = and-true (leb 48 b) (leb b 57) e in (leb-true 48 b (both .0), leb-true b 57 (both .1))
 
 -- digits that follow make no number smaller
 grows : (l : List ℕ) (n : ℕ) → n ≤ valueFrom n l
@@ -60,7 +61,7 @@ digit-end max n l i h k = rw (drop-end l i h, le-leb n max k)
 from-most : (max n k : ℕ) (l : List ℕ) (t : Bool) → allDigits l && leb (valueFrom n l) max ≡ t → decimalFrom max n l ≡ Value k → k ≤ max
 unfolding decimalFrom pick
 from-most max n k l true e h =
-    let z : valueFrom n l ≤ max = leb-true (valueFrom n l) max (and-eq-true-iff (allDigits l) (leb (valueFrom n l) max) .0 e .1) in
+    let z : valueFrom n l ≤ max = leb-true (valueFrom n l) max (and-true (allDigits l) (leb (valueFrom n l) max) e .1) in
     let v : Value (valueFrom n l) ≡ Value k = rw e at h in
     let q : valueFrom n l ≡ k = cc in
     omega arith

@@ -5,7 +5,8 @@ use mathlib.Core.List.{[], _∷_, _++_}
 use lib.ListN.{replicate}
 use Rattle.le.specs.Choice.{pick}
 use Rattle.runs.specs.Run.{sameBytes}
-use Rattle.words.specs.Lines.{longer, fields, isDigit, allDigits, valueFrom, decimalFrom, decimalOf, noRollover, rollover, format, create, append, sync, delete, list, other, formatWord, createWord, appendWord, syncWord, deleteWord, listWord, rolloverOf, aloneOf, withOneOf, bothOf, formatOf, withTwoOf, ofFields, lineOf}
+use Rattle.runs.specs.Split.{longer, splitAt}
+use Rattle.words.specs.Lines.{isDigit, allDigits, valueFrom, decimalFrom, decimalOf, noRollover, rollover, format, create, append, sync, delete, list, other, formatWord, createWord, appendWord, syncWord, deleteWord, listWord, rolloverOf, aloneOf, withOneOf, bothOf, formatOf, withTwoOf, ofFields, lineOf}
 
 pub record Edges : Type 0 where
   -- format 4 1
@@ -50,7 +51,7 @@ pub record Edges : Type 0 where
   pub long-601 : lineOf (appendWord ++ 9 ∷ replicate 594 120) ≡ other
 
 pub edges : Edges
-unfolding pick sameBytes longer fields isDigit allDigits valueFrom decimalFrom decimalOf rolloverOf aloneOf withOneOf bothOf formatOf withTwoOf ofFields lineOf
+unfolding pick sameBytes longer splitAt isDigit allDigits valueFrom decimalFrom decimalOf rolloverOf aloneOf withOneOf bothOf formatOf withTwoOf ofFields lineOf
 edges =
     record {
       one = refl;

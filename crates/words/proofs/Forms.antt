@@ -1,6 +1,6 @@
 -- A create line, where the code's flag says that there is a rollover, and the test that there is none. Assumes nothing.
 use Prim.Native.Nat.{ℕ}
-use mathlib.Core.Path.{_≡_, refl, ap}
+use mathlib.Core.Path.{_≡_, ap}
 use mathlib.Core.Bool.{Bool, true, false, not}
 use mathlib.Core.List.{List}
 use Rattle.le.specs.Choice.{pick}

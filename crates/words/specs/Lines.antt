@@ -3,10 +3,11 @@
 use Prim.Native.Nat.{ℕ, _+_, _-_, _*_, _≤_}
 use mathlib.Core.Bool.{Bool, true, _&&_}
 use mathlib.Core.List.{List, [], _∷_}
-use lib.Dec.{eqb, leb}
+use lib.Dec.{leb}
 use lib.ListN.{length, getD, take, drop}
 use Rattle.le.specs.Choice.{pick}
 use Rattle.runs.specs.Run.{sameBytes}
+use Rattle.runs.specs.Split.{splitAt}
 use Rattle.words.specs.declared.Number.{Number}
 use Rattle.words.specs.declared.Number.the-variants.{Nothing, Value}
 use Rattle.words.specs.declared.Parsed.{Parsed}
@@ -14,15 +15,9 @@ use Rattle.words.specs.declared.Parsed.the-variants.{Other, Format, Crea
 
 -- ---- fields
 
--- a byte put before the first field
-unfoldable pub longer : ℕ → List (List ℕ) → List (List ℕ)
-longer b [] = (b ∷ []) ∷ []
-longer b (f ∷ fs) = (b ∷ f) ∷ fs
-
--- the line split at each tab: one field more than there are tabs
-unfoldable pub fields : List ℕ → List (List ℕ)
-fields [] = [] ∷ []
-fields (b ∷ bs) = pick (eqb b 9) ([] ∷ fields bs) (longer b (fields bs))
+-- the line split at each tab
+abbrev pub fields : List ℕ → List (List ℕ)
+fields l = splitAt 9 l
 
 -- the length of the first field
 unfoldable pub fieldLen : List ℕ → ℕ

@@ -9,8 +9,8 @@ medium-in-requires c κs = search needs
 mount-requires : tie.Need-mount-requires
 mount-requires c κs = search needs
 
-store-words-requires : tie.Need-store-words-requires
-store-words-requires c κs = search needs
+put-store-requires : tie.Need-put-store-requires
+put-store-requires c κs = search needs
 
 medium-words-requires : tie.Need-medium-words-requires
 medium-words-requires c κs = search needs
@@ -20,7 +20,9 @@ code-requires c κs = search needs
 
 returns : tie.Need-returns
 unfolding mountAt
-returns c = rw (← c .before .before .before .before .before .before .before .medium-in .ensures, ← c .before .before .before .before .before .before .mount .ensures, c .code .ensures, c .before .before .store-words .ensures, c .before .medium-words .ensures)
+returns c =
+    let p = c .before .before .put-store .ensures in
+    rw (← c .before .before .before .before .before .before .medium-in .ensures, ← c .before .before .before .before .before .mount .ensures, c .code .ensures, p .0, p .1, c .before .medium-words .ensures)
 
 pub port-mount-spec : {M : Type 1} → statement M
 port-mount-spec =
@@ -28,7 +30,7 @@ port-mount-spec =
     (tie.spec
     medium-in-requires
     mount-requires
-    store-words-requires
+    put-store-requires
     medium-words-requires
     code-requires
     returns)

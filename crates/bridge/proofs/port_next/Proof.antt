@@ -32,7 +32,7 @@ same-length c = search needs
 
 returns : tie.Need-returns
 unfolding nextAt
-returns c = rw (← c .before .before .before .before .before .before .before .before .before .before .reader-in .ensures, ← c .before .before .before .before .before .before .before .before .before .medium-in .ensures, ← c .before .before .before .before .before .before .before .before .store-in .ensures, ← c .before .before .before .before .before .before .next .ensures .0, ← c .before .before .before .before .before .before .next .ensures .1, ← c .before .before .before .before .before .before .next .ensures .2, ← c .before .before .before .before .before .before .next .ensures .3, c .next-code .ensures, c .before .next-words .ensures, c .before .before .reader-words .ensures, c .before .before .before .medium-words .ensures)
+returns c = rw (← c .before .before .before .before .before .before .before .before .before .before .reader-in .ensures, ← c .before .before .before .before .before .before .before .before .before .medium-in .ensures, ← c .before .before .before .before .before .before .before .before .store-in .ensures, ← c .before .before .before .before .before .before .next .ensures, c .next-code .ensures, c .before .next-words .ensures, c .before .before .reader-words .ensures, c .before .before .before .medium-words .ensures)
 
 pub port-next-spec : {M : Type 1} → statement M
 port-next-spec =

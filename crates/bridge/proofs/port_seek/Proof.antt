@@ -26,7 +26,7 @@ code-requires c κs = search needs
 
 returns : tie.Need-returns
 unfolding seekAt
-returns c = rw (← c .before .before .before .before .before .before .reader-in .ensures, ← c .before .before .before .before .before .medium-in .ensures, ← c .before .before .before .before .store-in .ensures, ← c .before .before .before .seek .ensures .0, ← c .before .before .before .seek .ensures .1, ← c .before .before .before .seek .ensures .2, c .code .ensures, c .before .reader-words .ensures, c .before .before .medium-words .ensures)
+returns c = rw (← c .before .before .before .before .before .before .reader-in .ensures, ← c .before .before .before .before .before .medium-in .ensures, ← c .before .before .before .before .store-in .ensures, ← c .before .before .before .seek .ensures, c .code .ensures, c .before .reader-words .ensures, c .before .before .medium-words .ensures)
 
 pub port-seek-spec : {M : Type 1} → statement M
 port-seek-spec =

@@ -12,8 +12,8 @@ store-in-requires c κs = search needs
 delete-requires : tie.Need-delete-requires
 delete-requires c κs = search needs
 
-store-words-requires : tie.Need-store-words-requires
-store-words-requires c κs = search needs
+put-store-requires : tie.Need-put-store-requires
+put-store-requires c κs = search needs
 
 medium-words-requires : tie.Need-medium-words-requires
 medium-words-requires c κs = search needs
@@ -26,7 +26,10 @@ same-length c = search needs
 
 returns : tie.Need-returns
 unfolding deleteAt
-returns c = rw (← c .before .before .before .before .before .before .before .before .before .before .medium-in .ensures, ← c .before .before .before .before .before .before .before .before .before .store-in .ensures, ← c .before .before .before .before .before .before .before .before .delete .ensures .0, ← c .before .before .before .before .before .before .before .before .delete .ensures .1, c .code .ensures, c .before .before .store-words .ensures, c .before .medium-words .ensures)
+returns c =
+    let p = c .before .before .put-store .ensures in
+    let d = c .before .before .before .before .before .before .before .delete .ensures in
+    rw (← c .before .before .before .before .before .before .before .before .before .medium-in .ensures, ← c .before .before .before .before .before .before .before .before .store-in .ensures, ← d .0, ← d .1, c .code .ensures, p .0, p .1, c .before .medium-words .ensures)
 
 pub port-delete-spec : {M : Type 1} → statement M
 port-delete-spec =
@@ -35,7 +38,7 @@ port-delete-spec =
     medium-in-requires
     store-in-requires
     delete-requires
-    store-words-requires
+    put-store-requires
     medium-words-requires
     code-requires
     same-length

@@ -12,8 +12,8 @@ store-in-requires c κs = search needs
 delete-oldest-requires : tie.Need-delete-oldest-requires
 delete-oldest-requires c κs = search needs
 
-store-words-requires : tie.Need-store-words-requires
-store-words-requires c κs = search needs
+put-store-requires : tie.Need-put-store-requires
+put-store-requires c κs = search needs
 
 medium-words-requires : tie.Need-medium-words-requires
 medium-words-requires c κs = search needs
@@ -32,7 +32,10 @@ same-length c = search needs
 
 returns : tie.Need-returns
 unfolding oldestAt
-returns c = rw (← c .before .before .before .before .before .before .before .before .before .before .before .before .medium-in .ensures, ← c .before .before .before .before .before .before .before .before .before .before .before .store-in .ensures, ← c .before .before .before .before .before .before .before .before .before .before .delete-oldest .ensures .0, ← c .before .before .before .before .before .before .before .before .before .before .delete-oldest .ensures .1, c .gone-code .ensures, c .before .gone-name .ensures, c .before .before .gone-words .ensures, c .before .before .before .before .store-words .ensures, c .before .before .before .medium-words .ensures)
+returns c =
+    let p = c .before .before .before .before .put-store .ensures in
+    let d = c .before .before .before .before .before .before .before .before .before .delete-oldest .ensures in
+    rw (← c .before .before .before .before .before .before .before .before .before .before .before .medium-in .ensures, ← c .before .before .before .before .before .before .before .before .before .before .store-in .ensures, ← d .0, ← d .1, c .gone-code .ensures, c .before .gone-name .ensures, c .before .before .gone-words .ensures, p .0, p .1, c .before .before .before .medium-words .ensures)
 
 pub port-delete-oldest-spec : {M : Type 1} → statement M
 port-delete-oldest-spec =
@@ -41,7 +44,7 @@ port-delete-oldest-spec =
     medium-in-requires
     store-in-requires
     delete-oldest-requires
-    store-words-requires
+    put-store-requires
     medium-words-requires
     gone-words-requires
     gone-name-requires

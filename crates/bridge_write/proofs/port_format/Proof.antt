@@ -9,8 +9,8 @@ medium-in-requires c κs = search needs
 format-requires : tie.Need-format-requires
 format-requires c κs = search needs
 
-store-words-requires : tie.Need-store-words-requires
-store-words-requires c κs = search needs
+put-store-requires : tie.Need-put-store-requires
+put-store-requires c κs = search needs
 
 medium-words-requires : tie.Need-medium-words-requires
 medium-words-requires c κs = search needs
@@ -23,7 +23,10 @@ same-length c = search needs
 
 returns : tie.Need-returns
 unfolding formatAt
-returns c = rw (← c .before .before .before .before .before .before .before .before .before .medium-in .ensures, ← c .before .before .before .before .before .before .before .before .format .ensures .0, ← c .before .before .before .before .before .before .before .before .format .ensures .1, c .code .ensures, c .before .before .store-words .ensures, c .before .medium-words .ensures)
+returns c =
+    let p = c .before .before .put-store .ensures in
+    let f = c .before .before .before .before .before .before .before .format .ensures in
+    rw (← c .before .before .before .before .before .before .before .before .medium-in .ensures, ← f .0, ← f .1, c .code .ensures, p .0, p .1, c .before .medium-words .ensures)
 
 pub port-format-spec : {M : Type 1} → statement M
 port-format-spec =
@@ -31,7 +34,7 @@ port-format-spec =
     (tie.spec
     medium-in-requires
     format-requires
-    store-words-requires
+    put-store-requires
     medium-words-requires
     code-requires
     same-length

@@ -15,14 +15,14 @@ store-in-requires c κs = search needs
 sync-requires : tie.Need-sync-requires
 sync-requires c κs = search needs
 
-store-words-requires : tie.Need-store-words-requires
-store-words-requires c κs = search needs
+put-store-requires : tie.Need-put-store-requires
+put-store-requires c κs = search needs
 
 medium-words-requires : tie.Need-medium-words-requires
 medium-words-requires c κs = search needs
 
-appender-words-requires : tie.Need-appender-words-requires
-appender-words-requires c κs = search needs
+put-appender-requires : tie.Need-put-appender-requires
+put-appender-requires c κs = search needs
 
 code-requires : tie.Need-code-requires
 code-requires c κs = search needs
@@ -32,7 +32,11 @@ same-length c = search needs
 
 returns : tie.Need-returns
 unfolding syncAt
-returns c = rw (← c .before .before .before .before .before .before .before .before .before .before .before .before .before .before .before .medium-in .ensures, ← c .before .before .before .before .before .before .before .before .before .before .before .before .before .before .store-in .ensures, ← c .before .before .before .before .before .before .before .before .before .before .before .before .before .before .before .before .before .appender-in .ensures, ← c .before .before .before .before .before .before .before .before .before .before .before .before .before .sync .ensures .0, ← c .before .before .before .before .before .before .before .before .before .before .before .before .before .sync .ensures .1, ← c .before .before .before .before .before .before .before .before .before .before .before .before .before .sync .ensures .2, ← c .before .before .before .before .before .before .before .before .before .before .before .before .before .sync .ensures .3, ← c .before .before .before .before .before .before .before .before .before .before .before .before .before .sync .ensures .4, c .code .ensures, c .before .appender-words .ensures, c .before .before .before .before .before .before .before .store-words .ensures, c .before .before .before .before .before .before .medium-words .ensures)
+returns c =
+    let a = c .before .put-appender .ensures in
+    let p = c .before .before .before .before .before .before .put-store .ensures in
+    let d = c .before .before .before .before .before .before .before .before .before .before .before .sync .ensures in
+    rw (← c .before .before .before .before .before .before .before .before .before .before .before .before .before .medium-in .ensures, ← c .before .before .before .before .before .before .before .before .before .before .before .before .store-in .ensures, ← c .before .before .before .before .before .before .before .before .before .before .before .before .before .before .before .appender-in .ensures, ← d .0, ← d .1, c .code .ensures, a .0, a .1, a .2, p .0, p .1, c .before .before .before .before .before .medium-words .ensures)
 
 pub port-sync-spec : {M : Type 1} → statement M
 port-sync-spec =
@@ -42,9 +46,9 @@ port-sync-spec =
     medium-in-requires
     store-in-requires
     sync-requires
-    store-words-requires
+    put-store-requires
     medium-words-requires
-    appender-words-requires
+    put-appender-requires
     code-requires
     same-length
     returns)

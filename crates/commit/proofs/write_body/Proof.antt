@@ -8,6 +8,7 @@ use Rattle.handles.proofs.Laws.{store-facts}
 use Rattle.plan.specs.Edit.{headAfter}
 use Rattle.plan.specs.Copy.{bodyFrom}
 use Rattle.commit.specs.Commit.{commitPlan}
+use Rattle.commit.proofs.Steps.{made-of}
 use Rattle.commit.proofs.Commits.{turn, stop, ended, along, begun}
 use Rattle.commit.proofs.write_body.Statement.{statement}
 use Rattle.commit.proofs.write_body.Tie as tie
@@ -30,19 +31,19 @@ head-after-requires c κs = let f = store-facts (c .before .before .before .befo
 loop-holds : tie.Need-loop-holds Inv-loop μ-loop
 loop-holds c = let a = c .before .before .before .before .before .args in (zero-le, refl, begun (commitPlan (a .found) (a .edit) (a .name .now) (a .store)) (a .volume .now) (a .medium) (c .before .body .ensures) (c .head-after .ensures))
 
-step-requires : tie.Need-step-requires Inv-loop μ-loop
-step-requires c κs = let f = store-facts (c .before .before .before .before .before .before .before .before .args .store) _ (c .before .before .before .before .before .before .before .before .pre .0) in
+write-body-sector-requires : tie.Need-write-body-sector-requires Inv-loop μ-loop
+write-body-sector-requires c κs = let f = store-facts (c .before .before .before .before .before .before .before .before .args .store) _ (c .before .before .before .before .before .before .before .before .pre .0) in
     (f .copy, omega (arith, f .enough, c .before .before .loop .inv .1), omega (arith, f .head .chunks-most, c .before .before .before .before .body .ensures, c .before .loop-test .taken), c .before .before .before .before .before .before .before .before .pre .2, c .before .before .before .before .before .before .before .before .pre .3, c .before .before .before .before .before .before .before .before .pre .4)
 
 enum-told : tie.Need-enum-told Inv-loop μ-loop
 enum-told c = search needs
 
 same-length : tie.Need-same-length Inv-loop μ-loop
-same-length c = c .before .before .before .before .step .kept .0 ∙ c .before .before .before .before .before .before .before .loop .inv .1
+same-length c = c .before .before .before .before .write-body-sector .kept .0 ∙ c .before .before .before .before .before .before .before .loop .inv .1
 
 returns : tie.Need-returns Inv-loop μ-loop
 returns c = let a = c .before .before .before .before .before .before .before .before .before .before .before .before .before .args in let l = c .before .before .before .before .before .before .before .loop in
-    along (stop (commitPlan (a .found) (a .edit) (a .name .now) (a .store)) (c .before .before .before .before .before .before .before .before .before .body .result) (l .k) (l .volume) (l .m) (l .head) (c .before .before .before .before .before .before .loop-test .taken) (c .before .before .before .before .step .ensures) (c .enum-told .given .1)) (l .inv .2)
+    along (stop (commitPlan (a .found) (a .edit) (a .name .now) (a .store)) (c .before .before .before .before .before .before .before .before .before .body .result) (l .k) (l .volume) (l .m) (l .head) (c .before .before .before .before .before .before .loop-test .taken) (c .before .before .before .before .write-body-sector .ensures) (c .enum-told .given .1)) (l .inv .2)
 
 enum-told-2 : tie.Need-enum-told-2 Inv-loop μ-loop
 enum-told-2 c = search needs
@@ -56,16 +57,19 @@ loop-less c = search needs
 loop-again : tie.Need-loop-again Inv-loop μ-loop
 loop-again c = let a = c .before .before .before .before .before .before .before .before .before .before .before .before .before .before .before .args in let l = c .before .before .before .before .before .before .before .before .before .loop in (
   omega (arith, c .before .before .before .before .before .before .before .before .loop-test .taken),
-  c .before .before .before .before .before .before .step .kept .0 ∙ l .inv .1,
-  sym (turn (commitPlan (a .found) (a .edit) (a .name .now) (a .store)) (c .before .before .before .before .before .before .before .before .before .before .before .body .result) (l .k) (l .volume) (l .m) (l .head) (c .before .before .before .before .before .before .before .before .loop-test .taken) (c .before .before .before .before .before .before .step .ensures) (c .before .before .enum-told2 .given .1)) ∙ l .inv .2,
+  c .before .before .before .before .before .before .write-body-sector .kept .0 ∙ l .inv .1,
+  sym (turn (commitPlan (a .found) (a .edit) (a .name .now) (a .store)) (c .before .before .before .before .before .before .before .before .before .before .before .body .result) (l .k) (l .volume) (l .m) (l .head) (c .before .before .before .before .before .before .before .before .loop-test .taken) (c .before .before .before .before .before .before .write-body-sector .ensures) (c .before .before .enum-told2 .given .1)) ∙ l .inv .2,
 )
+
+so-far-requires : tie.Need-so-far-requires Inv-loop μ-loop
+so-far-requires c κs = search needs
 
 same-length-2 : tie.Need-same-length-2 Inv-loop μ-loop
 same-length-2 c = search needs
 
 returns-2 : tie.Need-returns-2 Inv-loop μ-loop
-returns-2 c = let a = c .before .before .before .before .before .before .before .args in let l = c .before .loop in
-    along (ended (commitPlan (a .found) (a .edit) (a .name .now) (a .store)) (c .before .before .before .body .result) (l .k) (l .volume) (l .m) (l .head) (c .loop-test .left)) (l .inv .2)
+returns-2 c = let a = c .before .before .before .before .before .before .before .before .args in let l = c .before .before .loop in
+    made-of (c .so-far .ensures) (along (ended (commitPlan (a .found) (a .edit) (a .name .now) (a .store)) (c .before .before .before .before .body .result) (l .k) (l .volume) (l .m) (l .head) (c .before .loop-test .left)) (l .inv .2))
 
 pub write-body-spec : {M : Type 1} → statement M
 write-body-spec =
@@ -76,7 +80,7 @@ write-body-spec =
     body-requires
     head-after-requires
     loop-holds
-    step-requires
+    write-body-sector-requires
     enum-told
     same-length
     returns
@@ -84,5 +88,6 @@ write-body-spec =
     add-k
     loop-less
     loop-again
+    so-far-requires
     same-length-2
     returns-2)

@@ -1,20 +1,17 @@
 use borrow.Author.Needs.{needs}
-use mathlib.Core.Path.{_≡_, refl, ap}
+use mathlib.Core.Path.{_≡_, refl}
 use Prim.Native.Nat.{_-_, _≤_}
 use native.Mathlib.Omega.{arith}
 use denote.Ref.{now}
 use lib.ListN.{length}
 use Rattle.walk.proofs.Laws.{at-start, at-next, at-stop, at-end}
-use Rattle.directory.specs.Rows.{RowsOut, listing, rowsOf}
+use Rattle.directory.specs.Rows.{listing, rowsOf}
 use Rattle.directory.proofs.Entries.{found-file}
 use Rattle.directory.proofs.Places.{name-slice, slice-short}
 use Rattle.directory.proofs.RowParts.{row-made, row-skipped}
 use Rattle.directory.proofs.Scans.{ScanAt}
 use Rattle.directory.proofs.list_rows.Statement.{statement}
 use Rattle.directory.proofs.list_rows.Tie as tie
-
-three : {o w : RowsOut} → o ≡ w → (o .made .rows ≡ w .made .rows) × (o .outcome ≡ w .outcome) × (o .made .count ≡ w .made .count)
-three e = (ap (λ (x : RowsOut). x .made .rows) e, ap (λ (x : RowsOut). x .outcome) e, ap (λ (x : RowsOut). x .made .count) e)
 
 abbrev Inv-loop : tie.InvT-loop
 Inv-loop volume medium store dir counts rows₀ count₀ i₀ rows count i = (ScanAt (listing dir counts) volume medium store (rowsOf volume medium store dir counts rows₀) i
@@ -40,7 +37,7 @@ same-length : tie.Need-same-length Inv-loop μ-loop
 same-length c = c .before .before .before .before .before .loop .inv .2
 
 returns : tie.Need-returns Inv-loop μ-loop
-returns c = let t = c .before .before .before .before in three (at-stop (t .before .loop .inv .0) (t .loop-test .taken) (c .before .before .before .slot-at .ensures) (c .before .s .given .1) refl)
+returns c = let t = c .before .before .before .before in at-stop (t .before .loop .inv .0) (t .loop-test .taken) (c .before .before .before .slot-at .ensures) (c .before .s .given .1) refl
 
 enum-told : tie.Need-enum-told Inv-loop μ-loop
 enum-told c = search needs
@@ -119,7 +116,7 @@ same-length-2 : tie.Need-same-length-2 Inv-loop μ-loop
 same-length-2 c = c .before .loop .inv .2
 
 returns-2 : tie.Need-returns-2 Inv-loop μ-loop
-returns-2 c = three (at-end (c .before .loop .inv .0) (c .loop-test .left))
+returns-2 c = at-end (c .before .loop .inv .0) (c .loop-test .left)
 
 pub list-rows-spec : {M : Type 1} → statement M
 list-rows-spec =

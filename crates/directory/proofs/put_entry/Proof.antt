@@ -3,9 +3,8 @@ use mathlib.Core.Path.{ap, sym, _∙_}
 use denote.Ref.{now}
 use Rattle.le.specs.Field.{putLe}
 use Rattle.le.specs.Part.{over, zeros}
-use Rattle.le.proofs.Parts.{length-zeros}
+use Rattle.le.proofs.Parts.{length-zeros, over-whole}
 use Rattle.directory.specs.Entry.{entryBytes}
-use Rattle.directory.proofs.Bytes.{over-whole}
 use Rattle.directory.proofs.put_entry.Statement.{statement}
 use Rattle.directory.proofs.put_entry.Tie as tie
 

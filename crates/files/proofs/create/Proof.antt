@@ -17,16 +17,16 @@ same-length : tie.Need-same-length
 same-length c = search needs
 
 returns : tie.Need-returns
-returns c = let a = c .before .before .before .before .before .before .before .before .before .args in create-first (a .name .now) (a .over) (a .volume .now) (a .medium) (a .store) (c .before .before .before .before .before .round .ensures) (not-true _ (c .if1 .taken))
+returns c = let a = c .before .before .before .before .before .before .before .before .before .args in create-first (a .name .now) (a .rollover) (a .volume .now) (a .medium) (a .store) (c .before .before .before .before .before .round .ensures) (not-true _ (c .if1 .taken))
 
 round-requires-2 : tie.Need-round-requires-2
-round-requires-2 c κs = let a = c .before .before .before .before .before .before .before .before .before .before .before .before .args in (again-good (a .volume .now) (a .medium) (a .store) (a .over) (a .name .now) (c .before .before .before .before .before .before .before .before .before .before .before .before .pre .1) (record { ok = c .before .before .before .before .before .before .before .before .before .before .before .before .pre .0; count = count (c .before .before .before .before .before .before .before .before .before .before .before .before) }) (c .before .before .before .before .before .before .before .before .round .ensures) (not-false _ (c .before .before .before .if1 .left)) .ok, c .before .before .before .before .before .before .before .before .before .before .before .before .pre .1, c .before .before .before .before .before .before .before .before .before .before .before .before .pre .2)
+round-requires-2 c κs = let a = c .before .before .before .before .before .before .before .before .before .before .before .before .args in (again-good (a .volume .now) (a .medium) (a .store) (a .rollover) (a .name .now) (c .before .before .before .before .before .before .before .before .before .before .before .before .pre .1) (record { ok = c .before .before .before .before .before .before .before .before .before .before .before .before .pre .0; count = count (c .before .before .before .before .before .before .before .before .before .before .before .before) }) (c .before .before .before .before .before .before .before .before .round .ensures) (not-false _ (c .before .before .before .if1 .left)) .ok, c .before .before .before .before .before .before .before .before .before .before .before .before .pre .1, c .before .before .before .before .before .before .before .before .before .before .before .before .pre .2)
 
 same-length-2 : tie.Need-same-length-2
 same-length-2 c = search needs
 
 returns-2 : tie.Need-returns-2
-returns-2 c = let a = c .before .before .before .before .before .before .before .before .before .before .before .before .before .before .before .before .before .before .args in create-second (a .name .now) (a .over) (a .volume .now) (a .medium) (a .store) (c .before .before .before .before .before .before .before .before .before .before .before .before .before .before .round .ensures) (not-false _ (c .before .before .before .before .before .before .before .before .before .if1 .left)) (c .before .before .before .before .before .round2 .ensures) (not-true _ (c .if2 .taken))
+returns-2 c = let a = c .before .before .before .before .before .before .before .before .before .before .before .before .before .before .before .before .before .before .args in create-second (a .name .now) (a .rollover) (a .volume .now) (a .medium) (a .store) (c .before .before .before .before .before .before .before .before .before .before .before .before .before .before .round .ensures) (not-false _ (c .before .before .before .before .before .before .before .before .before .if1 .left)) (c .before .before .before .before .before .round2 .ensures) (not-true _ (c .if2 .taken))
 
 refused-requires : tie.Need-refused-requires
 refused-requires c κs = search needs
@@ -35,7 +35,7 @@ same-length-3 : tie.Need-same-length-3
 same-length-3 c = c .before .before .before .before .before .before .before .before .round2 .kept .0 ∙ c .before .before .before .before .before .before .before .before .before .before .before .before .before .before .before .before .before .round .kept .0
 
 returns-3 : tie.Need-returns-3
-returns-3 c = let a = c .before .before .before .before .before .before .before .before .before .before .before .before .before .before .before .before .before .before .before .before .before .args in create-corrupt (a .name .now) (a .over) (a .volume .now) (a .medium) (a .store) (c .before .before .before .before .before .before .before .before .before .before .before .before .before .before .before .before .before .round .ensures) (not-false _ (c .before .before .before .before .before .before .before .before .before .before .before .before .if1 .left)) (c .before .before .before .before .before .before .before .before .round2 .ensures) (not-false _ (c .before .before .before .if2 .left)) (c .refused .ensures)
+returns-3 c = let a = c .before .before .before .before .before .before .before .before .before .before .before .before .before .before .before .before .before .before .before .before .before .args in create-corrupt (a .name .now) (a .rollover) (a .volume .now) (a .medium) (a .store) (c .before .before .before .before .before .before .before .before .before .before .before .before .before .before .before .before .before .round .ensures) (not-false _ (c .before .before .before .before .before .before .before .before .before .before .before .before .if1 .left)) (c .before .before .before .before .before .before .before .before .round2 .ensures) (not-false _ (c .before .before .before .if2 .left)) (c .refused .ensures)
 
 pub create-spec : {M : Type 1} → statement M
 create-spec =

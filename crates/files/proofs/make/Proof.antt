@@ -12,7 +12,7 @@ refused-requires : tie.Need-refused-requires
 refused-requires c κs = search needs
 
 returns : tie.Need-returns
-returns c = let a = c .before .before .before .before .args in make-spent (a .name .now) (a .over) (a .volume .now) (a .medium) (a .store) (a .slot) (a .chunk) (c .before .if1 .taken) (c .refused .ensures)
+returns c = let a = c .before .before .before .before .args in make-spent (a .name .now) (a .rollover) (a .volume .now) (a .medium) (a .store) (a .slot) (a .chunk) (c .before .if1 .taken) (c .refused .ensures)
 
 commit-requires : tie.Need-commit-requires
 unfolding isFormat
@@ -28,7 +28,7 @@ same-length : tie.Need-same-length
 same-length c = search needs
 
 returns-2 : tie.Need-returns-2
-returns-2 c = let a = c .before .before .before .before .before .before .before .before .before .before .before .before .before .args in make-refused (a .name .now) (a .over) (a .volume .now) (a .medium) (a .store) (a .slot) (a .chunk) (c .before .before .before .before .before .before .before .before .before .before .if1 .left) (c .before .before .before .before .before .before .before .before .commit .ensures) (c .before .before .o .given .1) (c .refused2 .ensures)
+returns-2 c = let a = c .before .before .before .before .before .before .before .before .before .before .before .before .before .args in make-refused (a .name .now) (a .rollover) (a .volume .now) (a .medium) (a .store) (a .slot) (a .chunk) (c .before .before .before .before .before .before .before .before .before .before .if1 .left) (c .before .before .before .before .before .before .before .before .commit .ensures) (c .before .before .o .given .1) (c .refused2 .ensures)
 
 enum-told : tie.Need-enum-told
 enum-told c = search needs
@@ -40,7 +40,7 @@ same-length-2 : tie.Need-same-length-2
 same-length-2 c = search needs
 
 returns-3 : tie.Need-returns-3
-returns-3 c = let a = c .before .before .before .before .before .before .before .before .before .before .before .before .args in make-done (a .name .now) (a .over) (a .volume .now) (a .medium) (a .store) (a .slot) (a .chunk) (c .before .before .before .before .before .before .before .before .before .if1 .left) (c .before .before .before .before .before .before .before .commit .ensures) (c .before .enum-told .given .1) (c .opened .ensures)
+returns-3 c = let a = c .before .before .before .before .before .before .before .before .before .before .before .before .args in make-done (a .name .now) (a .rollover) (a .volume .now) (a .medium) (a .store) (a .slot) (a .chunk) (c .before .before .before .before .before .before .before .before .before .if1 .left) (c .before .before .before .before .before .before .before .commit .ensures) (c .before .enum-told .given .1) (c .opened .ensures)
 
 pub make-spec : {M : Type 1} → statement M
 make-spec =

@@ -34,7 +34,7 @@ same-length : tie.Need-same-length
 same-length c = search needs
 
 returns : tie.Need-returns
-returns c = let a = c .before .before .before .before .before .before .before .before .before .before .args in ended-with (c .ended2 .ensures) (settled-by (refl, c .before .refused2 .ensures) (round-exists (a .name .now) (a .over) (a .volume .now) (a .medium) (a .store) (c .before .before .before .before .before .before .look .ensures) (c .before .before .before .before .found2 .given .1) (c .before .before .if1 .taken)))
+returns c = let a = c .before .before .before .before .before .before .before .before .before .before .args in ended-with (c .ended2 .ensures) (settled-by (refl, c .before .refused2 .ensures) (round-exists (a .name .now) (a .rollover) (a .volume .now) (a .medium) (a .store) (c .before .before .before .before .before .before .look .ensures) (c .before .before .before .before .found2 .given .1) (c .before .before .if1 .taken)))
 
 roll-requires : tie.Need-roll-requires
 roll-requires c κs = search needs
@@ -43,7 +43,7 @@ same-length-2 : tie.Need-same-length-2
 same-length-2 c = search needs
 
 returns-2 : tie.Need-returns-2
-returns-2 c = let a = c .before .before .before .before .before .before .before .before .before .before .before .before .before .before .args in turned-as (c .before .before .roll .ensures) (round-crowded (a .name .now) (a .over) (a .volume .now) (a .medium) (a .store) (c .before .before .before .before .before .before .before .before .before .before .look .ensures) (c .before .before .before .before .before .before .before .before .found2 .given .1) (c .before .before .before .before .before .before .if1 .left) (not-true _ (c .before .before .before .before .if2 .taken)))
+returns-2 c = let a = c .before .before .before .before .before .before .before .before .before .before .before .before .before .before .args in turned-as (c .before .before .roll .ensures) (round-crowded (a .name .now) (a .rollover) (a .volume .now) (a .medium) (a .store) (c .before .before .before .before .before .before .before .before .before .before .look .ensures) (c .before .before .before .before .before .before .before .before .found2 .given .1) (c .before .before .before .before .before .before .if1 .left) (not-true _ (c .before .before .before .before .if2 .taken)))
 
 free-chunk-requires : tie.Need-free-chunk-requires
 free-chunk-requires c κs = let h = store-facts _ _ (c .before .before .before .before .before .before .before .before .before .before .before .pre .0) in (h .enough, h .head .chunks-most, h .head .cursor)
@@ -76,25 +76,25 @@ same-length-3 : tie.Need-same-length-3
 same-length-3 c = search needs
 
 returns-3 : tie.Need-returns-3
-returns-3 c = let a = c .before .before .before .before .before .before .before .before .before .args in ended-with (c .ended .ensures) (settled-by (refl, c .before .refused .ensures) (round-unread (a .name .now) (a .over) (a .volume .now) (a .medium) (a .store) (c .before .before .before .before .before .look .ensures) (c .before .before .before .found .given .1)))
+returns-3 c = let a = c .before .before .before .before .before .before .before .before .before .args in ended-with (c .ended .ensures) (settled-by (refl, c .before .refused .ensures) (round-unread (a .name .now) (a .rollover) (a .volume .now) (a .medium) (a .store) (c .before .before .before .before .before .look .ensures) (c .before .before .before .found .given .1)))
 
 same-length-4 : tie.Need-same-length-4
 same-length-4 c = search needs
 
 returns-4 : tie.Need-returns-4
-returns-4 c = let a = c .before .before .before .before .before .before .before .before .before .before .before .before .before .before .before .before .before .args in ended-with (c .ended3 .ensures) (settled-by (refl, c .before .refused3 .ensures) (round-untold (a .name .now) (a .over) (a .volume .now) (a .medium) (a .store) (c .before .before .before .before .before .before .before .before .before .before .before .before .before .look .ensures) (c .before .before .before .before .before .before .before .before .before .before .before .found2 .given .1) (c .before .before .before .before .before .before .before .before .before .if1 .left) (not-false _ (c .before .before .before .before .before .before .before .if2 .left)) (c .before .before .before .before .before .free-chunk .ensures) (c .before .before .before .p .given .1)))
+returns-4 c = let a = c .before .before .before .before .before .before .before .before .before .before .before .before .before .before .before .before .before .args in ended-with (c .ended3 .ensures) (settled-by (refl, c .before .refused3 .ensures) (round-untold (a .name .now) (a .rollover) (a .volume .now) (a .medium) (a .store) (c .before .before .before .before .before .before .before .before .before .before .before .before .before .look .ensures) (c .before .before .before .before .before .before .before .before .before .before .before .found2 .given .1) (c .before .before .before .before .before .before .before .before .before .if1 .left) (not-false _ (c .before .before .before .before .before .before .before .if2 .left)) (c .before .before .before .before .before .free-chunk .ensures) (c .before .before .before .p .given .1)))
 
 same-length-5 : tie.Need-same-length-5
 same-length-5 c = search needs
 
 returns-5 : tie.Need-returns-5
-returns-5 c = let a = c .before .before .before .before .before .before .before .before .before .before .before .before .before .before .before .before .before .before .args in turned-as (c .before .before .roll2 .ensures) (round-full (a .name .now) (a .over) (a .volume .now) (a .medium) (a .store) (c .before .before .before .before .before .before .before .before .before .before .before .before .before .before .look .ensures) (c .before .before .before .before .before .before .before .before .before .before .before .before .found2 .given .1) (c .before .before .before .before .before .before .before .before .before .before .if1 .left) (not-false _ (c .before .before .before .before .before .before .before .before .if2 .left)) (c .before .before .before .before .before .before .free-chunk .ensures) (c .before .before .before .before .enum-told .given .1))
+returns-5 c = let a = c .before .before .before .before .before .before .before .before .before .before .before .before .before .before .before .before .before .before .args in turned-as (c .before .before .roll2 .ensures) (round-full (a .name .now) (a .rollover) (a .volume .now) (a .medium) (a .store) (c .before .before .before .before .before .before .before .before .before .before .before .before .before .before .look .ensures) (c .before .before .before .before .before .before .before .before .before .before .before .before .found2 .given .1) (c .before .before .before .before .before .before .before .before .before .before .if1 .left) (not-false _ (c .before .before .before .before .before .before .before .before .if2 .left)) (c .before .before .before .before .before .before .free-chunk .ensures) (c .before .before .before .before .enum-told .given .1))
 
 same-length-6 : tie.Need-same-length-6
 same-length-6 c = search needs
 
 returns-6 : tie.Need-returns-6
-returns-6 c = let a = c .before .before .before .before .before .before .before .before .before .before .before .before .before .before .before .before .before .before .before .before .args in ended-with (c .ended4 .ensures) (settled-by (c .before .before .before .make .ensures) (round-made (a .name .now) (a .over) (a .volume .now) (a .medium) (a .store) (c .before .before .before .before .before .before .before .before .before .before .before .before .before .before .before .before .look .ensures) (c .before .before .before .before .before .before .before .before .before .before .before .before .before .before .found2 .given .1) (c .before .before .before .before .before .before .before .before .before .before .before .before .if1 .left) (not-false _ (c .before .before .before .before .before .before .before .before .before .before .if2 .left)) (c .before .before .before .before .before .before .before .before .free-chunk .ensures) (c .before .before .before .before .before .before .p2 .given .1)))
+returns-6 c = let a = c .before .before .before .before .before .before .before .before .before .before .before .before .before .before .before .before .before .before .before .before .args in ended-with (c .ended4 .ensures) (settled-by (c .before .before .before .make .ensures) (round-made (a .name .now) (a .rollover) (a .volume .now) (a .medium) (a .store) (c .before .before .before .before .before .before .before .before .before .before .before .before .before .before .before .before .look .ensures) (c .before .before .before .before .before .before .before .before .before .before .before .before .before .before .found2 .given .1) (c .before .before .before .before .before .before .before .before .before .before .before .before .if1 .left) (not-false _ (c .before .before .before .before .before .before .before .before .before .before .if2 .left)) (c .before .before .before .before .before .before .before .before .free-chunk .ensures) (c .before .before .before .before .before .before .p2 .given .1)))
 
 pub round-spec : {M : Type 1} → statement M
 round-spec =

@@ -1,9 +1,8 @@
 use borrow.Author.Needs.{needs}
 use mathlib.Core.Path.{_∙_}
-use Rattle.medium.proofs.Laws.{write-refused, write-done}
+use Rattle.medium.proofs.Laws.{write-refused, write-done, in-place}
 use Rattle.handles.specs.Handles.{baseOf}
 use Rattle.header.specs.Header.{unmarkedOf}
-use Rattle.header.proofs.Fill.{in-place}
 use Rattle.header.proofs.write_unmarked.Statement.{statement}
 use Rattle.header.proofs.write_unmarked.Tie as tie
 
@@ -46,7 +45,7 @@ same-length c = search needs
 returns-2 : tie.Need-returns-2
 returns-2 c = let a = c .before .before .before .before .before .before .before .before .before .args in let p = c .before .before .encode-unmarked in
     write-done (a .volume .now) (a .medium) (baseOf (a .copy)) (unmarkedOf (a .head)) (c .before .before .before .before .before .before .before .spend .ensures) (c .before .before .before .before .before .enum-told2 .given .1)
-    (in-place (a .volume .now) (p .last .1 .0) (unmarkedOf (a .head)) (c .before .before .before .before .base .result) (baseOf (a .copy)) (c .before .before .before .before .base .ensures .0) (p .ensures) (p .kept .1 .0 ∙ c .before .before .before .encode-unmarked-arg .given .2))
+    (in-place (a .volume .now) (unmarkedOf (a .head)) (c .before .before .before .before .base .ensures .0) (p .ensures) (p .kept .1 .0 ∙ c .before .before .before .encode-unmarked-arg .given .2))
 
 pub write-unmarked-spec : {M : Type 1} → statement M
 write-unmarked-spec =

@@ -1,7 +1,7 @@
 -- `in-dir` meets its contract. Assumes nothing.
 use mathlib.Core.Path.{sym}
 use borrow.Author.Needs.{needs}
-use Rattle.names.proofs.Scan.{starts-long}
+use Rattle.runs.proofs.Tests.{starts-long}
 use Rattle.names.proofs.in_dir.Statement.{statement}
 use Rattle.names.proofs.in_dir.Tie as tie
 

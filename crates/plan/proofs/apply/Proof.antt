@@ -1,8 +1,6 @@
 use borrow.Author.Needs.{needs}
-use mathlib.Core.Path.{_≡_, refl, sym, ap, _∙_}
-use borrow.Author.Tests.{eq-eqb, ne-eqb, le-leb, lt-leb}
 use native.Mathlib.Omega.{arith}
-use Rattle.le.specs.Choice.{pick}
+use mathlib.Core.Path.{_∙_}
 use Rattle.plan.specs.Edit.{editOf}
 use Rattle.plan.proofs.Laws.{create-fits, extend-fits, remove-fits, zeroed}
 use Rattle.plan.proofs.apply.Statement.{statement}
@@ -20,20 +18,29 @@ enum-known-edit c = search needs
 put-file-requires : tie.Need-put-file-requires
 put-file-requires c κs = search needs
 
+plain-link-requires : tie.Need-plain-link-requires
+plain-link-requires c κs = search needs
+
 put-link-requires : tie.Need-put-link-requires
-put-link-requires c κs = let f = create-fits (c .before .before .before .before .before .before .before .before .before .before .args .chunks) (c .before .before .before .before .before .before .edit .given .1) (c .before .before .before .before .before .before .before .before .before .before .pre .2) in (omega (arith, c .before .before .before .put-file .kept, c .before .before .before .before .before .before .before .before .before .before .pre), f .0, search needs, search needs)
+put-link-requires c κs = let f = create-fits (c .before .before .before .before .before .before .before .before .before .before .before .args .chunks) (c .before .before .before .before .before .before .before .edit .given .1) (c .before .before .before .before .before .before .before .before .before .before .before .pre .2) in rw (c .before .plain-link .ensures) (omega (arith, c .before .before .before .before .put-file .kept, c .before .before .before .before .before .before .before .before .before .before .before .pre), f .0, omega arith, omega arith)
 
 enum-known-edit-2 : tie.Need-enum-known-edit-2
 enum-known-edit-2 c = search needs
 
-add-t27 : tie.Need-add-t27
-add-t27 c = omega (arith, extend-fits (c .before .before .before .before .before .args .chunks) (c .before .edit2 .given .1) (c .before .before .before .before .before .pre .2))
+add-plain-link : tie.Need-add-plain-link
+add-plain-link c = omega (arith, extend-fits (c .before .before .before .before .before .args .chunks) (c .before .edit2 .given .1) (c .before .before .before .before .before .pre .2))
+
+plain-link-requires-2 : tie.Need-plain-link-requires-2
+plain-link-requires-2 c κs = search needs
 
 put-link-requires-2 : tie.Need-put-link-requires-2
-put-link-requires-2 c κs = let f = extend-fits (c .before .before .before .before .before .before .args .chunks) (c .before .before .edit2 .given .1) (c .before .before .before .before .before .before .pre .2) in (omega (arith, c .before .before .before .before .before .before .pre), f .0, f .1, search needs)
+put-link-requires-2 c κs = let f = extend-fits (c .before .before .before .before .before .before .before .args .chunks) (c .before .before .before .edit2 .given .1) (c .before .before .before .before .before .before .before .pre .2) in rw (c .before .plain-link2 .ensures) (omega (arith, c .before .before .before .before .before .before .before .pre), f .0, f .1, omega arith)
+
+partial-link-requires : tie.Need-partial-link-requires
+partial-link-requires c κs = search needs
 
 mark-requires : tie.Need-mark-requires
-mark-requires c κs = let f = extend-fits (c .before .before .before .before .before .before .before .before .before .before .args .chunks) (c .before .before .before .before .before .before .edit2 .given .1) (c .before .before .before .before .before .before .before .before .before .before .pre .2) in (omega (arith, c .before .before .before .put-link2 .kept, c .before .before .before .before .before .before .before .before .before .before .pre), f .0, omega (arith, f .1), f .4)
+mark-requires c κs = let f = extend-fits (c .before .before .before .before .before .before .before .before .before .before .before .before .args .chunks) (c .before .before .before .before .before .before .before .before .edit2 .given .1) (c .before .before .before .before .before .before .before .before .before .before .before .before .pre .2) in rw (c .before .partial-link .ensures) (omega (arith, c .before .before .before .before .put-link2 .kept, c .before .before .before .before .before .before .before .before .before .before .before .before .pre), f .0, omega (arith, f .1), f .4)
 
 enum-known-edit-3 : tie.Need-enum-known-edit-3
 enum-known-edit-3 c = search needs
@@ -53,14 +60,14 @@ same-length-2 c = search needs
 
 returns-2 : tie.Need-returns-2
 unfolding editOf
-returns-2 c = rw (c .before .before .before .before .before .before .before .before .before .edit .given .1, ← (c .before .before .before .before .before .before .put-file .ensures)) (c .before .before .put-link .ensures)
+returns-2 c = rw (c .before .before .before .before .before .before .before .before .before .before .edit .given .1, ← (c .before .before .before .before .before .before .before .put-file .ensures), ← (c .before .before .before .before .plain-link .ensures)) (c .before .before .put-link .ensures)
 
 same-length-3 : tie.Need-same-length-3
 same-length-3 c = search needs
 
 returns-3 : tie.Need-returns-3
 unfolding editOf
-returns-3 c = rw (c .before .before .before .before .before .before .before .before .before .edit2 .given .1, ← (c .before .before .before .before .before .before .put-link2 .ensures)) (c .before .before .mark .ensures)
+returns-3 c = rw (c .before .before .before .before .before .before .before .before .before .before .before .edit2 .given .1, ← (c .before .before .before .before .before .before .before .before .before .plain-link2 .ensures), ← (c .before .before .before .before .before .before .before .put-link2 .ensures), ← (c .before .before .before .before .partial-link .ensures)) (c .before .before .mark .ensures)
 
 same-length-4 : tie.Need-same-length-4
 same-length-4 c = search needs
@@ -77,10 +84,13 @@ apply-spec =
     put-zeros-requires
     enum-known-edit
     put-file-requires
+    plain-link-requires
     put-link-requires
     enum-known-edit-2
-    add-t27
+    add-plain-link
+    plain-link-requires-2
     put-link-requires-2
+    partial-link-requires
     mark-requires
     enum-known-edit-3
     clear-slot-requires

@@ -1,10 +1,9 @@
 use mathlib.Core.List.{List}
 use Prim.Native.Nat.{ℕ}
-use Rattle.medium.proofs.Laws.{write-refused, write-done}
+use Rattle.medium.proofs.Laws.{write-refused, write-done, in-place}
 use Rattle.record.specs.Record.{dataAt, recordOf}
-use Rattle.record.proofs.Laws.{written-back}
-use Rattle.record.proofs.RoundTrip.{length-record}
 use borrow.Author.Needs.{needs}
+use mathlib.Core.Path.{_∙_}
 use Rattle.record.proofs.write_record.Statement.{statement}
 use Rattle.record.proofs.write_record.Tie as tie
 
@@ -54,7 +53,7 @@ returns-2 c =
     let a = s .args in
     let r : List ℕ = recordOf (a .store .head .id) (a .id) (a .number) (a .payload .now) in
     write-done (a .volume .now) (a .medium) (dataAt (a .store) (a .chunk) (a .index)) r (d .before .before .before .spend .ensures) (d .before .enum-told2 .given .1)
-    (written-back (a .volume .now) r (d .«data» .ensures) (c .before .before .put-record .ensures) (length-record (a .store .head .id) (a .id) (a .number) (a .payload .now) (s .pre .1)))
+    (in-place (a .volume .now) r (d .«data» .ensures) (c .before .before .put-record .ensures) (c .before .before .put-record .kept .0 ∙ c .before .before .before .put-record-arg .given .2))
 
 pub write-record-spec : {M : Type 1} → statement M
 write-record-spec =

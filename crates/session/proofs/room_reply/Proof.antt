@@ -1,5 +1,5 @@
 use borrow.Author.Needs.{needs}
-use Rattle.session.specs.Session.{onOk}
+use Rattle.medium.specs.Refusal.{onOk}
 use Rattle.session.proofs.Ways.{room-not, room-refused, room-is}
 use Rattle.session.proofs.room_reply.Statement.{statement}
 use Rattle.session.proofs.room_reply.Tie as tie

@@ -1,6 +1,4 @@
 use borrow.Author.Needs.{needs}
-use mathlib.Core.Path.{ap}
-use Rattle.store.specs.declared.Spared.{Spared}
 use Rattle.store.proofs.Laws.{asked-done}
 use Rattle.store.proofs.Deletes.{dir-refused, oldest-told}
 use Rattle.store.proofs.delete_oldest.Statement.{statement}
@@ -27,17 +25,20 @@ returns c = let a = c .before .before .before .before .before .before .before .b
 enum-told : tie.Need-enum-told
 enum-told c = search needs
 
-open-of-requires : tie.Need-open-of-requires
-open-of-requires c κs = search needs
+is-open-requires : tie.Need-is-open-requires
+is-open-requires c κs = search needs
+
+open-id-requires : tie.Need-open-id-requires
+open-id-requires c κs = search needs
 
 remove-oldest-requires : tie.Need-remove-oldest-requires
-remove-oldest-requires c κs = asked-done (c .before .before .before .before .before .before .before .before .before .args .volume .now) (c .before .before .before .before .before .before .before .before .before .args .store) _ (c .before .before .before .before .asked .ensures) (c .before .before .enum-told .given .1) .ok
+remove-oldest-requires c κs = asked-done (c .before .before .before .before .before .before .before .before .before .before .args .volume .now) (c .before .before .before .before .before .before .before .before .before .before .args .store) _ (c .before .before .before .before .before .asked .ensures) (c .before .before .before .enum-told .given .1) .ok
 
 same-length-2 : tie.Need-same-length-2
 same-length-2 c = search needs
 
 returns-2 : tie.Need-returns-2
-returns-2 c = let a = c .before .before .before .before .before .before .before .before .before .before .before .before .args in oldest-told (a .volume .now) (a .medium) (a .store) (a .dir .now) (c .before .before .before .before .before .before .before .before .dir-ok .ensures) (c .before .before .before .before .before .before .before .asked .ensures) (c .before .before .before .before .before .enum-told .given .1) (ap (λ (s : Spared). s .keeping) (c .before .before .before .before .open-of .ensures)) (ap (λ (s : Spared). s .keep) (c .before .before .before .before .open-of .ensures)) (c .before .before .remove-oldest .ensures)
+returns-2 c = let a = c .before .before .before .before .before .before .before .before .before .before .before .before .before .args in oldest-told (a .volume .now) (a .medium) (a .store) (a .dir .now) (c .before .before .before .before .before .before .before .before .before .dir-ok .ensures) (c .before .before .before .before .before .before .before .before .asked .ensures) (c .before .before .before .before .before .before .enum-told .given .1) (c .before .before .before .before .before .is-open .ensures) (c .before .before .before .before .open-id .ensures) (c .before .before .remove-oldest .ensures)
 
 pub delete-oldest-spec : {M : Type 1} → statement M
 delete-oldest-spec =
@@ -50,7 +51,8 @@ delete-oldest-spec =
     same-length
     returns
     enum-told
-    open-of-requires
+    is-open-requires
+    open-id-requires
     remove-oldest-requires
     same-length-2
     returns-2)

@@ -1,13 +1,15 @@
 use borrow.Author.Needs.{needs}
-use mathlib.Core.Path.{_≡_, refl, sym, ap, _∙_}
 use native.Mathlib.Omega.{arith}
 use Rattle.store.proofs.Laws.{asked-done, cleared-zero}
 use Rattle.store.proofs.Lists.{roomy, short-refused, input-refused, count-refused, rows-told}
 use Rattle.store.proofs.list.Statement.{statement}
 use Rattle.store.proofs.list.Tie as tie
 
+not-listed-requires : tie.Need-not-listed-requires
+not-listed-requires c κs = search needs
+
 returns : tie.Need-returns
-returns c = let a = c .before .before .before .before .before .args in short-refused (a .volume .now) (a .medium) (a .store) (a .dir .now) (a .counts .now) (a .rows .now) (c .if1 .taken)
+returns c = let a = c .before .before .before .before .before .before .args in short-refused (a .volume .now) (a .medium) (a .store) (a .dir .now) (a .counts .now) (a .rows .now) (c .before .if1 .taken) (c .not-listed .ensures)
 
 dir-ok-requires : tie.Need-dir-ok-requires
 dir-ok-requires c κs = search needs
@@ -18,8 +20,11 @@ asked-requires c κs = search needs
 enum-known-o : tie.Need-enum-known-o
 enum-known-o c = search needs
 
+not-listed-requires-2 : tie.Need-not-listed-requires-2
+not-listed-requires-2 c κs = search needs
+
 returns-2 : tie.Need-returns-2
-returns-2 c = let a = c .before .before .before .before .before .before .before .before .before .before .args in input-refused (a .volume .now) (a .medium) (a .store) (a .dir .now) (a .counts .now) (a .rows .now) (c .before .before .before .before .before .if1 .left) (c .before .before .before .before .dir-ok .ensures) (c .before .before .before .asked .ensures) (c .before .o .given .1)
+returns-2 c = let a = c .before .before .before .before .before .before .before .before .before .before .before .args in input-refused (a .volume .now) (a .medium) (a .store) (a .dir .now) (a .counts .now) (a .rows .now) (c .before .before .before .before .before .before .if1 .left) (c .before .before .before .before .before .dir-ok .ensures) (c .before .before .before .before .asked .ensures) (c .before .before .o .given .1) (c .not-listed2 .ensures)
 
 enum-told : tie.Need-enum-told
 enum-told c = search needs
@@ -36,11 +41,14 @@ count-requires c κs = let a = c .before .before .before .before .before .before
 enum-known-c : tie.Need-enum-known-c
 enum-known-c c = search needs
 
+not-listed-requires-3 : tie.Need-not-listed-requires-3
+not-listed-requires-3 c κs = search needs
+
 same-length : tie.Need-same-length
 same-length c = search needs
 
 returns-3 : tie.Need-returns-3
-returns-3 c = let a = c .before .before .before .before .before .before .before .before .before .before .before .before .before .before .before .before .before .before .before .before .args in count-refused (a .volume .now) (a .medium) (a .store) (a .dir .now) (a .counts .now) (a .rows .now) (c .before .before .before .before .before .before .before .before .before .before .before .before .before .before .before .if1 .left) (c .before .before .before .before .before .before .before .before .before .before .before .before .before .before .dir-ok .ensures) (c .before .before .before .before .before .before .before .before .before .before .before .before .before .asked .ensures) (c .before .before .before .before .before .before .before .before .before .before .before .enum-told .given .1) (c .before .before .before .before .before .before .before .before .before .clear-counts .ensures) (c .before .before .before .before .before .count .ensures) (c .before .c .given .1)
+returns-3 c = let a = c .before .before .before .before .before .before .before .before .before .before .before .before .before .before .before .before .before .before .before .before .before .args in count-refused (a .volume .now) (a .medium) (a .store) (a .dir .now) (a .counts .now) (a .rows .now) (c .before .before .before .before .before .before .before .before .before .before .before .before .before .before .before .before .if1 .left) (c .before .before .before .before .before .before .before .before .before .before .before .before .before .before .before .dir-ok .ensures) (c .before .before .before .before .before .before .before .before .before .before .before .before .before .before .asked .ensures) (c .before .before .before .before .before .before .before .before .before .before .before .before .enum-told .given .1) (c .before .before .before .before .before .before .before .before .before .before .clear-counts .ensures) (c .before .before .before .before .before .before .count .ensures) (c .before .before .c .given .1) (c .not-listed3 .ensures)
 
 enum-told-2 : tie.Need-enum-told-2
 enum-told-2 c = search needs
@@ -58,21 +66,24 @@ same-length-3 : tie.Need-same-length-3
 same-length-3 c = search needs
 
 returns-4 : tie.Need-returns-4
-returns-4 c = let a = c .before .before .before .before .before .before .before .before .before .before .before .before .before .before .before .before .before .before .before .before .before .before .before .before .args in rows-told (a .volume .now) (a .medium) (a .store) (a .dir .now) (a .counts .now) (a .rows .now) (c .before .before .before .before .before .before .before .before .before .before .before .before .before .before .before .before .before .before .before .if1 .left) (c .before .before .before .before .before .before .before .before .before .before .before .before .before .before .before .before .before .before .dir-ok .ensures) (c .before .before .before .before .before .before .before .before .before .before .before .before .before .before .before .before .before .asked .ensures) (c .before .before .before .before .before .before .before .before .before .before .before .before .before .before .before .enum-told .given .1) (c .before .before .before .before .before .before .before .before .before .before .before .before .before .clear-counts .ensures) (c .before .before .before .before .before .before .before .before .before .count .ensures) (c .before .before .before .before .before .enum-told2 .given .1) (c .before .before .list-rows .ensures .0) (c .before .before .list-rows .ensures .1) (c .before .before .list-rows .ensures .2)
+returns-4 c = let a = c .before .before .before .before .before .before .before .before .before .before .before .before .before .before .before .before .before .before .before .before .before .before .before .before .args in rows-told (a .volume .now) (a .medium) (a .store) (a .dir .now) (a .counts .now) (a .rows .now) (c .before .before .before .before .before .before .before .before .before .before .before .before .before .before .before .before .before .before .before .if1 .left) (c .before .before .before .before .before .before .before .before .before .before .before .before .before .before .before .before .before .before .dir-ok .ensures) (c .before .before .before .before .before .before .before .before .before .before .before .before .before .before .before .before .before .asked .ensures) (c .before .before .before .before .before .before .before .before .before .before .before .before .before .before .before .enum-told .given .1) (c .before .before .before .before .before .before .before .before .before .before .before .before .before .clear-counts .ensures) (c .before .before .before .before .before .before .before .before .before .count .ensures) (c .before .before .before .before .before .enum-told2 .given .1) (c .before .before .list-rows .ensures)
 
 pub list-spec : {M : Type 1} → statement M
 list-spec =
     tie.close
     (tie.spec
+    not-listed-requires
     returns
     dir-ok-requires
     asked-requires
     enum-known-o
+    not-listed-requires-2
     returns-2
     enum-told
     clear-counts-requires
     count-requires
     enum-known-c
+    not-listed-requires-3
     same-length
     returns-3
     enum-told-2

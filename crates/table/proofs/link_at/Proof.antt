@@ -5,6 +5,12 @@ use Rattle.table.proofs.Numbers.{link-refused, link-read}
 use Rattle.table.proofs.link_at.Statement.{statement}
 use Rattle.table.proofs.link_at.Tie as tie
 
+cast-due : tie.Need-cast-due
+cast-due c = search needs
+
+add-due : tie.Need-add-due
+add-due c = search needs
+
 due-requires : tie.Need-due-requires
 due-requires c κs = search needs
 
@@ -51,6 +57,8 @@ pub link-at-spec : {M : Type 1} → statement M
 link-at-spec =
     tie.close
     (tie.spec
+    cast-due
+    add-due
     due-requires
     enum-known-o
     returns

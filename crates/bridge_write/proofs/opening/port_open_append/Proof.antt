@@ -12,21 +12,25 @@ store-in-requires c κs = search needs
 open-append-requires : tie.Need-open-append-requires
 open-append-requires c κs = search needs
 
-store-words-requires : tie.Need-store-words-requires
-store-words-requires c κs = search needs
+put-store-requires : tie.Need-put-store-requires
+put-store-requires c κs = search needs
 
 medium-words-requires : tie.Need-medium-words-requires
 medium-words-requires c κs = search needs
 
-appender-words-requires : tie.Need-appender-words-requires
-appender-words-requires c κs = search needs
+put-appender-requires : tie.Need-put-appender-requires
+put-appender-requires c κs = search needs
 
 code-requires : tie.Need-code-requires
 code-requires c κs = search needs
 
 returns : tie.Need-returns
 unfolding openAt
-returns c = rw (← c .before .before .before .before .before .before .before .before .before .before .before .before .before .medium-in .ensures, ← c .before .before .before .before .before .before .before .before .before .before .before .before .store-in .ensures, ← c .before .before .before .before .before .before .before .before .before .before .before .open-append .ensures .0, ← c .before .before .before .before .before .before .before .before .before .before .before .open-append .ensures .1, ← c .before .before .before .before .before .before .before .before .before .before .before .open-append .ensures .2, ← c .before .before .before .before .before .before .before .before .before .before .before .open-append .ensures .3, c .code .ensures, c .before .appender-words .ensures, c .before .before .before .before .before .before .before .store-words .ensures, c .before .before .before .before .before .before .medium-words .ensures)
+returns c =
+    let a = c .before .put-appender .ensures in
+    let p = c .before .before .before .before .before .before .put-store .ensures in
+    let d = c .before .before .before .before .before .before .before .before .before .open-append .ensures in
+    rw (← c .before .before .before .before .before .before .before .before .before .before .before .medium-in .ensures, ← c .before .before .before .before .before .before .before .before .before .before .store-in .ensures, ← d, c .code .ensures, a .0, a .1, a .2, p .0, p .1, c .before .before .before .before .before .medium-words .ensures)
 
 pub port-open-append-spec : {M : Type 1} → statement M
 port-open-append-spec =
@@ -35,8 +39,8 @@ port-open-append-spec =
     medium-in-requires
     store-in-requires
     open-append-requires
-    store-words-requires
+    put-store-requires
     medium-words-requires
-    appender-words-requires
+    put-appender-requires
     code-requires
     returns)

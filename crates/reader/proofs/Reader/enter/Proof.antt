@@ -1,6 +1,7 @@
 use borrow.Author.Needs.{needs}
 use Rattle.le.proofs.Turns.{told}
-use Rattle.reader.specs.Reader.{onPlace, enterOf}
+use Rattle.table.specs.Table.{onPlace}
+use Rattle.reader.specs.Reader.{enterOf}
 use Rattle.reader.proofs.Reader.enter.Statement.{statement}
 use Rattle.reader.proofs.Reader.enter.Tie as tie
 

@@ -1,0 +1,77 @@
+// The same appender, elsewhere: in another chunk, behind a record, closed, or with more bytes.
+use super::Appender;
+use super::Tail;
+ghost use mathlib.Core.Path.{_≡_};
+ghost use Prim.Native.Nat.{_+_, _≤_, _<_};
+ghost use lib.ListN.{length};
+ghost use Rattle.append.specs.Flush.{standing, movedTo, filed, closedOf, withRun};
+
+impl Appender {
+    // The bytes of its buffer stay.
+    fn standing(self, chunk: u32, position: u32, tail: Tail, fill: usize) -> Appender
+        ensures { λ r. ⌜ r ≡ standing self chunk position tail fill (self .buffer) ⌝ }
+    {
+        let buffer = self.buffer;
+        let dir = self.dir;
+        Appender {
+            token: self.token,
+            slot: self.slot,
+            id: self.id,
+            chunk,
+            position,
+            tail,
+            fill,
+            buffer,
+            rolls: self.rolls,
+            dir,
+        }
+    }
+
+    // At the start of its next chunk.
+    pub(crate) fn moved_to(self, chunk: u32) -> Appender
+        requires { ⌜ self .position < 32767 ⌝ }
+        ensures { λ r. ⌜ r ≡ movedTo chunk self ⌝ }
+    {
+        let start = Tail::At(0);
+        self.standing(chunk, self.position + 1, start, self.fill)
+    }
+
+    // With record `index` of its chunk written.
+    pub(crate) fn filed(self, index: u32) -> Appender
+        requires { ⌜ index < 512 ⌝ }
+        ensures { λ r. ⌜ r ≡ filed index self ⌝ }
+    {
+        let next = Tail::At(index + 1);
+        self.standing(self.chunk, self.position, next, 0)
+    }
+
+    pub(crate) fn closed(self) -> Appender
+        ensures { λ r. ⌜ r ≡ closedOf self ⌝ }
+    {
+        self.standing(self.chunk, self.position, Tail::Closed, self.fill)
+    }
+
+    // With a run of bytes in its buffer.
+    pub(crate) fn with_run(self, bytes: &[u8]) -> Appender
+        requires { ⌜ self .fill + length (now bytes) ≤ 486 ⌝ }
+        ensures { λ r. ⌜ r ≡ withRun (now (bytes .entry)) self ⌝ }
+    {
+        let fill = self.fill;
+        let tail = self.tail;
+        let dir = self.dir;
+        let mut buffer = self.buffer;
+        runs::put_bytes(&mut buffer, fill, bytes);
+        Appender {
+            token: self.token,
+            slot: self.slot,
+            id: self.id,
+            chunk: self.chunk,
+            position: self.position,
+            tail,
+            fill: fill + bytes.len(),
+            buffer,
+            rolls: self.rolls,
+            dir,
+        }
+    }
+}

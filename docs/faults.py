@@ -1,8 +1,9 @@
 #!/usr/bin/env python3
 """One-line faults put into the port's code, each in a copy of the repository: the prover must refuse each.
 
-    docs/faults.py            all of them, some minutes; prints a table, status 1 if one is not refused
-    docs/faults.py CRATE..    those of these crates
+    docs/faults.py                 all of them, half an hour; prints a table, status 1 if one is not refused (docs/FAULTS.md has it)
+    docs/faults.py CRATE..         those of these crates
+    docs/faults.py CRATE/NAME..    these alone, and below the table what the prover said first of each
 
 It proves what stands below the crates once, then each fault by itself, as a must-fail edit (`rt must-fail`). Beside the list below it takes
 the edits in crates/*/faults: those of docs/PROOFS.md that would make the gate too long. It is not part of ./test. The first of the list are
@@ -16,7 +17,7 @@ import subprocess
 import sys
 import tempfile
 
-# crate, name, what is wrong, old text, new text; the file is src/lib.rt
+# crate, name, what is wrong, old text, new text; the file is the one of src/ that has the old text
 FAULTS = [
     ("record", "record_without_file", "a record passes without its file id", "(le::get_u32(sector, 12) == file)", "(le::get_u32(sector, 12) != 0)"),
     ("record", "record_without_store", "a record passes without its store id", "(le::get_u64(sector, 4) == id)", "(le::get_u64(sector, 4) != 0)"),
@@ -33,16 +34,16 @@ FAULTS = [
     ("plan", "mark_in_new_sector", "the partial mark is lost where it is in another table sector", "(partial & (k == 8 + (last as usize) / 128))", "(partial & (k == 8 + (next as usize) / 128))"),
     ("plan", "links_left", "a removed file keeps its links", "Edit::Remove { slot } => (k == slot / 8) | (8 <= k),", "Edit::Remove { slot } => (k == slot / 8) | (9 <= k),"),
     ("format", "over_newest", "format writes over the newest copy", "make(volume, medium, copy_for(c), head)", "make(volume, medium, 1 - copy_for(c), head)"),
-    ("format", "magic_first", "format's first header has its magic", "let z = header::write_unmarked(volume, medium, copy, head);", "let z = header::write_head(volume, medium, copy, head);"),
+    ("header", "mark_kept", "format's first header keeps the last letter of its magic", "    runs::put_zeros(sector, 0, 16);", "    runs::put_zeros(sector, 0, 12);"),
     ("format", "id_taken_again", "format may take an id that a copy has", "let bad = (id == 0) | taken(c, id);", "let bad = id == 0;"),
     ("remove", "writer_left_open", "a removed file stays open", "            if open == id {", "            if open != id {"),
     ("files", "spares_the_first", "create's rollover spares the file with id 1", "&bytes[0..n], false, 0);", "&bytes[0..n], true, 1);"),
-    ("files", "names_twice", "create makes a second file of the name", "            if seen.exists {", "            if seen.exists & false {"),
+    ("directory", "name_unseen", "create's look does not see the file of the name", "            exists: true,", "            exists: s.exists,"),
     ("reopen", "writes_on", "a chunk that was begun is written further", "    Tail::Reopened(n)", "    Tail::At(n)"),
     ("reopen", "one_record_less", "the last valid record is not counted", "return Records::Are(index + 1);", "return Records::Are(index);"),
     ("append", "mark_forgotten", "a reopened chunk is not marked", "write_next(volume, medium, store, appender, true, records)", "write_next(volume, medium, store, appender, false, records)"),
-    ("append", "number_in_chunk", "records are numbered anew in each chunk", "    position * size + index", "    index"),
-    ("append", "bytes_again", "the bytes of a record are written again with the next", "            fill: 0,\n            buffer,\n            rolls: self.rolls,", "            fill: self.fill,\n            buffer,\n            rolls: self.rolls,"),
+    ("record", "number_in_chunk", "records are numbered anew in each chunk", "    position * size + index", "    index"),
+    ("append", "bytes_again", "the bytes of a record are written again with the next", "self.standing(self.chunk, self.position, next, 0)", "self.standing(self.chunk, self.position, next, self.fill)"),
     ("append", "error_goes_on", "an error leaves the appender open", "return stopped(e, m, s, shut);", "return stopped(e, m, s, a);"),
     ("reader", "past_the_mark", "a reader goes past a partial chunk's count", "End::Records(n) => n <= index,", "End::Records(n) => n < index,"),
     ("table", "first_free", "the free chunk is the first, whatever the cursor", "if (b < cursor) & (cursor <= i) {", "if (b < cursor) & (cursor < i) {"),
@@ -51,19 +52,48 @@ FAULTS = [
 ]
 
 
-def edit_text(old, new):
-    lines = ["file: src/lib.rt"]
+def edit_text(file, old, new):
+    lines = [f"file: {file}"]
     for a, b in zip(old.split("\n"), new.split("\n")):
         if a != b:
             lines += [f"old: {a}", f"new: {b}"]
     return "\n".join(lines) + "\n"
 
 
+def source_of(crate, old):
+    """The file of the crate's code that has this text, once; and how often the text is there."""
+    counts = {p: open(p, encoding="utf-8").read().count(old) for p in glob.glob(f"crates/{crate}/src/*.rt")}
+    return next((p[len(f"crates/{crate}/") :] for p, n in counts.items() if n), None), sum(counts.values())
+
+
+def told(path, name):
+    """What an edit is about: the comment at its top, if it has one, and its name."""
+    first = open(path, encoding="utf-8").readline()
+    return f"{first[2:].strip()} (`{name}`)" if first.startswith("# ") else f"`{name}`"
+
+
+def first_said(place, crate, name):
+    """The line in which the prover first says what fails, and the one after it."""
+    folder = os.path.join(place, "target/must-fail", crate, name)
+    log = os.path.join(folder, ".log")
+    lines = open(log, encoding="utf-8", errors="replace").read().replace(folder + "/", "").split("\n") if os.path.exists(log) else []
+    at = next((i for i, line in enumerate(lines) if ": error" in line), None)
+    if at is None:
+        at = next((i for i, line in enumerate(lines) if re.match(r"note: \S*:\d+:\d+:", line)), len(lines))
+    return "\n".join("  " + line.strip()[:400] for line in lines[at : at + 2])
+
+
 def main():
     root = os.path.dirname(os.path.dirname(os.path.abspath(__file__)))
     os.chdir(root)
-    wanted = [f for f in FAULTS if not sys.argv[1:] or f[0] in sys.argv[1:]]
-    further = [p for p in sorted(glob.glob("crates/*/faults/*.edit")) if not sys.argv[1:] or p.split("/")[1] in sys.argv[1:]]
+    asked = sys.argv[1:]
+    edits = [(p.split("/")[1], os.path.basename(p)[: -len(".edit")], p) for p in sorted(glob.glob("crates/*/faults/*.edit"))]
+    known = {a for crate, name, *_ in [*FAULTS, *edits] for a in (crate, f"{crate}/{name}")}
+    if unknown := [a for a in asked if a not in known]:
+        print("no fault of that name:", *unknown)
+        return 2
+    wanted = [f for f in FAULTS if not asked or f[0] in asked or f"{f[0]}/{f[1]}" in asked]
+    further = [e for e in edits if not asked or e[0] in asked or f"{e[0]}/{e[1]}" in asked]
     bad = 0
     with tempfile.TemporaryDirectory() as scratch:
         for name in ("crates", "crates.txt"):
@@ -73,24 +103,25 @@ def main():
         for crate in os.listdir(os.path.join(scratch, "crates")):
             shutil.rmtree(os.path.join(scratch, "crates", crate, "must-fail"), ignore_errors=True)
         for crate, name, _, old, new in wanted:
-            text = open(f"crates/{crate}/src/lib.rt", encoding="utf-8").read()
-            if text.count(old) != 1:
-                print(f"{crate} {name}: the text is there {text.count(old)} times, not once")
+            file, count = source_of(crate, old)
+            if count != 1:
+                print(f"{crate} {name}: the text is there {count} times, not once")
                 bad = 1
                 continue
             folder = os.path.join(scratch, "crates", crate, "must-fail")
             os.makedirs(folder, exist_ok=True)
             with open(os.path.join(folder, name + ".edit"), "w", encoding="utf-8") as f:
-                f.write(edit_text(old, new))
-        for path in further:
-            folder = os.path.join(scratch, "crates", path.split("/")[1], "must-fail")
+                f.write(edit_text(file, old, new))
+        for crate, _, path in further:
+            folder = os.path.join(scratch, "crates", crate, "must-fail")
             os.makedirs(folder, exist_ok=True)
             shutil.copy(path, folder)
-        crates = sorted({f[0] for f in wanted} | {p.split("/")[1] for p in further})
+        crates = sorted({f[0] for f in [*wanted, *further]})
         run = subprocess.run(["rt", "must-fail", *crates], cwd=scratch, capture_output=True, text=True)
         said = dict(re.findall(r"must-fail (\S+): (.*)", run.stdout + run.stderr))
-    rows = [(crate, name, f"{what} (`{name}`)") for crate, name, what, _, _ in wanted]
-    rows += [(p.split("/")[1], os.path.basename(p)[: -len(".edit")], f"`{os.path.basename(p)[: -len('.edit')]}`") for p in further]
+        rows = [(crate, name, f"{what} (`{name}`)") for crate, name, what, _, _ in wanted]
+        rows += [(crate, name, told(path, name)) for crate, name, path in further]
+        logs = {f"{c}/{n}": first_said(scratch, c, n) for c, n, _ in rows if f"{c}/{n}" in asked}
     print("| crate | fault | the prover |\n|---|---|---|")
     for crate, name, what in rows:
         verdict = said.get(f"{crate}/{name}", "no answer")
@@ -99,6 +130,8 @@ def main():
         bad |= not refused
         print(f"| {crate} | {what} | {'refused, first at ' + first.group(1) if refused and first else verdict} |")
     print(f"\n{sum(said.get(f'{c}/{n}', '').startswith('refused') for c, n, _ in rows)} of {len(rows)} refused")
+    for key, lines in logs.items():
+        print(f"\n{key}:\n{lines}")
     return 1 if bad else 0
 
 

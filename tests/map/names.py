@@ -1,11 +1,16 @@
 #!/usr/bin/env python3
 """Every name that the tables of docs/PROOFS.md give must stand in the sources: a definition, a law, a function, or a must-fail edit. A definition
 given with its file (le/Field `getLe`) must stand in that file, a law given with its file (Fields `get-put`, safe Copy `copy-frame`) be declared
-there, an edit in the column of edits (le `wrong_order`) be that crate's, and a function given with its crate (`store::mount`) be in it."""
+there, an edit in the column of edits (le `wrong_order`) be that crate's, and a function given with its crate (`store::mount`) be in it. A row of a
+table with that column names an edit there, or begins with "none:" or "by construction" and says why."""
 import glob
 import os
 import re
 import sys
+
+sys.dont_write_bytecode = True
+sys.path.insert(0, "docs")
+from faults import FAULTS
 
 MAP = "docs/PROOFS.md"
 NAME = re.compile(r"`([^`]+)`")
@@ -38,6 +43,11 @@ def sources(folder):
     return words, edits
 
 
+def is_edit(crate, name):
+    listed = any((crate, name) == fault[:2] for fault in FAULTS)
+    return listed or any(os.path.exists(f"crates/{crate}/{place}/{name}.edit") for place in ("must-fail", "faults"))
+
+
 def in_group(group):
     return [n.split()[0] for n in NAME.findall(re.sub(r"\([^)]*\)", "", group))]
 
@@ -57,17 +67,28 @@ def misplaced(cell, title):
             yield f"{item} in crate {crate}"
     if title.startswith("refused edit"):
         for crate, group in re.findall(rf"\b([a-z_]+) {GROUP}", cell):
-            yield from (f"edit {n} of {crate}" for n in in_group(group) if not any(os.path.exists(f"crates/{crate}/{place}/{n}.edit") for place in ("must-fail", "faults")))
+            yield from (f"edit {n} of {crate}" for n in in_group(group) if not is_edit(crate, n))
+
+
+def unshown(row):
+    """The column of edits names neither an edit nor a reason."""
+    title, cell = row[-1]
+    return title.startswith("refused edit") and not NAME.search(cell) and not re.match(r"-+$|none: .|by construction", cell)
 
 
 words, edits = sources("crates")
-names, missing = set(), []
+edits.update(fault[1] for fault in FAULTS)
+names, missing, bare = set(), [], []
 for row in tables(MAP):
     for title, cell in row[1:]:
         names.update(n.split("::")[-1].split()[0] for n in NAME.findall(cell))
         missing += misplaced(cell, title)
+    if unshown(row):
+        bare.append(row[0][1])
 missing += [n for n in sorted(names) if n not in words and n not in edits]
-print(f"map: {len(names)} names of {MAP} looked up, {len(missing)} not found")
+print(f"map: {len(names)} names of {MAP} looked up, {len(missing)} not found; {len(bare)} rows with neither an edit nor a reason")
 for n in missing:
     print("map: not in the sources:", n)
-sys.exit(1 if missing or not names else 0)
+for n in bare:
+    print("map: no edit and no reason:", n)
+sys.exit(1 if missing or bare or not names else 0)

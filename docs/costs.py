@@ -1,44 +1,63 @@
 #!/usr/bin/env python3
-"""What the gate costs, as a table: seconds of each crate and of its edits, from the output of `rt ci` (./test prints it).
+"""What the gate costs, as a table: of each crate the seconds and the memory of its proof, and the seconds of its edits; then the host tests.
 
-    ./test 2>&1 | tee gate.log; docs/costs.py gate.log
-    docs/costs.py --memory [CRATE..]     proves each crate by itself over proved ones, with its greatest memory (GNU time); some minutes
-"""
+    ./test 2>&1 | tee gate.log
+    docs/costs.py --memory > memory.txt       proves each crate by itself over proved ones, some minutes (GNU time)
+    docs/costs.py gate.log memory.txt         the table (docs/COSTS.md has one)
+
+The seconds of proofs and edits are rt's own, in a gate that runs two at a time; those of --memory are of a crate that has the machine to itself."""
+import os
 import re
 import subprocess
 import sys
 
 
-def seconds(path):
-    proved, edits = {}, {}
+def gate(path):
+    proved, edits, parts = {}, {}, []
     for row in open(path, encoding="utf-8", errors="replace"):
         if m := re.match(r"rt: (\w+) proved \((\d+) s\)", row):
             proved[m[1]] = int(m[2])
         elif m := re.match(r"rt: must-fail (\w+)/\w+: refused.*?(\d+) s\)", row):
             edits.setdefault(m[1], []).append(int(m[2]))
         elif m := re.match(r"== (.*): passed, (\d+) s", row):
-            print(f"{m[1]}: {m[2]} s")
-    print("\n| crate | proved, s | edits | edits, s |\n|---|---|---|---|")
-    for crate in proved:
+            parts.append((m[1], int(m[2])))
+        elif m := re.match(r"== all of (\S+) took (\d+) s", row):
+            parts.append(("all of " + m[1], int(m[2])))
+    return proved, edits, parts
+
+
+def alone(path):
+    return {m[1]: (int(m[2]), int(m[3])) for m in map(re.compile(r"(\w+) (\d+) s (\d+) MB").match, open(path, encoding="utf-8")) if m}
+
+
+def table(log, memory):
+    proved, edits, parts = gate(log)
+    by_itself = alone(memory)
+    print("| crate | proved in the gate, s | by itself, s | memory, MB | edits | edits, s |\n|---|---|---|---|---|---|")
+    for crate, seconds in proved.items():
         e = edits.get(crate, [])
-        print(f"| {crate} | {proved[crate]} | {len(e)} | {sum(e)} |")
-    print(f"| all | {sum(proved.values())} | {sum(map(len, edits.values()))} | {sum(map(sum, edits.values()))} |")
-    print("\nTwo ran at a time, so a second here is about half a second of the gate.")
+        print("| %s | %d | %s | %s | %s | %s |" % (crate, seconds, *by_itself.get(crate, ("", "")), len(e) or "", sum(e) or ""))
+    sums = [sum(proved.values()), sum(s for s, _ in by_itself.values()), max((m for _, m in by_itself.values()), default=0)]
+    print("| all (memory: the most) | %d | %d | %d | %d | %d |" % (*sums, sum(map(len, edits.values())), sum(map(sum, edits.values()))))
+    print("\n| part of the gate | s |\n|---|---|")
+    for name, seconds in parts:
+        print("| %s | %d |" % (name, seconds))
 
 
-def memory(crates):
-    listed = [l.split(":")[0] for l in open("crates.txt", encoding="utf-8") if ":" in l and not l.startswith("#")]
-    print("| crate | s | MB |\n|---|---|---|")
-    for crate in crates or listed:
-        subprocess.run(["rm", "-rf", f"target/rlib/{crate}.rlib"], check=True)
-        run = subprocess.run(["/usr/bin/time", "-f", "%e %M", "rt", "check", crate], capture_output=True, text=True)
-        spent, most = run.stderr.split("\n")[-2].split()
-        print(f"| {crate} | {float(spent):.0f} | {int(most) // 1024} |", flush=True)
+def memory():
+    for line in open("crates.txt", encoding="utf-8"):
+        if m := re.match(r"(\w+):", line):
+            crate = m[1]
+            if os.path.exists("target/stamp/" + crate):
+                os.remove("target/stamp/" + crate)  # so that it is proved anew
+            run = subprocess.run(["/usr/bin/time", "-f", "%e %M", "rt", "check", crate], capture_output=True, text=True)
+            spent, most = run.stderr.split("\n")[-2].split()
+            print("%s %d s %d MB" % (crate, round(float(spent)), int(most) // 1024), flush=True)
 
 
-if sys.argv[1:2] == ["--memory"]:
-    memory(sys.argv[2:])
-elif len(sys.argv) == 2:
-    seconds(sys.argv[1])
+if sys.argv[1:] == ["--memory"]:
+    memory()
+elif len(sys.argv) == 3:
+    table(*sys.argv[1:])
 else:
     sys.exit(__doc__)

@@ -27,7 +27,7 @@ use Rattle.directory.specs.declared.Found.the-variants as found
 use Rattle.directory.specs.Scan.{findOf, onFound}
 use Rattle.table.specs.Table.{onChain}
 use Rattle.record.specs.declared.Judged.the-variants.{Valid, Other}
-use Rattle.record.specs.Record.{judgeOf, dataAt, numberAt, readRecordOf}
+use Rattle.record.specs.Record.{judgeOf, dataAt, numberAt, readRecordOf, recordAt}
 use Rattle.reader.specs.Next.{onJudged}
 use Rattle.append.specs.declared.Appender.{Appender}
 use Rattle.append.specs.declared.Tail.{Tail}
@@ -36,7 +36,7 @@ use Rattle.append.specs.Flush.{AppOut}
 use Rattle.files.specs.declared.Rollover.{Rollover}
 use Rattle.files.specs.Opened.{refusedAt, nextToken, withToken, writtenBy, newAppender, openedOut}
 use Rattle.reopen.specs.declared.Records.the-variants as records
-use Rattle.reopen.specs.Reopen.{recordAt, recordsFrom, tailFor, onRecords, fileOut, reopenOf}
+use Rattle.reopen.specs.Reopen.{recordsFrom, tailFor, onRecords, fileOut, reopenOf}
 use Rattle.reopen.proofs.Counts.{record-inside}
 use Rattle.safe.proofs.Invs.{reads, inv-writer}
 use Rattle.layout.specs.Views.{named, diskOf}

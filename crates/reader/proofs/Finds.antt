@@ -27,7 +27,7 @@ use Rattle.handles.specs.Handles.{storeOk}
 use Rattle.handles.proofs.Laws.{store-facts}
 use Rattle.record.specs.declared.Judged.{Judged}
 use Rattle.record.specs.declared.Judged.the-variants as judged
-use Rattle.record.specs.Record.{payloadOf, dataAt, numberAt, readRecordOf}
+use Rattle.record.specs.Record.{payloadOf, dataAt, numberAt, readRecordOf, recordAt}
 use Rattle.record.proofs.Laws.{data-inside}
 use Rattle.record.proofs.RoundTrip.{judge-length, read-judged, payload-place}
 use Rattle.reader.specs.declared.End.the-variants.{Last}
@@ -39,7 +39,7 @@ use Rattle.reader.specs.declared.Next.{Next}
 use Rattle.reader.specs.declared.Next.the-variants as found
 use Rattle.reader.specs.declared.Taken.{Taken}
 use Rattle.reader.specs.Reader.{movedTo}
-use Rattle.reader.specs.Next.{passedEnd, isLast, limitOf, arriveOf, recordAt, onJudged, onSearched, searchStep, searchOf, tells, holeOf, NextOut, takeOf, nextOf}
+use Rattle.reader.specs.Next.{passedEnd, isLast, limitOf, arriveOf, recordHere, onJudged, onSearched, searchStep, searchOf, tells, holeOf, NextOut, takeOf, nextOf}
 use Rattle.reader.proofs.Facts.{Reads, limit-most, moved-reads}
 use Rattle.reader.proofs.Moves.{arrive-here, arrive-end, Arrives, arrive-reads}
 
@@ -63,12 +63,12 @@ module _ (vol : List ℕ) (m : Medium) (st : Store) (rd : Reader) (i : ℕ) wher
   pub record-inside : storeOk st (sectorsOf vol) ≡ true → Reads rd st → i < st .head .chunk → dataAt st (rd .chunk) i < sectorsOf vol
   record-inside ok r h = data-inside st (rd .chunk) i (sectorsOf vol) (r .chunk) h (store-facts st (sectorsOf vol) ok .head .room)
 
-  pub record-read : {j : Judged} {n : ℕ} → n ≡ numberAt (rd .position) (st .head .chunk) i → j ≡ readRecordOf vol m st (rd .id) (rd .chunk) i n → j ≡ recordAt vol m st rd i
-  unfolding recordAt
+  pub record-read : {j : Judged} {n : ℕ} → n ≡ numberAt (rd .position) (st .head .chunk) i → j ≡ readRecordOf vol m st (rd .id) (rd .chunk) i n → j ≡ recordHere vol m st rd i
+  unfolding recordHere recordAt
   record-read p q = q ∙ ap (readRecordOf vol m st (rd .id) (rd .chunk) i) p
 
-  pub record-length : {n : ℕ} → recordAt vol m st rd i ≡ judged.Valid n → (1 ≤ n) × (n ≤ 486)
-  unfolding recordAt
+  pub record-length : {n : ℕ} → recordHere vol m st rd i ≡ judged.Valid n → (1 ≤ n) × (n ≤ 486)
+  unfolding recordHere recordAt
   record-length e = judge-length _ _ _ _ (read-judged vol m st (rd .id) (rd .chunk) i _ e .1)
 
 -- ---- the search
@@ -88,8 +88,8 @@ module _ (vol : List ℕ) (m : Medium) (st : Store) (rd : Reader) (from limit : 
   within : from ≤ limit → Within (searchOf vol m st rd from limit)
   unfolding searchOf visits
   within h =
-      walk-keeps (λ k t. searchStep k t (recordAt vol m st rd k)) (λ s. searched.At limit) limit (λ k t. from ≤ k) Within
-      (λ k t u b p q. omega arith) (λ k t r b p q. stops k t (recordAt vol m st rd k) r b p q) (λ t p. (p, le-refl limit)) from tt h (le-refl from)
+      walk-keeps (λ k t. searchStep k t (recordHere vol m st rd k)) (λ s. searched.At limit) limit (λ k t. from ≤ k) Within
+      (λ k t u b p q. omega arith) (λ k t r b p q. stops k t (recordHere vol m st rd k) r b p q) (λ t p. (p, le-refl limit)) from tt h (le-refl from)
 
   pub search-range : {i : ℕ} → from ≤ limit → searchOf vol m st rd from limit ≡ searched.At i → (from ≤ i) × (i ≤ limit)
   search-range h e = subst Within e (within h)
@@ -119,7 +119,7 @@ module _ (vol : List ℕ) (m : Medium) (st : Store) (rd : Reader) {limit : ℕ} 
 
 -- ---- the record at the index
 
-module _ (vol : List ℕ) (m : Medium) (st : Store) (rd : Reader) (out : List ℕ) {j : Judged} (read : j ≡ recordAt vol m st rd (rd .index)) where
+module _ (vol : List ℕ) (m : Medium) (st : Store) (rd : Reader) (out : List ℕ) {j : Judged} (read : j ≡ recordHere vol m st rd (rd .index)) where
   pub take-refused : {e : Error} → j ≡ judged.Refused e → (out ≡ takeOf vol m st rd out .out) × (tells (found.Refused e) rd ≡ takeOf vol m st rd out .ans)
   unfolding takeOf onJudged
   take-refused q = rw (← read, q) (refl, refl)
@@ -209,7 +209,7 @@ module _ (vol : List ℕ) (m : Medium) (st : Store) (out : List ℕ) (ok : store
     take-finds : Finds st out (takeOf vol m st rd out)
     unfolding takeOf
     take-finds =
-        onJudged-keeps (Finds st out) (recordAt vol m st rd (rd .index)) _ _ _
+        onJudged-keeps (Finds st out) (recordHere vol m st rd (rd .index)) _ _ _
         (λ e. plain (found.Refused e) rd r tt)
         (λ n q.
         let l = record-length vol m st rd (rd .index) q in

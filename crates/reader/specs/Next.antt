@@ -16,7 +16,7 @@ use Rattle.medium.specs.Sector.{sectorAt}
 use Rattle.handles.specs.declared.Store.{Store}
 use Rattle.record.specs.declared.Judged.{Judged}
 use Rattle.record.specs.declared.Judged.the-variants as judged
-use Rattle.record.specs.Record.{payloadOf, dataAt, numberAt, readRecordOf}
+use Rattle.record.specs.Record.{payloadOf, dataAt, numberAt, recordAt}
 use Rattle.reader.specs.declared.End.{End}
 use Rattle.reader.specs.declared.End.the-variants.{Last, Records}
 use Rattle.reader.specs.declared.Reader.{Reader}
@@ -57,8 +57,8 @@ unfoldable pub arriveOf : List ℕ → Medium → Store → Reader → Arrived
 arriveOf vol m st rd = rest (arriveStep vol m st) (λ r. record { outcome = Done; reader = r; more = false }) (rd .chunks) (rd .position) rd
 
 -- record i of the reader's chunk, read and judged
-unfoldable pub recordAt : List ℕ → Medium → Store → Reader → ℕ → Judged
-recordAt vol m st rd i = readRecordOf vol m st (rd .id) (rd .chunk) i (numberAt (rd .position) (st .head .chunk) i)
+unfoldable pub recordHere : List ℕ → Medium → Store → Reader → ℕ → Judged
+recordHere vol m st rd i = recordAt vol m st (rd .id) (rd .chunk) (rd .position) i
 
 -- decisions by a judged record and by a search. They stay shut in proofs
 unfoldable pub onJudged : {A : Type 0} → Judged → (Error → A) → (ℕ → A) → A → A
@@ -75,7 +75,7 @@ abbrev pub searchStep : ℕ → Unit {0} → Judged → Step (Unit {0}) Searched
 searchStep i s j = onJudged j (λ e. stop (searched.Refused e)) (λ n. stop (searched.At i)) (next s)
 
 unfoldable pub searchOf : List ℕ → Medium → Store → Reader → ℕ → ℕ → Searched
-searchOf vol m st rd after limit = visits searchStep (recordAt vol m st rd) (λ s. searched.At limit) limit after tt
+searchOf vol m st rd after limit = visits searchStep (recordHere vol m st rd) (λ s. searched.At limit) limit after tt
 
 -- an answer
 abbrev pub tells : Next → Reader → Taken
@@ -99,7 +99,7 @@ pub record NextOut : Type 0 where
 -- the record at the reader's index: its payload to the front of the output, and the reader behind it
 unfoldable pub takeOf : List ℕ → Medium → Store → Reader → List ℕ → NextOut
 takeOf vol m st rd out =
-    onJudged (recordAt vol m st rd (rd .index))
+    onJudged (recordHere vol m st rd (rd .index))
     (λ e. record { out = out; ans = tells (found.Refused e) rd })
     (λ n. record {
       out = over 0 (payloadOf (sectorAt vol (dataAt st (rd .chunk) (rd .index))) n) out;

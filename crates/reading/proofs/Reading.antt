@@ -27,14 +27,14 @@ use Rattle.table.specs.Table.{locateOf, onPlace}
 use Rattle.directory.specs.Entry.{entryAt}
 use Rattle.record.specs.declared.Judged.{Judged}
 use Rattle.record.specs.declared.Judged.the-variants as judged
-use Rattle.record.specs.Record.{judgeOf, dataAt, numberAt, readRecordOf}
+use Rattle.record.specs.Record.{judgeOf, dataAt, numberAt, readRecordOf, recordAt}
 use Rattle.record.proofs.Laws.{data-inside}
 use Rattle.reader.specs.declared.End.{End}
 use Rattle.reader.specs.declared.End.the-variants.{Last, Records}
 use Rattle.reader.specs.declared.Reader.{Reader}
 use Rattle.reader.specs.declared.Next.the-variants as found
 use Rattle.reader.specs.Reader.{endOf, startOf, movedTo, insideOf, enterOf}
-use Rattle.reader.specs.Next.{passedEnd, arriveOf, recordAt, tells, NextOut, nextOf}
+use Rattle.reader.specs.Next.{passedEnd, arriveOf, recordHere, tells, NextOut, nextOf}
 use Rattle.reader.specs.Calls.{payload, end, nextAnswer, NextCall, nextCall}
 use Rattle.reader.proofs.Facts.{Reads, end-within}
 use Rattle.reader.proofs.Moves.{arrive-here, arrive-on}
@@ -149,12 +149,12 @@ module _ (vol : List ℕ) (m : Medium) (st : Store) (G : ℕ → List Segment) (
   stands p j h k =
       stored-judged (st .head .id) (sector p j) (length-sector vol (dataAt st (segmentAt (G s) p .chunk) j) (inside p j h (omega (arith, k, fits p h)))) (d .written s p j name id s< is h k)
 
-  judged-at : (p i j : ℕ) {r : Judged} → p < length (G s) → j < size → judgeOf (st .head .id) id (p * size + j) (sector p j) ≡ r → recordAt vol m st (at p i) j ≡ r
-  unfolding recordAt readRecordOf numberAt onDone
+  judged-at : (p i j : ℕ) {r : Judged} → p < length (G s) → j < size → judgeOf (st .head .id) id (p * size + j) (sector p j) ≡ r → recordHere vol m st (at p i) j ≡ r
+  unfolding recordHere recordAt readRecordOf numberAt onDone
   judged-at p i j h k e = rw (readable (dataAt st (segmentAt (G s) p .chunk) j) (inside p j h k)) e
 
   -- past the last one none passes
-  none-past : (p i j : ℕ) → p < length (G s) → count p ≤ j → j < size → recordAt vol m st (at p i) j ≡ judged.Other
+  none-past : (p i j : ℕ) → p < length (G s) → count p ≤ j → j < size → recordHere vol m st (at p i) j ≡ judged.Other
   none-past p i j h k l =
       judged-at p i j h l (judged-other (st .head .id) id (p * size + j) (sector p j) (λ x q.
       let w = d .placed (segmentAt (G s) p .chunk) j s (p * size + j) x name id (d .inside s p s< h) l s< q is in

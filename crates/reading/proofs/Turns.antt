@@ -25,7 +25,7 @@ use Rattle.reader.specs.declared.Searched.{Searched}
 use Rattle.reader.specs.declared.Searched.the-variants as searched
 use Rattle.reader.specs.declared.Next.the-variants as found
 use Rattle.reader.specs.Reader.{movedTo}
-use Rattle.reader.specs.Next.{isLast, limitOf, arriveOf, recordAt, onJudged, searchStep, searchOf, tells, holeOf, takeOf, nextOf}
+use Rattle.reader.specs.Next.{isLast, limitOf, arriveOf, recordHere, onJudged, searchStep, searchOf, tells, holeOf, takeOf, nextOf}
 use Rattle.reader.specs.Calls.{usableOf}
 use Rattle.reader.proofs.Facts.{Reads, reader-ok}
 use Rattle.reader.proofs.Finds.{hole-end}
@@ -45,7 +45,7 @@ module _ (vol : List ℕ) (m : Medium) (st : Store) (rd : Reader) where
   unfolding nextOf onDone pick
   next-here out e = rw e
 
-  pub take-valid : (out : List ℕ) {n : ℕ} → recordAt vol m st rd (rd .index) ≡ judged.Valid n
+  pub take-valid : (out : List ℕ) {n : ℕ} → recordHere vol m st rd (rd .index) ≡ judged.Valid n
       → takeOf vol m st rd out ≡ record {
         out = over 0 (payloadOf (sectorAt vol (dataAt st (rd .chunk) (rd .index))) n) out;
         ans = tells (found.Payload n) (movedTo rd (rd .position) (rd .index + 1));
@@ -53,17 +53,17 @@ module _ (vol : List ℕ) (m : Medium) (st : Store) (rd : Reader) where
   unfolding takeOf onJudged
   take-valid out e = rw e
 
-  pub take-other : (out : List ℕ) → recordAt vol m st rd (rd .index) ≡ judged.Other → takeOf vol m st rd out ≡ record { out = out; ans = holeOf vol m st rd }
+  pub take-other : (out : List ℕ) → recordHere vol m st rd (rd .index) ≡ judged.Other → takeOf vol m st rd out ≡ record { out = out; ans = holeOf vol m st rd }
   unfolding takeOf onJudged
   take-other out e = rw e
 
   -- no valid record from `after` up to the limit
-  pub search-none : (after limit : ℕ) → after ≤ limit → ((j : ℕ) → after ≤ j → j < limit → recordAt vol m st rd j ≡ judged.Other) → searchOf vol m st rd after limit ≡ searched.At limit
+  pub search-none : (after limit : ℕ) → after ≤ limit → ((j : ℕ) → after ≤ j → j < limit → recordHere vol m st rd j ≡ judged.Other) → searchOf vol m st rd after limit ≡ searched.At limit
   unfolding searchOf visits onJudged
   search-none after limit h none =
-      walk-keeps (λ k t. searchStep k t (recordAt vol m st rd k)) (λ s. searched.At limit) limit (λ k t. after ≤ k) (λ (r : Searched). r ≡ searched.At limit)
+      walk-keeps (λ k t. searchStep k t (recordHere vol m st rd k)) (λ s. searched.At limit) limit (λ k t. after ≤ k) (λ (r : Searched). r ≡ searched.At limit)
       (λ k t u b p q. omega (arith, p))
-      (λ k t r b p q. let z : recordAt vol m st rd k ≡ judged.Other = none k p b in absurd (let y : _≡_ {A = ℕ} 0 1 = cc in omega arith))
+      (λ k t r b p q. let z : recordHere vol m st rd k ≡ judged.Other = none k p b in absurd (let y : _≡_ {A = ℕ} 0 1 = cc in omega arith))
       (λ t p. refl) after tt h (le-refl after)
 
   pub hole-none : rd .end ≡ Last → searchOf vol m st rd (rd .index + 1) (st .head .chunk) ≡ searched.At (st .head .chunk) → holeOf vol m st rd ≡ tells found.End rd

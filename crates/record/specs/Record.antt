@@ -66,6 +66,10 @@ unfoldable pub readRecordOf : List ℕ → Medium → Store → ℕ → ℕ → 
 readRecordOf vol m st id chunk index number =
     onDone (readOf m (dataAt st chunk index)) (judgeOf (st .head .id) id number (sectorAt vol (dataAt st chunk index))) Refused
 
+-- record `index` of the chunk at a position of the file, with its number
+unfoldable pub recordAt : List ℕ → Medium → Store → ℕ → ℕ → ℕ → ℕ → Judged
+recordAt vol m st id chunk position index = readRecordOf vol m st id chunk index (numberAt position (st .head .chunk) index)
+
 -- writing one: a sector write of the record that the appender makes
 abbrev pub writeRecordOf : List ℕ → Medium → Store → ℕ → ℕ → ℕ → ℕ → List ℕ → WriteOut
 writeRecordOf vol m st id chunk index number payload = writeOf vol m (dataAt st chunk index) (recordOf (st .head .id) id number payload)

@@ -17,8 +17,8 @@ use Rattle.handles.specs.Handles.{storeOk}
 use Rattle.handles.proofs.Laws.{Held, store-facts}
 use Rattle.record.specs.declared.Judged.{Judged}
 use Rattle.record.specs.declared.Judged.the-variants as judged
-use Rattle.record.specs.Record.{dataAt}
-use Rattle.record.proofs.Laws.{data-inside, number-small}
+use Rattle.record.specs.Record.{dataAt, recordAt}
+use Rattle.record.proofs.Laws.{data-inside}
 use Rattle.reader.specs.Next.{onJudged}
 use Rattle.reader.proofs.Finds.{onJudged-keeps}
 use Rattle.append.specs.declared.Tail.{Tail}
@@ -26,15 +26,14 @@ use Rattle.append.specs.declared.Tail.the-variants.{At, Reopened}
 use Rattle.append.specs.Appender.{tailOk, isClosed}
 use Rattle.reopen.specs.declared.Records.{Records}
 use Rattle.reopen.specs.declared.Records.the-variants as records
-use Rattle.reopen.specs.Reopen.{recordAt, recordsFrom, tailFor}
+use Rattle.reopen.specs.Reopen.{recordsFrom, tailFor}
 
 -- ---- a record of the chunk
 
 module _ (vol : List ℕ) (st : Store) (ok : storeOk st (sectorsOf vol) ≡ true) where
-  pub number-fits : (position index : ℕ) → position ≤ 2047 → index < st .head .chunk → position * st .head .chunk + index < 2 ^ 32
-  number-fits position index p i =
-      let h : Held st (sectorsOf vol) = store-facts st (sectorsOf vol) ok in
-      number-small position (st .head .chunk) index (omega arith) (h .head .size-most) (omega (arith, h .head .size-most))
+  pub number-needs : (position index : ℕ) → position ≤ 2047 → index < st .head .chunk → (position ≤ 32767) × (st .head .chunk ≤ 512) × (index ≤ 512)
+  number-needs position index p i =
+      let h : Held st (sectorsOf vol) = store-facts st (sectorsOf vol) ok in (omega arith, h .head .size-most, omega (arith, h .head .size-most))
 
   pub record-inside : (chunk index : ℕ) → chunk < st .head .chunks → index < st .head .chunk → dataAt st chunk index < sectorsOf vol
   record-inside chunk index c i = data-inside st chunk index (sectorsOf vol) c i (store-facts st (sectorsOf vol) ok .head .room)

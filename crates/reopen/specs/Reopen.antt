@@ -9,8 +9,7 @@ use Rattle.medium.specs.declared.Medium.{Medium}
 use Rattle.handles.specs.declared.Store.{Store}
 use Rattle.directory.specs.Scan.{findOf, onFound}
 use Rattle.table.specs.Table.{chainOf, onChain}
-use Rattle.record.specs.Record.{numberAt, readRecordOf}
-use Rattle.record.specs.declared.Judged.{Judged}
+use Rattle.record.specs.Record.{recordAt}
 use Rattle.reader.specs.Next.{onJudged}
 use Rattle.append.specs.declared.Tail.{Tail}
 use Rattle.append.specs.declared.Tail.the-variants.{At, Reopened}
@@ -19,10 +18,6 @@ use Rattle.files.specs.declared.Rollover.{Rollover}
 use Rattle.files.specs.Opened.{refusedAt, openedOut}
 use Rattle.reopen.specs.declared.Records.{Records}
 use Rattle.reopen.specs.declared.Records.the-variants as records
-
--- record n of a chunk of the file, read and judged
-unfoldable pub recordAt : List ℕ → Medium → Store → ℕ → ℕ → ℕ → ℕ → Judged
-recordAt vol m st id chunk position n = readRecordOf vol m st id chunk n (numberAt position (st .head .chunk) n)
 
 -- up to the last valid record of the chunk, from the top down
 unfoldable pub recordsFrom : List ℕ → Medium → Store → ℕ → ℕ → ℕ → ℕ → Records

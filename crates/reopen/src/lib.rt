@@ -13,7 +13,8 @@ ghost use mathlib.Core.Bool.{true};
 ghost use Prim.Native.Nat.{_≤_, _<_};
 ghost use Rattle.medium.specs.Sector.{sectorsOf};
 ghost use Rattle.handles.specs.Handles.{storeOk};
-ghost use Rattle.reopen.specs.Reopen.{recordAt, recordsFrom, tailFor, fileOut, reopenOf};
+ghost use Rattle.record.specs.Record.{recordAt};
+ghost use Rattle.reopen.specs.Reopen.{recordsFrom, tailFor, fileOut, reopenOf};
 
 // The records of a chunk, up to the last valid one.
 pub enum Records {
@@ -34,7 +35,7 @@ fn record_at(
     requires { ⌜ (storeOk store (sectorsOf (now volume)) ≡ true) × (chunk < store .head .chunks) × (position ≤ 2047) × (index < store .head .chunk) ⌝ }
     ensures { λ r. ⌜ r ≡ recordAt (now (volume .entry)) medium store id chunk position index ⌝ }
 {
-    let n = position * store.head.chunk + index;
+    let n = record::number_at(position, store.head.chunk, index);
     record::record(volume, medium, store, id, chunk, index, n)
 }
 

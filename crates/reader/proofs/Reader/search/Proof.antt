@@ -4,14 +4,14 @@ use Prim.Native.Nat.{_-_}
 use native.Mathlib.Omega.{arith}
 use Rattle.walk.proofs.Laws.{At, at-next, at-stop, at-end}
 use Rattle.reader.specs.declared.Searched.the-variants as searched
-use Rattle.reader.specs.Next.{recordAt, onJudged, searchStep, searchOf}
+use Rattle.reader.specs.Next.{recordHere, onJudged, searchStep, searchOf}
 use Rattle.reader.proofs.Facts.{reader-facts, number-needs}
 use Rattle.reader.proofs.Finds.{record-inside, record-read}
 use Rattle.reader.proofs.Reader.search.Statement.{statement}
 use Rattle.reader.proofs.Reader.search.Tie as tie
 
 abbrev Inv-loop : tie.InvT-loop
-Inv-loop self volume medium store after limit size next₀ next = At searchStep (recordAt volume medium store self) (λ s. searched.At limit) limit (searchOf volume medium store self after limit) next tt
+Inv-loop self volume medium store after limit size next₀ next = At searchStep (recordHere volume medium store self) (λ s. searched.At limit) limit (searchOf volume medium store self after limit) next tt
 
 abbrev μ-loop : tie.MeasureT-loop
 μ-loop self volume medium store after limit size next₀ next = limit - next

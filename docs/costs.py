@@ -5,7 +5,7 @@
     docs/costs.py --memory > memory.txt       proves each crate by itself over proved ones, some minutes (GNU time)
     docs/costs.py gate.log memory.txt         the table (docs/COSTS.md has one)
 
-The seconds of proofs and edits are rt's own, in a gate that runs two at a time; those of --memory are of a crate that has the machine to itself."""
+The seconds are rt's own, in a gate that runs two at a time. The memory is the most that a process of the proof held."""
 import os
 import re
 import subprocess
@@ -26,19 +26,19 @@ def gate(path):
     return proved, edits, parts
 
 
-def alone(path):
-    return {m[1]: (int(m[2]), int(m[3])) for m in map(re.compile(r"(\w+) (\d+) s (\d+) MB").match, open(path, encoding="utf-8")) if m}
+def most(path):
+    return {m[1]: int(m[2]) for m in map(re.compile(r"(\w+) (\d+) MB").match, open(path, encoding="utf-8")) if m}
 
 
 def table(log, memory):
     proved, edits, parts = gate(log)
-    by_itself = alone(memory)
-    print("| crate | proved in the gate, s | by itself, s | memory, MB | edits | edits, s |\n|---|---|---|---|---|---|")
+    held = most(memory)
+    print("| crate | proof, s | memory, MB | edits | edits, s |\n|---|---|---|---|---|")
     for crate, seconds in proved.items():
         e = edits.get(crate, [])
-        print("| %s | %d | %s | %s | %s | %s |" % (crate, seconds, *by_itself.get(crate, ("", "")), len(e) or "", sum(e) or ""))
-    sums = [sum(proved.values()), sum(s for s, _ in by_itself.values()), max((m for _, m in by_itself.values()), default=0)]
-    print("| all (memory: the most) | %d | %d | %d | %d | %d |" % (*sums, sum(map(len, edits.values())), sum(map(sum, edits.values()))))
+        print("| %s | %d | %s | %s | %s |" % (crate, seconds, held.get(crate, ""), len(e) or "", sum(e) or ""))
+    sums = (sum(proved.values()), max(held.values(), default=0), sum(map(len, edits.values())), sum(map(sum, edits.values())))
+    print("| all (of memory the most) | %d | %d | %d | %d |" % sums)
     print("\n| part of the gate | s |\n|---|---|")
     for name, seconds in parts:
         print("| %s | %d |" % (name, seconds))
@@ -50,9 +50,8 @@ def memory():
             crate = m[1]
             if os.path.exists("target/stamp/" + crate):
                 os.remove("target/stamp/" + crate)  # so that it is proved anew
-            run = subprocess.run(["/usr/bin/time", "-f", "%e %M", "rt", "check", crate], capture_output=True, text=True)
-            spent, most = run.stderr.split("\n")[-2].split()
-            print("%s %d s %d MB" % (crate, round(float(spent)), int(most) // 1024), flush=True)
+            run = subprocess.run(["/usr/bin/time", "-f", "%M", "rt", "check", crate], capture_output=True, text=True)
+            print("%s %d MB" % (crate, int(run.stderr.split("\n")[-2]) // 1024), flush=True)
 
 
 if sys.argv[1:] == ["--memory"]:

@@ -1,13 +1,13 @@
 #!/usr/bin/env python3
-"""One-line faults put into the port's code, each in a copy of the repository: the prover must refuse each.
+"""Faults put into the port's code and definitions, each in a copy of the repository: the prover must refuse each.
 
     docs/faults.py                 all of them, half an hour; prints a table, status 1 if one is not refused (docs/FAULTS.md has it)
     docs/faults.py CRATE..         those of these crates
     docs/faults.py CRATE/NAME..    these alone, and below the table what the prover said first of each
 
 It proves what stands below the crates once, then each fault by itself, as a must-fail edit (`rt must-fail`). Beside the list below it takes
-the edits in crates/*/faults: those of docs/PROOFS.md that would make the gate too long. It is not part of ./test. The first of the list are
-the faults that tests/oracle/mutants puts into the Rust.
+the edits in crates/*/faults: those of docs/PROOFS.md that would make the gate too long. It is not part of ./test. Many of the list are
+also put into the Rust, by tests/oracle/mutants.
 """
 import glob
 import os
@@ -22,8 +22,6 @@ FAULTS = [
     ("record", "record_without_file", "a record passes without its file id", "(le::get_u32(sector, 12) == file)", "(le::get_u32(sector, 12) != 0)"),
     ("record", "record_without_store", "a record passes without its store id", "(le::get_u64(sector, 4) == id)", "(le::get_u64(sector, 4) != 0)"),
     ("record", "record_without_number", "a record passes without its number", "(le::get_u32(sector, 16) == number)", "(le::get_u32(sector, 16) <= 0xffff_ffff)"),
-    ("record", "record_of_487", "a payload may have 487 bytes", "(length <= 486)", "(length <= 487)"),
-    ("commit", "own_header_zeroed", "a commit zeros the header of its own copy", "handles::base(copy), &zero)", "handles::base(store.copy), &zero)"),
     ("commit", "other_trusted", "the other copy is trusted whatever store it is of", "    known & (theirs == crc)", "    (theirs == crc)"),
     ("commit", "stale_goes_on", "a store value that is not current is not refused", "    if !is_current(found, store) {", "    if is_current(found, store) & false {"),
     ("commit", "old_copy_kept", "the store handed back names the old copy", "store: Store { copy, head, writer },", "store: Store { copy: store.copy, head, writer },"),
@@ -41,11 +39,8 @@ FAULTS = [
     ("directory", "name_unseen", "create's look does not see the file of the name", "            exists: true,", "            exists: s.exists,"),
     ("reopen", "writes_on", "a chunk that was begun is written further", "    Tail::Reopened(n)", "    Tail::At(n)"),
     ("reopen", "one_record_less", "the last valid record is not counted", "return Records::Are(index + 1);", "return Records::Are(index);"),
-    ("append", "mark_forgotten", "a reopened chunk is not marked", "write_next(volume, medium, store, appender, true, records)", "write_next(volume, medium, store, appender, false, records)"),
     ("record", "number_in_chunk", "records are numbered anew in each chunk", "    position * size + index", "    index"),
     ("append", "bytes_again", "the bytes of a record are written again with the next", "self.standing(self.chunk, self.position, next, 0)", "self.standing(self.chunk, self.position, next, self.fill)"),
-    ("append", "error_goes_on", "an error leaves the appender open", "return stopped(e, m, s, shut);", "return stopped(e, m, s, a);"),
-    ("reader", "past_the_mark", "a reader goes past a partial chunk's count", "End::Records(n) => n <= index,", "End::Records(n) => n < index,"),
     ("table", "first_free", "the free chunk is the first, whatever the cursor", "if (b < cursor) & (cursor <= i) {", "if (b < cursor) & (cursor < i) {"),
     ("table", "clears_next_slot", "links of another slot are cleared", "if ((owner % 128) as usize) != slot + 1 {", "if ((owner % 128) as usize) != slot {"),
     ("directory", "older_spared", "files older than the open one are spared too", "let spared = keeping & (id == keep);", "let spared = keeping & (id <= keep);"),

@@ -1,5 +1,5 @@
--- The calls on offer to a holder of an appender, in 01's numbers: append and sync. Order of refusals: 3 on the store value and on the appender,
--- then 11. What a refusal leaves is what stands so far. Assumes nothing.
+-- The calls on offer to a holder of an appender, in 01's numbers: append, sync, and room, the bytes until a record. Order of refusals of append and
+-- sync: 3 on the store value and on the appender, then 11. What a refusal leaves is what stands so far. Assumes nothing.
 use Prim.Native.Nat.{ℕ, _-_}
 use mathlib.Core.Bool.{_&&_}
 use mathlib.Core.List.{List}

@@ -7,7 +7,7 @@ ghost use lib.ListN.{length};
 ghost use Rattle.append.specs.Flush.{standing, movedTo, filed, closedOf, withRun};
 
 impl Appender {
-    // The bytes of its buffer stay.
+    // In a chunk at a position, its next record by the tail, with so many bytes unwritten; the buffer's bytes stay.
     fn standing(self, chunk: u32, position: u32, tail: Tail, fill: usize) -> Appender
         ensures { λ r. ⌜ r ≡ standing self chunk position tail fill (self .buffer) ⌝ }
     {

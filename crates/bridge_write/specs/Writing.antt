@@ -1,4 +1,4 @@
--- The calls that write, in numbers: the volume, then as in Calls.antt. Assumes nothing.
+-- The calls that write, in numbers: the volume, then as in bridge/Calls. Assumes nothing.
 use Prim.Native.Nat.{ℕ}
 use mathlib.Core.Bool.{Bool, true, false, not}
 use mathlib.Core.List.{List, [], _∷_}

@@ -9,7 +9,7 @@ use Rattle.medium.specs.declared.Medium.{Medium}
 use Rattle.medium.specs.Sector.{sectorAt, readOf}
 use Rattle.handles.specs.declared.Store.{Store}
 use Rattle.handles.specs.Body.{bodyAt, checkOf, dueOf}
-use Rattle.walk.specs.Walk.{Step, next, stop, visits}
+use Rattle.walk.specs.Walk.{Visit, next, stop, visits}
 use Rattle.walk.proofs.Laws.{At, walk-keeps, walk-alike}
 use Rattle.directory.specs.declared.Slot.{Slot}
 use Rattle.directory.specs.declared.Slot.the-variants as slot
@@ -21,7 +21,7 @@ abbrev pub ScanAt : {S R : Type 0} → Visitor S R → List ℕ → Medium → S
 ScanAt v vol m st whole i s = At (onSlot v (entryAt vol st)) (slotAt vol m st) (v .done) 64 whole i s
 
 -- what a visit leaves: P where it goes on, Q where it stops
-abbrev pub Left : {S R : Type 0} → (S → Type 0) → (R → Type 0) → Step S R → Type 0
+abbrev pub Left : {S R : Type 0} → (S → Type 0) → (R → Type 0) → Visit S R → Type 0
 Left P Q (next t) = P t
 Left P Q (stop r) = Q r
 

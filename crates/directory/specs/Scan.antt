@@ -13,7 +13,7 @@ use Rattle.medium.specs.declared.Error.{Error}
 use Rattle.medium.specs.declared.Error.the-variants.{NotFound}
 use Rattle.medium.specs.declared.Medium.{Medium}
 use Rattle.handles.specs.declared.Store.{Store}
-use Rattle.walk.specs.Walk.{Step, next, stop, visits}
+use Rattle.walk.specs.Walk.{Visit, next, stop, visits}
 use Rattle.directory.specs.declared.Slot.{Slot}
 use Rattle.directory.specs.declared.Slot.the-variants as slot
 use Rattle.directory.specs.declared.Found.{Found}
@@ -29,12 +29,12 @@ use Rattle.directory.specs.Entry.{entryAt, slotAt}
 -- what a walk does: at a refusal, at a free slot, at a file (slot, id, name), at the end
 pub record Visitor (S R : Type 0) : Type 0 where
   pub refuse : Error → S → R
-  pub free : ℕ → S → Step S R
-  pub file : ℕ → ℕ → List ℕ → S → Step S R
+  pub free : ℕ → S → Visit S R
+  pub file : ℕ → ℕ → List ℕ → S → Visit S R
   pub done : S → R
 
 -- e: the entry's bytes
-abbrev pub onSlot : {S R : Type 0} → Visitor S R → (ℕ → List ℕ) → ℕ → S → Slot → Step S R
+abbrev pub onSlot : {S R : Type 0} → Visitor S R → (ℕ → List ℕ) → ℕ → S → Slot → Visit S R
 onSlot v e i s (slot.Refused c) = stop (v .refuse c s)
 onSlot v e i s slot.Free = v .free i s
 onSlot v e i s (slot.File id len) = v .file i id (part 0 len (e i)) s

@@ -13,7 +13,7 @@ use Rattle.medium.specs.declared.Medium.{Medium}
 use Rattle.medium.proofs.Laws.{onDone-done}
 use Rattle.handles.specs.declared.Store.{Store}
 use Rattle.handles.proofs.Laws.{due-done}
-use Rattle.walk.specs.Walk.{Step, visits}
+use Rattle.walk.specs.Walk.{Visit, visits}
 use Rattle.walk.proofs.Laws.{walk-keeps}
 use Rattle.directory.specs.declared.Slot.{Slot}
 use Rattle.directory.specs.declared.Slot.the-variants as slot
@@ -31,7 +31,7 @@ use Rattle.folds.specs.Checked.{Checked}
 
 -- ---- what each visit keeps, P before it and after it, or Q where it stops, holds of the answer
 
-pub visits-keep : {X S R : Type 0} (on : ℕ → S → X → Step S R) (item : ℕ → X) (done : S → R) (n : ℕ) (P : ℕ → S → Type 0) (Q : R → Type 0)
+pub visits-keep : {X S R : Type 0} (on : ℕ → S → X → Visit S R) (item : ℕ → X) (done : S → R) (n : ℕ) (P : ℕ → S → Type 0) (Q : R → Type 0)
     → ((k : ℕ) (t : S) → k < n → P k t → Left (P (k + 1)) Q (on k t (item k))) → ((t : S) → P n t → Q (done t)) → (s : S) → P 0 s → Q (visits on item done n 0 s)
 unfolding visits
 visits-keep on item done n P Q each ends s p =

@@ -1,4 +1,4 @@
--- 01, "Header" and refusal 3: the numbers of a header, and which store values no call accepts. Assumes nothing.
+-- 01, "Header" and refusals 3 and 10: the numbers of a header, which store values no call accepts, and the open file. Assumes nothing.
 use Prim.Native.Nat.{ℕ, _+_, _*_, _/_}
 use mathlib.Core.Bool.{Bool, true, false, not, _&&_}
 use lib.Dec.{ltb, leb, eqb}

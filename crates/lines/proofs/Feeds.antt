@@ -18,7 +18,7 @@ use Rattle.lines.specs.declared.input.Gathered.{Gathered}
 use Rattle.lines.specs.declared.Passed.{Passed}
 use Rattle.lines.specs.Text.{saidText, Put, Few}
 use Rattle.lines.specs.Input.{keptOf, Gathering, gatherOf, GatheredAt}
-use Rattle.lines.specs.Program.{lineTurn, lineText, Held, held, afterLine, Piece, pieceOf, PassedAt, Fed, saying, feedOf, lastText}
+use Rattle.lines.specs.Program.{lineTurn, lineText, Held, held, afterLine, Piece, pieceOf, PassedAt, FedPart, saying, feedOf, lastText}
 use Rattle.lines.proofs.Pens.{put-none}
 use Rattle.lines.proofs.Counts.{step-few}
 
@@ -80,7 +80,7 @@ feed-piece h (b ∷ bs) = go (eqb b 10) refl (feed-piece (held (h .vol) (h .sess
 -- one turn of the loop
 pub feed-turn : (h : Held) (bytes : List ℕ) (at : ℕ) (r : Passed) (vol line before : List ℕ) {after : List ℕ} → PassedAt r vol bytes line before after (pieceOf h (drop at bytes))
     → feedOf (held vol (r .session) (take (r .fill) line)) (drop (r .at) bytes) .held ≡ feedOf h (drop at bytes) .held
-feed-turn h bytes at r vol line before p = rw (p .0, p .2) (sym (ap (λ (f : Fed). f .held) (feed-piece h (drop at bytes))))
+feed-turn h bytes at r vol line before p = rw (p .0, p .2) (sym (ap (λ (f : FedPart). f .held) (feed-piece h (drop at bytes))))
 
 pub feed-none : (h : Held) (bytes : List ℕ) (at : ℕ) → length bytes ≤ at → feedOf h (drop at bytes) .held ≡ h
 unfolding feedOf

@@ -59,14 +59,14 @@ pieceOf h bytes =
     (record { held = held (h .vol) (h .session) (g .line); text = []; rest = g .rest })
 
 -- what is held after a part of the input, and what is printed
-pub record Fed : Type 0 where
+pub record FedPart : Type 0 where
   pub held : Held
   pub text : List ℕ
 
-abbrev pub saying : List ℕ → Fed → Fed
+abbrev pub saying : List ℕ → FedPart → FedPart
 saying text f = record { held = f .held; text = text ++ f .text }
 
-unfoldable pub feedOf : Held → List ℕ → Fed
+unfoldable pub feedOf : Held → List ℕ → FedPart
 feedOf h [] = record { held = h; text = [] }
 feedOf h (b ∷ bs) =
     pick (eqb b 10)

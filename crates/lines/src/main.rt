@@ -75,7 +75,7 @@ fn piece(
 }
 
 // What is held after a part of the input.
-struct Fed {
+struct FedPart {
     session: Session,
     fill: usize,
 }
@@ -88,7 +88,7 @@ fn feed(
     line: &mut [u8],
     fill: usize,
     out: &mut [u8],
-) -> Fed
+) -> FedPart
     requires { ⌜ (fill ≤ 601) × (601 ≤ length (now line)) × (8192 ≤ length (now out)) ⌝ }
     ensures { λ r. ⌜ (held (now (volume .exit)) (r .session) (take (r .fill) (now (line .exit))) ≡ feedOf (held (now (volume .entry)) session (take fill (now (line .entry)))) (now (bytes .entry)) .held) × (r .fill ≤ 601) ⌝ }
 {
@@ -103,7 +103,7 @@ fn feed(
         kept = p.fill;
         at = p.at;
     }
-    Fed {
+    FedPart {
         session: s,
         fill: kept,
     }

@@ -1,4 +1,5 @@
--- 01: "A refusal keeps the writes made so far, and no others". What a run of writes leaves alone. Assumes nothing.
+-- 01, "Commit": "A refusal keeps the writes made so far, and no others", and "Volume and medium record": "Only writes left and the token ever
+-- change". What a run of writes leaves alone. Assumes nothing.
 use Prim.Native.Nat.{ℕ, _+_, _<_, _≤_}
 use mathlib.Core.Path.{_≡_}
 use mathlib.Core.List.{List}

@@ -14,7 +14,7 @@ use Rattle.directory.proofs.Decides.{onFound-keeps}
 use Rattle.reader.specs.declared.Reader.{Reader}
 use Rattle.reader.specs.Calls.{NextCall, nextCall, SeekCall, seekCall}
 use Rattle.store.specs.declared.ReaderAnswer.{ReaderAnswer}
-use Rattle.store.specs.Reading.{findCall, ListCall, listed, listCall, readerCall}
+use Rattle.store.specs.Reading.{findCall, ListCall, listFrom, listCall, readerCall}
 use Rattle.power.specs.Calls.{Query, list, find, reader, next, seek, query}
 use Rattle.power.specs.Book.{Book, enteredAll, beforeSteps, afterSteps, written}
 use Rattle.power.specs.History.{World, answered, ran, fedBy}
@@ -31,7 +31,7 @@ pick-same false x = refl
 
 module _ (vol : List ℕ) (m : Medium) (st : Store) where
   list-medium : (dir counts rows : List ℕ) → listCall vol m st dir counts rows .medium ≡ m
-  unfolding listCall listed
+  unfolding listCall listFrom
   list-medium dir counts rows =
       pick-keeps (λ (c : ListCall). c .medium ≡ m) _ _ _ refl
       (onDone-keeps (λ (c : ListCall). c .medium ≡ m) _ _ _ (λ _. onDone-keeps (λ (c : ListCall). c .medium ≡ m) _ _ _ (λ _. refl) (λ _ _. refl)) (λ _ _. refl))

@@ -27,8 +27,7 @@ use Rattle.directory.specs.declared.Found.the-variants as found
 use Rattle.directory.specs.Scan.{findOf, onFound}
 use Rattle.table.specs.Table.{onChain}
 use Rattle.record.specs.declared.Judged.the-variants.{Valid, Other}
-use Rattle.record.specs.Record.{judgeOf, dataAt, numberAt, readRecordOf, recordAt}
-use Rattle.reader.specs.Next.{onJudged}
+use Rattle.record.specs.Record.{judgeOf, onJudged, dataAt, numberAt, readRecordOf, recordAt}
 use Rattle.append.specs.declared.Appender.{Appender}
 use Rattle.append.specs.declared.Tail.{Tail}
 use Rattle.append.specs.declared.Tail.the-variants.{At}

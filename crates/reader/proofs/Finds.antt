@@ -27,8 +27,8 @@ use Rattle.handles.specs.Handles.{storeOk}
 use Rattle.handles.proofs.Laws.{store-facts}
 use Rattle.record.specs.declared.Judged.{Judged}
 use Rattle.record.specs.declared.Judged.the-variants as judged
-use Rattle.record.specs.Record.{payloadOf, dataAt, numberAt, readRecordOf, recordAt}
-use Rattle.record.proofs.Laws.{data-inside}
+use Rattle.record.specs.Record.{onJudged, payloadOf, dataAt, numberAt, readRecordOf, recordAt}
+use Rattle.record.proofs.Laws.{onJudged-keeps, data-inside}
 use Rattle.record.proofs.RoundTrip.{judge-length, read-judged, payload-place}
 use Rattle.reader.specs.declared.End.the-variants.{Last}
 use Rattle.reader.specs.declared.Reader.{Reader}
@@ -39,16 +39,9 @@ use Rattle.reader.specs.declared.Next.{Next}
 use Rattle.reader.specs.declared.Next.the-variants as found
 use Rattle.reader.specs.declared.Taken.{Taken}
 use Rattle.reader.specs.Reader.{movedTo}
-use Rattle.reader.specs.Next.{passedEnd, isLast, limitOf, arriveOf, recordHere, onJudged, onSearched, searchStep, searchOf, tells, holeOf, NextOut, takeOf, nextOf}
+use Rattle.reader.specs.Next.{passedEnd, isLast, limitOf, arriveOf, recordHere, onSearched, searchStep, searchOf, tells, holeOf, NextOut, takeOf, nextOf}
 use Rattle.reader.proofs.Facts.{Reads, limit-most, moved-reads}
 use Rattle.reader.proofs.Moves.{arrive-here, arrive-end, Arrives, arrive-reads}
-
-pub onJudged-keeps : {A : Type 0} (P : A → Type 0) (j : Judged) (f : Error → A) (g : ℕ → A) (a : A) → ((e : Error) → P (f e)) → ((n : ℕ) → j ≡ judged.Valid n → P (g n))
-    → P a → P (onJudged j f g a)
-unfolding onJudged
-onJudged-keeps P (judged.Refused e) f g a p q r = p e
-onJudged-keeps P (judged.Valid n) f g a p q r = q n refl
-onJudged-keeps P judged.Other f g a p q r = r
 
 pub onSearched-keeps : {A : Type 0} (P : A → Type 0) (s : Searched) (f : Error → A) (g : ℕ → A) → ((e : Error) → P (f e)) → ((i : ℕ) → s ≡ searched.At i → P (g i))
     → P (onSearched s f g)

@@ -9,7 +9,7 @@ use borrow.Author.Tests.{leb-false, eqb-false, not-true, le-leb}
 use lib.Dec.{leb, eqb}
 use Rattle.le.specs.Choice.{pick}
 use Rattle.le.proofs.Choices.{pick-keeps-by, pick-true, pick-false}
-use Rattle.walk.specs.Walk.{Step, next, stop, rest}
+use Rattle.walk.specs.Walk.{Visit, next, stop, rest}
 use Rattle.walk.proofs.Laws.{rest-next, rest-stop, rest-end, walk-keeps}
 use Rattle.medium.specs.declared.Error.{Error}
 use Rattle.medium.specs.declared.Medium.{Medium}
@@ -112,8 +112,8 @@ module _ (vol : List ℕ) (m : Medium) (st : Store) where
     goes : (u : Reader) → arriveStep vol m st k rd ≡ next u → On (k + 1) u chunks
     unfolding arriveStep
     goes u =
-        pick-keeps-by (λ (s : Step Reader Arrived). s ≡ next u → On (k + 1) u chunks) (passedEnd (rd .end) (rd .index)) _ _
-        (λ t. onDone-keeps (λ (s : Step Reader Arrived). s ≡ next u → On (k + 1) u chunks) (enterOf vol m st rd (k + 1) 0 .outcome) _ _
+        pick-keeps-by (λ (s : Visit Reader Arrived). s ≡ next u → On (k + 1) u chunks) (passedEnd (rd .end) (rd .index)) _ _
+        (λ t. onDone-keeps (λ (s : Visit Reader Arrived). s ≡ next u → On (k + 1) u chunks) (enterOf vol m st rd (k + 1) 0 .outcome) _ _
         (λ o q. let i = enter-inside vol m st rd (k + 1) 0 o in
         let z : enterOf vol m st rd (k + 1) 0 .reader ≡ u = cc in
         subst (λ (v : Reader). On (k + 1) v chunks) z record { reads = entered; at = i .0; all = i .1 ∙ p .all })
@@ -123,8 +123,8 @@ module _ (vol : List ℕ) (m : Medium) (st : Store) where
     stops : (a : Arrived) → arriveStep vol m st k rd ≡ stop a → Arrives st a
     unfolding arriveStep
     stops a =
-        pick-keeps-by (λ (s : Step Reader Arrived). s ≡ stop a → Arrives st a) (passedEnd (rd .end) (rd .index)) _ _
-        (λ t. onDone-keeps (λ (s : Step Reader Arrived). s ≡ stop a → Arrives st a) (enterOf vol m st rd (k + 1) 0 .outcome) _ _
+        pick-keeps-by (λ (s : Visit Reader Arrived). s ≡ stop a → Arrives st a) (passedEnd (rd .end) (rd .index)) _ _
+        (λ t. onDone-keeps (λ (s : Visit Reader Arrived). s ≡ stop a → Arrives st a) (enterOf vol m st rd (k + 1) 0 .outcome) _ _
         (λ o q. absurd (let z : _≡_ {A = ℕ} 0 1 = cc in omega arith))
         (λ x o q.
         let z : _≡_ {A = Arrived} (record { outcome = No x; reader = enterOf vol m st rd (k + 1) 0 .reader; more = false }) a = cc in

@@ -7,7 +7,7 @@ use mathlib.Core.List.{List}
 use lib.Dec.{leb, eqb}
 use Rattle.le.specs.Choice.{pick}
 use Rattle.le.specs.Part.{over}
-use Rattle.walk.specs.Walk.{Step, next, stop, rest, visits}
+use Rattle.walk.specs.Walk.{Visit, next, stop, rest, visits}
 use Rattle.medium.specs.declared.Error.{Error}
 use Rattle.medium.specs.declared.Medium.{Medium}
 use Rattle.medium.specs.declared.Outcome.the-variants.{Done, No}
@@ -15,8 +15,7 @@ use Rattle.medium.specs.Refusal.{onDone}
 use Rattle.medium.specs.Sector.{sectorAt}
 use Rattle.handles.specs.declared.Store.{Store}
 use Rattle.record.specs.declared.Judged.{Judged}
-use Rattle.record.specs.declared.Judged.the-variants as judged
-use Rattle.record.specs.Record.{payloadOf, dataAt, numberAt, recordAt}
+use Rattle.record.specs.Record.{onJudged, payloadOf, dataAt, numberAt, recordAt}
 use Rattle.reader.specs.declared.End.{End}
 use Rattle.reader.specs.declared.End.the-variants.{Last, Records}
 use Rattle.reader.specs.declared.Reader.{Reader}
@@ -45,7 +44,7 @@ limitOf (Records n) size = n
 
 -- at position k of its file: in a chunk that is passed the reader enters the next one at index 0. In another it has arrived, and there is more
 -- unless it stands at the size
-unfoldable pub arriveStep : List ℕ → Medium → Store → ℕ → Reader → Step Reader Arrived
+unfoldable pub arriveStep : List ℕ → Medium → Store → ℕ → Reader → Visit Reader Arrived
 arriveStep vol m st k rd =
     let e : Entered = enterOf vol m st rd (k + 1) 0 in
     pick (passedEnd (rd .end) (rd .index))
@@ -60,18 +59,13 @@ arriveOf vol m st rd = rest (arriveStep vol m st) (λ r. record { outcome = Done
 unfoldable pub recordHere : List ℕ → Medium → Store → Reader → ℕ → Judged
 recordHere vol m st rd i = recordAt vol m st (rd .id) (rd .chunk) (rd .position) i
 
--- decisions by a judged record and by a search. They stay shut in proofs
-unfoldable pub onJudged : {A : Type 0} → Judged → (Error → A) → (ℕ → A) → A → A
-onJudged (judged.Refused e) f g a = f e
-onJudged (judged.Valid n) f g a = g n
-onJudged judged.Other f g a = a
-
+-- a decision by a search. It stays shut in proofs
 unfoldable pub onSearched : {A : Type 0} → Searched → (Error → A) → (ℕ → A) → A
 onSearched (searched.Refused e) f g = f e
 onSearched (searched.At i) f g = g i
 
 -- the first valid record of the chunk from `after` on, or the limit
-abbrev pub searchStep : ℕ → Unit {0} → Judged → Step (Unit {0}) Searched
+abbrev pub searchStep : ℕ → Unit {0} → Judged → Visit (Unit {0}) Searched
 searchStep i s j = onJudged j (λ e. stop (searched.Refused e)) (λ n. stop (searched.At i)) (next s)
 
 unfoldable pub searchOf : List ℕ → Medium → Store → Reader → ℕ → ℕ → Searched

@@ -17,7 +17,7 @@ use Rattle.medium.specs.Sector.{sectorsOf, sectorAt}
 use Rattle.handles.specs.declared.Store.{Store}
 use Rattle.handles.specs.Handles.{storeOk}
 use Rattle.record.specs.declared.Judged.the-variants as judged
-use Rattle.record.specs.Record.{payloadOf, dataAt}
+use Rattle.record.specs.Record.{onJudged, payloadOf, dataAt}
 use Rattle.reader.specs.declared.End.{End}
 use Rattle.reader.specs.declared.End.the-variants.{Last}
 use Rattle.reader.specs.declared.Reader.{Reader}
@@ -25,7 +25,7 @@ use Rattle.reader.specs.declared.Searched.{Searched}
 use Rattle.reader.specs.declared.Searched.the-variants as searched
 use Rattle.reader.specs.declared.Next.the-variants as found
 use Rattle.reader.specs.Reader.{movedTo}
-use Rattle.reader.specs.Next.{isLast, limitOf, arriveOf, recordHere, onJudged, searchStep, searchOf, tells, holeOf, takeOf, nextOf}
+use Rattle.reader.specs.Next.{isLast, limitOf, arriveOf, recordHere, searchStep, searchOf, tells, holeOf, takeOf, nextOf}
 use Rattle.reader.specs.Calls.{usableOf}
 use Rattle.reader.proofs.Facts.{Reads, reader-ok}
 use Rattle.reader.proofs.Finds.{hole-end}

@@ -1,5 +1,5 @@
 -- The sector of a record, and what the functions' answers are, over plain values. Assumes nothing.
-use mathlib.Core.Path.{_≡_, sym, ap, _∙_}
+use mathlib.Core.Path.{_≡_, refl, sym, ap, _∙_}
 use mathlib.Core.List.{List, _++_}
 use Prim.Native.Nat.{ℕ, _+_, _-_, _*_, _/_, _%_, _^_, _≤_, _<_}
 use native.Mathlib.Nat.{mul-le-mul}
@@ -10,8 +10,20 @@ use Rattle.le.specs.Part.{over, zeros}
 use Rattle.le.specs.Field.{putLe}
 use Rattle.le.proofs.Parts.{length-zeros, over-over, over-whole}
 use Rattle.seal.specs.Seal.{sealed}
+use Rattle.medium.specs.declared.Error.{Error}
 use Rattle.handles.specs.declared.Store.{Store}
-use Rattle.record.specs.Record.{mark, unsealedOf, recordOf, dataAt, numberAt}
+use Rattle.record.specs.declared.Judged.{Judged}
+use Rattle.record.specs.declared.Judged.the-variants as judged
+use Rattle.record.specs.Record.{mark, unsealedOf, recordOf, onJudged, dataAt, numberAt}
+
+-- ---- a judged record
+
+pub onJudged-keeps : {A : Type 0} (P : A → Type 0) (j : Judged) (f : Error → A) (g : ℕ → A) (a : A) → ((e : Error) → P (f e)) → ((n : ℕ) → j ≡ judged.Valid n → P (g n))
+    → P a → P (onJudged j f g a)
+unfolding onJudged
+onJudged-keeps P (judged.Refused e) f g a p q r = p e
+onJudged-keeps P (judged.Valid n) f g a p q r = q n refl
+onJudged-keeps P judged.Other f g a p q r = r
 
 -- ---- the place of a record: chunk × size + index
 

@@ -11,6 +11,7 @@ use Rattle.le.specs.Field.{getLe}
 use Rattle.le.specs.Layout.{Put, put, putAll}
 use Rattle.runs.specs.Run.{startsWith}
 use Rattle.seal.specs.Seal.{sealed, isSealed}
+use Rattle.medium.specs.declared.Error.{Error}
 use Rattle.medium.specs.declared.Medium.{Medium}
 use Rattle.medium.specs.Refusal.{onDone}
 use Rattle.medium.specs.Sector.{sectorAt, readOf, WriteOut, writeOf}
@@ -44,6 +45,12 @@ matchesOf id file number sector =
 -- a sector judged: a valid record of this store, file and number, with its length, or not
 unfoldable pub judgeOf : ℕ → ℕ → ℕ → List ℕ → Judged
 judgeOf id file number sector = pick (matchesOf id file number sector && isSealed sector) (Valid (getLe 2 20 sector)) Other
+
+-- a decision by a judged record. It stays shut in proofs
+unfoldable pub onJudged : {A : Type 0} → Judged → (Error → A) → (ℕ → A) → A → A
+onJudged (Refused e) f g a = f e
+onJudged (Valid n) f g a = g n
+onJudged Other f g a = a
 
 -- a valid record of this store, whatever file and number it has
 unfoldable pub carriesOf : ℕ → List ℕ → Bool

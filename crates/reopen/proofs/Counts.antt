@@ -17,10 +17,8 @@ use Rattle.handles.specs.Handles.{storeOk}
 use Rattle.handles.proofs.Laws.{Held, store-facts}
 use Rattle.record.specs.declared.Judged.{Judged}
 use Rattle.record.specs.declared.Judged.the-variants as judged
-use Rattle.record.specs.Record.{dataAt, recordAt}
-use Rattle.record.proofs.Laws.{data-inside}
-use Rattle.reader.specs.Next.{onJudged}
-use Rattle.reader.proofs.Finds.{onJudged-keeps}
+use Rattle.record.specs.Record.{onJudged, dataAt, recordAt}
+use Rattle.record.proofs.Laws.{onJudged-keeps, data-inside}
 use Rattle.append.specs.declared.Tail.{Tail}
 use Rattle.append.specs.declared.Tail.the-variants.{At, Reopened}
 use Rattle.append.specs.Appender.{tailOk, isClosed}

@@ -9,8 +9,7 @@ use Rattle.medium.specs.declared.Medium.{Medium}
 use Rattle.handles.specs.declared.Store.{Store}
 use Rattle.directory.specs.Scan.{findOf, onFound}
 use Rattle.table.specs.Table.{chainOf, onChain}
-use Rattle.record.specs.Record.{recordAt}
-use Rattle.reader.specs.Next.{onJudged}
+use Rattle.record.specs.Record.{onJudged, recordAt}
 use Rattle.append.specs.declared.Tail.{Tail}
 use Rattle.append.specs.declared.Tail.the-variants.{At, Reopened}
 use Rattle.append.specs.Flush.{AppOut}

@@ -25,7 +25,7 @@ use Rattle.directory.proofs.Ranges.{rows-made}
 use Rattle.table.specs.Table.{countOf}
 use Rattle.store.specs.Asked.{askedOf}
 use Rattle.store.specs.declared.ListAnswer.{ListAnswer}
-use Rattle.store.specs.Reading.{ListCall, listAt, listAnswer, notListed, listed, listCall}
+use Rattle.store.specs.Reading.{ListCall, listAt, listAnswer, notListed, listFrom, listCall}
 
 abbrev pub short : List ℕ → List ℕ → Bool
 short counts rows = ltb (length rows) 3072 || ltb (length counts) 64
@@ -43,22 +43,22 @@ module _ (vol : List ℕ) (m : Medium) (st : Store) (dir counts rows : List ℕ)
     unfolding listCall pick onDone
     input-refused h k = rw (k, long, ← f, ← q, h)
 
-    going : o ≡ Done → listed vol m st dir counts rows ≡ listCall vol m st dir counts rows
+    going : o ≡ Done → listFrom vol m st dir counts rows ≡ listCall vol m st dir counts rows
     unfolding listCall pick onDone
     going h = rw (long, ← f, ← q, h)
 
     module _ (done : o ≡ Done) {c : Outcome} {zs cs : List ℕ} (z : zs ≡ over 0 (zeros 64) counts) (h : (c ≡ countOf vol m st zs .outcome) × (cs ≡ countOf vol m st zs .counts)) where
       pub count-refused : {e : Error} {r : ListAnswer} → c ≡ No e → r ≡ notListed m e → listAnswer r cs rows ≡ listCall vol m st dir counts rows
-      unfolding listed onDone
+      unfolding listFrom onDone
       count-refused d k = rw (k, ← going done, ← z, ← (h .0), d, h .1)
 
       pub rows-told : c ≡ Done → {r : Rows} {rs : List ℕ} → rowsTold r rs ≡ rowsOf vol m st dir cs rows → listAt m (r .outcome) (r .count) cs rs ≡ listCall vol m st dir counts rows
-      unfolding listed onDone
+      unfolding listFrom onDone
       rows-told d a = rw (← going done, ← z, ← (h .0), d, ← (h .1), ← a)
 
 -- a list makes at most 64 rows, refused or not
 pub list-few : (vol : List ℕ) (m : Medium) (st : Store) (dir counts rows : List ℕ) → 3072 ≤ length rows → listCall vol m st dir counts rows .made ≤ 64
-unfolding listCall listed
+unfolding listCall listFrom
 list-few vol m st dir counts rows room =
     pick-keeps Few _ _ _ (lit≤ tt)
     (onDone-keeps Few _ _ _ (λ _. onDone-keeps Few _ _ _ (λ _. rows-made vol m st rows room dir _ .few) (λ e _. lit≤ tt)) (λ e _. lit≤ tt))

@@ -81,8 +81,8 @@ abbrev pub notListed : Medium → Error → ListAnswer
 notListed m e = record { outcome = No e; count = 0; medium = m }
 
 -- the counts set to 0 first, then the whole table, then the directory: a state refusal keeps the counts and rows made before it
-unfoldable pub listed : List ℕ → Medium → Store → List ℕ → List ℕ → List ℕ → ListCall
-listed vol m st dir counts rows =
+unfoldable pub listFrom : List ℕ → Medium → Store → List ℕ → List ℕ → List ℕ → ListCall
+listFrom vol m st dir counts rows =
     let c : Counted = countOf vol m st (over 0 (zeros 64) counts) in
     let r : RowsOut = rowsOf vol m st dir (c .counts) rows in
     onDone (c .outcome) (listAt m (r .outcome) (r .made .count) (c .counts) (r .made .rows)) (λ e. listAnswer (notListed m e) (c .counts) rows)
@@ -91,7 +91,7 @@ listed vol m st dir counts rows =
 unfoldable pub listCall : List ℕ → Medium → Store → List ℕ → List ℕ → List ℕ → ListCall
 listCall vol m st dir counts rows =
     pick (ltb (length rows) 3072 || ltb (length counts) 64) (listAnswer (notListed m no.Range) counts rows)
-    (onDone (askedDir vol st dir) (listed vol m st dir counts rows) (λ e. listAnswer (notListed m e) counts rows))
+    (onDone (askedDir vol st dir) (listFrom vol m st dir counts rows) (λ e. listAnswer (notListed m e) counts rows))
 
 -- ---- reader: from the file's first record
 

@@ -26,19 +26,19 @@ pub record WriteCall : Type 0 where
 abbrev pub answerOf : Committed → StoreAnswer
 answerOf c = record { outcome = c .outcome; store = c .store; medium = c .medium }
 
-abbrev pub written : Kind → Out → WriteCall
-written kind o = record { vol = o .vol; call = storeAnswer (answerOf (o .ans)); steps = stepsOf kind o }
+abbrev pub writeCallOf : Kind → Out → WriteCall
+writeCallOf kind o = record { vol = o .vol; call = storeAnswer (answerOf (o .ans)); steps = stepsOf kind o }
 
 -- ---- format: the store; refused, one that no call accepts
 
 unfoldable pub formatCall : List ℕ → Medium → ℕ → ℕ → WriteCall
-formatCall vol m size seed = written formatted (formatOf size seed vol m)
+formatCall vol m size seed = writeCallOf formatted (formatOf size seed vol m)
 
 -- ---- delete: the file named; refused by the input, or where no file has the name, all is as given
 
 unfoldable pub deleteCall : List ℕ → Medium → Store → List ℕ → WriteCall
 deleteCall vol m st name =
-    written deleted
+    writeCallOf deleted
     (onDone (askedName vol st name) (onFound (findOf vol m st name) (refusedOut st vol m) (removeOf vol m st)) (refusedOut st vol m))
 
 -- ---- delete_oldest: the name that went, or none

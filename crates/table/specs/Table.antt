@@ -14,7 +14,7 @@ use Rattle.medium.specs.declared.Outcome.{Outcome}
 use Rattle.medium.specs.declared.Outcome.the-variants.{Done, No}
 use Rattle.handles.specs.declared.Store.{Store}
 use Rattle.handles.specs.Handles.{tableOf}
-use Rattle.walk.specs.Walk.{Step, next, stop, visits}
+use Rattle.walk.specs.Walk.{Visit, next, stop, visits}
 use Rattle.table.specs.declared.Link.{Link}
 use Rattle.table.specs.declared.LinkAt.{LinkAt}
 use Rattle.table.specs.declared.LinkAt.the-variants as link
@@ -35,7 +35,7 @@ pub record TableVisit (S R : Type 0) : Type 0 where
   pub linked : ℕ → Link → S → S
   pub done : S → R
 
-abbrev pub onLink : {S R : Type 0} → TableVisit S R → ℕ → S → LinkAt → Step S R
+abbrev pub onLink : {S R : Type 0} → TableVisit S R → ℕ → S → LinkAt → Visit S R
 onLink v i s (link.Refused e) = stop (v .refuse e s)
 onLink v i s link.Past = next s
 onLink v i s link.Free = next (v .free i s)

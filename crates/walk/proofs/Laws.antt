@@ -4,9 +4,9 @@ use Prim.Native.Nat.{ℕ, zero, suc, _+_, _-_, _<_, _≤_, zero-le}
 use mathlib.Core.Path.{_≡_, refl, ap, sym, _∙_, subst}
 use native.Mathlib.Omega.{arith}
 use native.Mathlib.Nat.{sub-eq-zero-of-le}
-use Rattle.walk.specs.Walk.{Step, next, stop, after, walk, rest, visits}
+use Rattle.walk.specs.Walk.{Visit, next, stop, afterVisit, walk, rest, visits}
 
-module _ {S R : Type 0} (f : ℕ → S → Step S R) (done : S → R) (n i : ℕ) (s : S) where
+module _ {S R : Type 0} (f : ℕ → S → Visit S R) (done : S → R) (n i : ℕ) (s : S) where
   turn : i < n → n - i ≡ suc (n - (i + 1))
   turn h = omega arith
 
@@ -22,7 +22,7 @@ module _ {S R : Type 0} (f : ℕ → S → Step S R) (done : S → R) (n i : ℕ
   unfolding walk
   rest-end h = rw (sub-eq-zero-of-le h)
 
-module _ {S R : Type 0} (f : ℕ → S → Step S R) (done : S → R) (n : ℕ) (P : ℕ → S → Type 0) (Q : R → Type 0)
+module _ {S R : Type 0} (f : ℕ → S → Visit S R) (done : S → R) (n : ℕ) (P : ℕ → S → Type 0) (Q : R → Type 0)
     (goes : (k : ℕ) (t u : S) → k < n → P k t → f k t ≡ next u → P (k + 1) u)
     (stops : (k : ℕ) (t : S) (r : R) → k < n → P k t → f k t ≡ stop r → Q r)
     (ends : (t : S) → P n t → Q (done t)) where
@@ -31,20 +31,20 @@ module _ {S R : Type 0} (f : ℕ → S → Step S R) (done : S → R) (n : ℕ) 
   steps zero i s e p = let q : i ≡ n = omega arith in ends s (subst (λ (k : ℕ). P k s) q p)
   steps (suc count) i s e p = go (λ t h. steps count (i + 1) t (omega arith) h) (f i s) refl
     where
-      go : ((t : S) → P (i + 1) t → Q (walk f done count (i + 1) t)) → (x : Step S R) → f i s ≡ x → Q (after x (λ t. walk f done count (i + 1) t))
+      go : ((t : S) → P (i + 1) t → Q (walk f done count (i + 1) t)) → (x : Visit S R) → f i s ≡ x → Q (afterVisit x (λ t. walk f done count (i + 1) t))
       go more (next t) q = more t (goes i s t (omega arith) p q)
       go more (stop r) q = stops i s r (omega arith) p q
 
   pub walk-keeps : (i : ℕ) (s : S) → i ≤ n → P i s → Q (rest f done n i s)
   walk-keeps i s h p = steps (n - i) i s (omega arith) p
 
-module _ {S R : Type 0} (f g : ℕ → S → Step S R) (done : S → R) (n : ℕ) (agree : (k : ℕ) (t : S) → k < n → f k t ≡ g k t) where
+module _ {S R : Type 0} (f g : ℕ → S → Visit S R) (done : S → R) (n : ℕ) (agree : (k : ℕ) (t : S) → k < n → f k t ≡ g k t) where
   alike : (count i : ℕ) (s : S) → i + count ≡ n → walk f done count i s ≡ walk g done count i s
   unfolding walk
   alike zero i s e = refl
-  alike (suc count) i s e = ap (λ (x : Step S R). after x (λ t. walk f done count (i + 1) t)) (agree i s (omega arith)) ∙ go (λ t. alike count (i + 1) t (omega arith)) (g i s)
+  alike (suc count) i s e = ap (λ (x : Visit S R). afterVisit x (λ t. walk f done count (i + 1) t)) (agree i s (omega arith)) ∙ go (λ t. alike count (i + 1) t (omega arith)) (g i s)
     where
-      go : ((t : S) → walk f done count (i + 1) t ≡ walk g done count (i + 1) t) → (x : Step S R) → after x (λ t. walk f done count (i + 1) t) ≡ after x (λ t. walk g done count (i + 1) t)
+      go : ((t : S) → walk f done count (i + 1) t ≡ walk g done count (i + 1) t) → (x : Visit S R) → afterVisit x (λ t. walk f done count (i + 1) t) ≡ afterVisit x (λ t. walk g done count (i + 1) t)
       go more (next t) = more t
       go more (stop r) = refl
 
@@ -52,15 +52,15 @@ module _ {S R : Type 0} (f g : ℕ → S → Step S R) (done : S → R) (n : ℕ
   walk-alike i s h = alike (n - i) i s (omega arith)
 
 -- A loop over the items has come to number i with the state s: what is left gives what the whole walk gives. This is the loop's invariant.
-pub record At {X S R : Type 0} (on : ℕ → S → X → Step S R) (item : ℕ → X) (done : S → R) (n : ℕ) (whole : R) (i : ℕ) (s : S) : Type 0 where
+pub record At {X S R : Type 0} (on : ℕ → S → X → Visit S R) (item : ℕ → X) (done : S → R) (n : ℕ) (whole : R) (i : ℕ) (s : S) : Type 0 where
   pub most : i ≤ n
   pub same : whole ≡ visits on item done n i s
 
-pub at-start : {X S R : Type 0} (on : ℕ → S → X → Step S R) (item : ℕ → X) (done : S → R) (n : ℕ) (s : S) → At on item done n (visits on item done n 0 s) 0 s
+pub at-start : {X S R : Type 0} (on : ℕ → S → X → Visit S R) (item : ℕ → X) (done : S → R) (n : ℕ) (s : S) → At on item done n (visits on item done n 0 s) 0 s
 at-start on item done n s = record { most = zero-le; same = refl }
 
 -- x is what the call at i answered, and y the case that it is
-module _ {X S R : Type 0} {on : ℕ → S → X → Step S R} {item : ℕ → X} {done : S → R} {n : ℕ} {whole : R} {i : ℕ} {s : S} where
+module _ {X S R : Type 0} {on : ℕ → S → X → Visit S R} {item : ℕ → X} {done : S → R} {n : ℕ} {whole : R} {i : ℕ} {s : S} where
   pub at-next : {x y : X} {t : S} → At on item done n whole i s → i < n → x ≡ item i → x ≡ y → on i s y ≡ next t → At on item done n whole (i + 1) t
   unfolding visits
   at-next {t = t} a h e q g = record { most = omega arith; same = a .same ∙ rest-next _ _ n i s t h (ap (on i s) (sym e ∙ q) ∙ g) }
@@ -74,7 +74,7 @@ module _ {X S R : Type 0} {on : ℕ → S → X → Step S R} {item : ℕ → X}
   at-end a h = sym (a .same ∙ rest-end _ _ n i s h)
 
 -- items that agree give the same walk, at every visitor
-pub visits-alike : {X S R : Type 0} (on : ℕ → S → X → Step S R) (item item′ : ℕ → X) (done : S → R) (n : ℕ) → ((k : ℕ) → k < n → item k ≡ item′ k) → (i : ℕ) (s : S) → i ≤ n
+pub visits-alike : {X S R : Type 0} (on : ℕ → S → X → Visit S R) (item item′ : ℕ → X) (done : S → R) (n : ℕ) → ((k : ℕ) → k < n → item k ≡ item′ k) → (i : ℕ) (s : S) → i ≤ n
     → visits on item done n i s ≡ visits on item′ done n i s
 unfolding visits
 visits-alike on item item′ done n h i s b = walk-alike _ _ done n (λ k t l. ap (on k t) (h k l)) i s b

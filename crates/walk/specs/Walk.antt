@@ -3,24 +3,24 @@
 use Prim.Native.Nat.{ℕ, zero, suc, _+_, _-_}
 
 -- what a visit says: go on with this state, or stop with this answer
-pub data Step (S R : Type 0) : Type 0 where
-  next : S → Step S R
-  stop : R → Step S R
+pub data Visit (S R : Type 0) : Type 0 where
+  next : S → Visit S R
+  stop : R → Visit S R
 
 -- what follows a visit
-abbrev pub after : {S R : Type 0} → Step S R → (S → R) → R
-after (next t) k = k t
-after (stop r) k = r
+abbrev pub afterVisit : {S R : Type 0} → Visit S R → (S → R) → R
+afterVisit (next t) k = k t
+afterVisit (stop r) k = r
 
 -- `count` visits from number i on
-unfoldable pub walk : {S R : Type 0} → (ℕ → S → Step S R) → (S → R) → ℕ → ℕ → S → R
+unfoldable pub walk : {S R : Type 0} → (ℕ → S → Visit S R) → (S → R) → ℕ → ℕ → S → R
 walk f done zero i s = done s
-walk f done (suc count) i s = after (f i s) (λ t. walk f done count (i + 1) t)
+walk f done (suc count) i s = afterVisit (f i s) (λ t. walk f done count (i + 1) t)
 
 -- the visits of i to n - 1
-abbrev pub rest : {S R : Type 0} → (ℕ → S → Step S R) → (S → R) → ℕ → ℕ → S → R
+abbrev pub rest : {S R : Type 0} → (ℕ → S → Visit S R) → (S → R) → ℕ → ℕ → S → R
 rest f done n i s = walk f done (n - i) i s
 
 -- a walk over items: item i is handed to the visitor together with i and the state
-unfoldable pub visits : {X S R : Type 0} → (ℕ → S → X → Step S R) → (ℕ → X) → (S → R) → ℕ → ℕ → S → R
+unfoldable pub visits : {X S R : Type 0} → (ℕ → S → X → Visit S R) → (ℕ → X) → (S → R) → ℕ → ℕ → S → R
 visits on item done n i s = rest (λ k t. on k t (item k)) done n i s

@@ -3,8 +3,9 @@ use mathlib.Core.Path.{refl}
 use Prim.Native.Nat.{_-_}
 use native.Mathlib.Omega.{arith}
 use Rattle.walk.proofs.Laws.{At, at-next, at-stop, at-end}
+use Rattle.record.specs.Record.{onJudged}
 use Rattle.reader.specs.declared.Searched.the-variants as searched
-use Rattle.reader.specs.Next.{recordHere, onJudged, searchStep, searchOf}
+use Rattle.reader.specs.Next.{recordHere, searchStep, searchOf}
 use Rattle.reader.proofs.Facts.{reader-facts, number-needs}
 use Rattle.reader.proofs.Finds.{record-inside, record-read}
 use Rattle.reader.proofs.Reader.search.Statement.{statement}

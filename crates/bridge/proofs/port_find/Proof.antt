@@ -23,7 +23,16 @@ found-code-requires c κs = search needs
 
 returns : tie.Need-returns
 unfolding findAt
-returns c = rw (← c .before .before .before .before .before .medium-in .ensures, ← c .before .before .before .before .store-in .ensures, ← c .before .before .before .find .ensures, c .found-code .ensures, c .before .found-words .ensures, c .before .before .medium-words .ensures)
+returns c =
+    let at-find = c .before .before .before in
+    rw (
+      ← at-find .before .before .medium-in .ensures,
+      ← at-find .before .store-in .ensures,
+      ← at-find .find .ensures,
+      c .found-code .ensures,
+      c .before .found-words .ensures,
+      c .before .before .medium-words .ensures,
+    )
 
 pub port-find-spec : {M : Type 1} → statement M
 port-find-spec =

@@ -26,7 +26,16 @@ same-length-2 c = search needs
 
 returns : tie.Need-returns
 unfolding listAt
-returns c = rw (← c .before .before .before .before .before .before .before .before .before .before .before .medium-in .ensures, ← c .before .before .before .before .before .before .before .before .before .before .store-in .ensures, ← c .before .before .before .before .before .before .before .list .ensures, c .code .ensures, c .before .before .medium-words .ensures)
+returns c =
+    let at-list = c .before .before .before .before .before .before .before in
+    let at-store-in = at-list .before .before .before in
+    rw (
+      ← at-store-in .before .medium-in .ensures,
+      ← at-store-in .store-in .ensures,
+      ← at-list .list .ensures,
+      c .code .ensures,
+      c .before .before .medium-words .ensures,
+    )
 
 pub port-list-spec : {M : Type 1} → statement M
 port-list-spec =

@@ -21,8 +21,9 @@ code-requires c κs = search needs
 returns : tie.Need-returns
 unfolding mountAt
 returns c =
+    let at-mount = c .before .before .before .before .before in
     let p = c .before .before .put-store .ensures in
-    rw (← c .before .before .before .before .before .before .medium-in .ensures, ← c .before .before .before .before .before .mount .ensures, c .code .ensures, p .0, p .1, c .before .medium-words .ensures)
+    rw (← at-mount .before .medium-in .ensures, ← at-mount .mount .ensures, c .code .ensures, p .0, p .1, c .before .medium-words .ensures)
 
 pub port-mount-spec : {M : Type 1} → statement M
 port-mount-spec =

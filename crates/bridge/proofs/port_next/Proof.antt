@@ -32,7 +32,20 @@ same-length c = search needs
 
 returns : tie.Need-returns
 unfolding nextAt
-returns c = rw (← c .before .before .before .before .before .before .before .before .before .before .reader-in .ensures, ← c .before .before .before .before .before .before .before .before .before .medium-in .ensures, ← c .before .before .before .before .before .before .before .before .store-in .ensures, ← c .before .before .before .before .before .before .next .ensures, c .next-code .ensures, c .before .next-words .ensures, c .before .before .reader-words .ensures, c .before .before .before .medium-words .ensures)
+returns c =
+    let at-medium-words = c .before .before .before in
+    let at-next = at-medium-words .before .before .before in
+    let at-medium-in = at-next .before .before .before in
+    rw (
+      ← at-medium-in .before .reader-in .ensures,
+      ← at-medium-in .medium-in .ensures,
+      ← at-next .before .before .store-in .ensures,
+      ← at-next .next .ensures,
+      c .next-code .ensures,
+      c .before .next-words .ensures,
+      c .before .before .reader-words .ensures,
+      at-medium-words .medium-words .ensures,
+    )
 
 pub port-next-spec : {M : Type 1} → statement M
 port-next-spec =

@@ -23,7 +23,16 @@ code-requires c κs = search needs
 
 returns : tie.Need-returns
 unfolding readerAt
-returns c = rw (← c .before .before .before .before .before .medium-in .ensures, ← c .before .before .before .before .store-in .ensures, ← c .before .before .before .reader .ensures, c .code .ensures, c .before .reader-words .ensures, c .before .before .medium-words .ensures)
+returns c =
+    let at-reader = c .before .before .before in
+    rw (
+      ← at-reader .before .before .medium-in .ensures,
+      ← at-reader .before .store-in .ensures,
+      ← at-reader .reader .ensures,
+      c .code .ensures,
+      c .before .reader-words .ensures,
+      c .before .before .medium-words .ensures,
+    )
 
 pub port-reader-spec : {M : Type 1} → statement M
 port-reader-spec =

@@ -20,7 +20,15 @@ numbered-code-requires c κs = search needs
 
 returns : tie.Need-returns
 unfolding recordAt
-returns c = rw (← c .before .before .before .before .reader-in .ensures, ← c .before .before .before .store-in .ensures, ← c .before .before .«record» .ensures, c .numbered-code .ensures, c .before .numbered-words .ensures)
+returns c =
+    let at-store-in = c .before .before .before in
+    rw (
+      ← at-store-in .before .reader-in .ensures,
+      ← at-store-in .store-in .ensures,
+      ← c .before .before .«record» .ensures,
+      c .numbered-code .ensures,
+      c .before .numbered-words .ensures,
+    )
 
 pub port-record-spec : {M : Type 1} → statement M
 port-record-spec =

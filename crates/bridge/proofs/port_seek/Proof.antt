@@ -26,7 +26,17 @@ code-requires c κs = search needs
 
 returns : tie.Need-returns
 unfolding seekAt
-returns c = rw (← c .before .before .before .before .before .before .reader-in .ensures, ← c .before .before .before .before .before .medium-in .ensures, ← c .before .before .before .before .store-in .ensures, ← c .before .before .before .seek .ensures, c .code .ensures, c .before .reader-words .ensures, c .before .before .medium-words .ensures)
+returns c =
+    let at-seek = c .before .before .before in
+    rw (
+      ← at-seek .before .before .before .reader-in .ensures,
+      ← at-seek .before .before .medium-in .ensures,
+      ← at-seek .before .store-in .ensures,
+      ← at-seek .seek .ensures,
+      c .code .ensures,
+      c .before .reader-words .ensures,
+      c .before .before .medium-words .ensures,
+    )
 
 pub port-seek-spec : {M : Type 1} → statement M
 port-seek-spec =

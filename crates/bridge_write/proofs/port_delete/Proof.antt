@@ -27,9 +27,19 @@ same-length c = search needs
 returns : tie.Need-returns
 unfolding deleteAt
 returns c =
+    let at-store-in = c .before .before .before .before .before .before .before .before in
     let p = c .before .before .put-store .ensures in
     let d = c .before .before .before .before .before .before .before .delete .ensures in
-    rw (← c .before .before .before .before .before .before .before .before .before .medium-in .ensures, ← c .before .before .before .before .before .before .before .before .store-in .ensures, ← d .0, ← d .1, c .code .ensures, p .0, p .1, c .before .medium-words .ensures)
+    rw (
+      ← at-store-in .before .medium-in .ensures,
+      ← at-store-in .store-in .ensures,
+      ← d .0,
+      ← d .1,
+      c .code .ensures,
+      p .0,
+      p .1,
+      c .before .medium-words .ensures,
+    )
 
 pub port-delete-spec : {M : Type 1} → statement M
 port-delete-spec =

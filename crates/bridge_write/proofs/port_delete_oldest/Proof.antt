@@ -33,9 +33,22 @@ same-length c = search needs
 returns : tie.Need-returns
 unfolding oldestAt
 returns c =
-    let p = c .before .before .before .before .put-store .ensures in
-    let d = c .before .before .before .before .before .before .before .before .before .delete-oldest .ensures in
-    rw (← c .before .before .before .before .before .before .before .before .before .before .before .medium-in .ensures, ← c .before .before .before .before .before .before .before .before .before .before .store-in .ensures, ← d .0, ← d .1, c .gone-code .ensures, c .before .gone-name .ensures, c .before .before .gone-words .ensures, p .0, p .1, c .before .before .before .medium-words .ensures)
+    let at-medium-words = c .before .before .before in
+    let at-store-in = at-medium-words .before .before .before .before .before .before .before in
+    let p = at-medium-words .before .put-store .ensures in
+    let d = at-medium-words .before .before .before .before .before .before .delete-oldest .ensures in
+    rw (
+      ← at-store-in .before .medium-in .ensures,
+      ← at-store-in .store-in .ensures,
+      ← d .0,
+      ← d .1,
+      c .gone-code .ensures,
+      c .before .gone-name .ensures,
+      c .before .before .gone-words .ensures,
+      p .0,
+      p .1,
+      at-medium-words .medium-words .ensures,
+    )
 
 pub port-delete-oldest-spec : {M : Type 1} → statement M
 port-delete-oldest-spec =

@@ -26,7 +26,15 @@ unfolding formatAt
 returns c =
     let p = c .before .before .put-store .ensures in
     let f = c .before .before .before .before .before .before .before .format .ensures in
-    rw (← c .before .before .before .before .before .before .before .before .medium-in .ensures, ← f .0, ← f .1, c .code .ensures, p .0, p .1, c .before .medium-words .ensures)
+    rw (
+      ← c .before .before .before .before .before .before .before .before .medium-in .ensures,
+      ← f .0,
+      ← f .1,
+      c .code .ensures,
+      p .0,
+      p .1,
+      c .before .medium-words .ensures,
+    )
 
 pub port-format-spec : {M : Type 1} → statement M
 port-format-spec =

@@ -19,8 +19,12 @@ enum-known-o : tie.Need-enum-known-o
 enum-known-o c = search needs
 
 returns : tie.Need-returns
-returns c = let a = c .before .before .before .before .before .before .before .args in let r = c .before .before .before .read-sector in
-    not-read (a .volume .now) (a .medium) (a .store) (a .k) (a .sector .now) (c .before .before .before .before .before .base .ensures .0) (r .ensures .0) (r .ensures .1) (c .before .o .given .1)
+returns c =
+    let at-base = c .before .before .before .before .before in
+    let a = at-base .before .before .args in
+    let r = c .before .before .before .read-sector in
+    not-read (a .volume .now) (a .medium) (a .store) (a .k) (a .sector .now) (at-base .base .ensures .0) (r .ensures .0) (r .ensures .1)
+    (c .before .o .given .1)
 
 enum-told : tie.Need-enum-told
 enum-told c = search needs
@@ -35,12 +39,22 @@ element-copy-out-if1 : tie.Need-element-copy-out-if1
 element-copy-out-if1 c = search needs
 
 returns-2 : tie.Need-returns-2
-returns-2 c = let a = c .before .before .before .before .before .before .before .before .before .before .before .before .args in let r = c .before .before .before .before .before .before .before .before .read-sector in
-    passed (a .volume .now) (a .medium) (a .store) (a .k) (a .sector .now) (c .before .before .before .before .before .before .before .before .before .before .base .ensures .0) (r .ensures .0) (r .ensures .1) (c .before .before .before .before .before .before .enum-told .given .1) (c .before .before .crc32 .ensures) (c .if1 .taken)
+returns-2 c =
+    let at-enum-told = c .before .before .before .before .before .before in
+    let at-base = at-enum-told .before .before .before .before in
+    let a = at-base .before .before .args in
+    let r = at-enum-told .before .before .read-sector in
+    passed (a .volume .now) (a .medium) (a .store) (a .k) (a .sector .now) (at-base .base .ensures .0) (r .ensures .0) (r .ensures .1)
+    (at-enum-told .enum-told .given .1) (c .before .before .crc32 .ensures) (c .if1 .taken)
 
 returns-3 : tie.Need-returns-3
-returns-3 c = let a = c .before .before .before .before .before .before .before .before .before .before .before .before .args in let r = c .before .before .before .before .before .before .before .before .read-sector in
-    damaged (a .volume .now) (a .medium) (a .store) (a .k) (a .sector .now) (c .before .before .before .before .before .before .before .before .before .before .base .ensures .0) (r .ensures .0) (r .ensures .1) (c .before .before .before .before .before .before .enum-told .given .1) (c .before .before .crc32 .ensures) (c .if1 .left)
+returns-3 c =
+    let at-enum-told = c .before .before .before .before .before .before in
+    let at-base = at-enum-told .before .before .before .before in
+    let a = at-base .before .before .args in
+    let r = at-enum-told .before .before .read-sector in
+    damaged (a .volume .now) (a .medium) (a .store) (a .k) (a .sector .now) (at-base .base .ensures .0) (r .ensures .0) (r .ensures .1)
+    (at-enum-told .enum-told .given .1) (c .before .before .crc32 .ensures) (c .if1 .left)
 
 pub read-body-spec : {M : Type 1} → statement M
 read-body-spec =

@@ -30,8 +30,11 @@ array-read-if1-2 : tie.Need-array-read-if1-2 Inv-loop μ-loop
 array-read-if1-2 c = search needs
 
 returns : tie.Need-returns Inv-loop μ-loop
-returns c = let n : length (c .before .before .before .args .t1) ≡ 24 = search (needs, c .before .before .before .good) in let n' : length (c .before .before .before .args .t2) ≡ 24 = search (needs, c .before .before .before .good) in
-    sym (sym (c .before .before .loop .inv .1) ∙ pair-other (c .before .before .before .args .t1) (c .before .before .before .args .t2) (c .before .before .loop .i) (omega arith) (omega arith) (c .if1 .taken))
+returns c =
+    let n : length (c .before .before .before .args .t1) ≡ 24 = search (needs, c .before .before .before .good) in
+    let n' : length (c .before .before .before .args .t2) ≡ 24 = search (needs, c .before .before .before .good) in
+    sym (sym (c .before .before .loop .inv .1) ∙ pair-other (c .before .before .before .args .t1) (c .before .before .before .args .t2)
+    (c .before .before .loop .i) (omega arith) (omega arith) (c .if1 .taken))
 
 add-i : tie.Need-add-i Inv-loop μ-loop
 add-i c = search needs
@@ -40,11 +43,18 @@ loop-less : tie.Need-loop-less Inv-loop μ-loop
 loop-less c = search needs
 
 loop-again : tie.Need-loop-again Inv-loop μ-loop
-loop-again c = let n : length (c .before .before .before .args .t1) ≡ 24 = search (needs, c .before .before .before .good) in let n' : length (c .before .before .before .args .t2) ≡ 24 = search (needs, c .before .before .before .good) in
-    (search needs, pair-same (c .before .before .before .args .t1) (c .before .before .before .args .t2) (c .before .before .loop .i) (omega arith) (omega arith) (c .if1 .left) ∙ c .before .before .loop .inv .1)
+loop-again c =
+    let n : length (c .before .before .before .args .t1) ≡ 24 = search (needs, c .before .before .before .good) in
+    let n' : length (c .before .before .before .args .t2) ≡ 24 = search (needs, c .before .before .before .good) in (
+      search needs,
+      pair-same (c .before .before .before .args .t1) (c .before .before .before .args .t2) (c .before .before .loop .i) (omega arith) (omega arith)
+          (c .if1 .left) ∙ c .before .before .loop .inv .1,
+    )
 
 returns-2 : tie.Need-returns-2 Inv-loop μ-loop
-returns-2 c = let n : length (c .before .before .args .t1) ≡ 24 = search (needs, c .before .before .good) in let n' : length (c .before .before .args .t2) ≡ 24 = search (needs, c .before .before .good) in
+returns-2 c =
+    let n : length (c .before .before .args .t1) ≡ 24 = search (needs, c .before .before .good) in
+    let n' : length (c .before .before .args .t2) ≡ 24 = search (needs, c .before .before .good) in
     sym (sym (c .before .loop .inv .1) ∙ pairs-end (c .before .before .args .t1) (c .before .before .args .t2) (c .before .loop .i) (omega arith) (n ∙ sym n'))
 
 pub same-crcs-spec : {M : Type 1} → statement M

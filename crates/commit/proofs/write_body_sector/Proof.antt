@@ -29,9 +29,12 @@ so-far-requires c κs = search needs
 
 returns : tie.Need-returns
 unfolding commitPlan
-returns c = let a = c .before .before .before .before .before .before .before .before .before .args in
-    made-of (c .so-far .ensures) (skipped (commitPlan (a .t4) (a .edit) (a .name .now) (a .store)) (a .volume .now) (a .medium) (a .head) (a .k) (c .before .before .before .before .before .before .before .before .before .pre .4)
-    (c .before .before .before .before .before .changes .ensures) (c .before .before .lists .ensures) (c .before .if1 .taken))
+returns c =
+    let at-changes = c .before .before .before .before .before in
+    let start = at-changes .before .before .before .before in
+    let a = start .args in
+    made-of (c .so-far .ensures) (skipped (commitPlan (a .t4) (a .edit) (a .name .now) (a .store)) (a .volume .now) (a .medium) (a .head) (a .k) (start .pre .4)
+    (at-changes .changes .ensures) (c .before .before .lists .ensures) (c .before .if1 .taken))
 
 read-body-requires : tie.Need-read-body-requires
 read-body-requires c κs = search needs
@@ -47,9 +50,15 @@ same-length c = search needs
 
 returns-2 : tie.Need-returns-2
 unfolding commitPlan
-returns-2 c = let a = c .before .before .before .before .before .before .before .before .before .before .before .before .before .before .before .args in
-    made-of (c .so-far2 .ensures) (refused (commitPlan (a .t4) (a .edit) (a .name .now) (a .store)) (a .volume .now) (a .medium) (a .head) (a .k) (c .before .before .before .before .before .before .before .before .before .before .before .before .before .before .before .pre .4)
-    (c .before .before .before .before .before .before .before .before .before .before .before .changes .ensures) (c .before .before .before .before .before .before .before .before .lists .ensures) (c .before .before .before .before .before .before .before .if1 .left) (c .before .before .before .before .read-body .ensures .0) (c .before .before .o .given .1))
+returns-2 c =
+    let at-read-body = c .before .before .before .before in
+    let at-if1 = at-read-body .before .before .before in
+    let at-changes = at-if1 .before .before .before .before in
+    let start = at-changes .before .before .before .before in
+    let a = start .args in
+    made-of (c .so-far2 .ensures) (refused (commitPlan (a .t4) (a .edit) (a .name .now) (a .store)) (a .volume .now) (a .medium) (a .head) (a .k)
+    (start .pre .4) (at-changes .changes .ensures) (at-if1 .before .lists .ensures) (at-if1 .if1 .left) (at-read-body .read-body .ensures .0)
+    (c .before .before .o .given .1))
 
 enum-told : tie.Need-enum-told
 enum-told c = search needs
@@ -77,10 +86,17 @@ same-length-2 c = search needs
 
 returns-3 : tie.Need-returns-3
 unfolding commitPlan zeros
-returns-3 c = let a = c .before .before .before .before .before .before .before .before .before .before .before .before .before .before .before .before .before .before .before .before .args in
-    made-of (c .so-far3 .ensures) (kept (commitPlan (a .t4) (a .edit) (a .name .now) (a .store)) (a .volume .now) (a .medium) (a .head) (a .k) (c .before .before .before .before .before .before .before .before .before .before .before .before .before .before .before .before .before .before .before .before .pre .4)
-    (c .before .before .before .before .before .before .before .before .before .before .before .before .before .before .before .before .changes .ensures) (c .before .before .before .before .before .before .before .before .before .before .before .before .before .lists .ensures) (c .before .before .before .before .before .before .before .before .before .before .before .before .if1 .left) (c .before .before .before .before .before .before .before .before .before .read-body .ensures .0) (c .before .before .before .before .before .before .before .enum-told .given .1)
-    (zeros 512) (c .before .before .before .before .before .before .before .before .before .read-body .ensures .1) (c .before .before .before .before .before .edited .ensures) (c .before .before .before .crc-of .ensures) (c .before .before .lists2 .ensures) (c .before .if2 .taken))
+returns-3 c =
+    let at-crc-of = c .before .before .before in
+    let at-enum-told = at-crc-of .before .before .before .before in
+    let at-if1 = at-enum-told .before .before .before .before .before in
+    let at-changes = at-if1 .before .before .before .before in
+    let start = at-changes .before .before .before .before in
+    let a = start .args in
+    made-of (c .so-far3 .ensures) (kept (commitPlan (a .t4) (a .edit) (a .name .now) (a .store)) (a .volume .now) (a .medium) (a .head) (a .k) (start .pre .4)
+    (at-changes .changes .ensures) (at-if1 .before .lists .ensures) (at-if1 .if1 .left) (at-enum-told .before .before .read-body .ensures .0)
+    (at-enum-told .enum-told .given .1) (zeros 512) (at-enum-told .before .before .read-body .ensures .1) (at-crc-of .before .before .edited .ensures)
+    (at-crc-of .crc-of .ensures) (c .before .before .lists2 .ensures) (c .before .if2 .taken))
 
 sub-base : tie.Need-sub-base
 sub-base c = search needs
@@ -95,7 +111,13 @@ add-at-2 : tie.Need-add-at-2
 add-at-2 c = search needs
 
 write-sector-requires : tie.Need-write-sector-requires
-write-sector-requires c κs = omega (arith, c .before .before .before .before .before .before .before .before .before .before .before .before .before .before .before .before .before .before .before .before .before .before .before .pre, c .before .before .base .ensures .1)
+write-sector-requires c κs =
+    omega (
+      arith,
+      c .before .before .before .before .before .before .before .before .before .before .before .before .before .before .before .before .before .before .before
+          .before .before .before .before .pre,
+      c .before .before .base .ensures .1,
+    )
 
 so-far-requires-4 : tie.Need-so-far-requires-4
 so-far-requires-4 c κs = search needs
@@ -105,11 +127,21 @@ same-length-3 c = search needs
 
 returns-4 : tie.Need-returns-4
 unfolding commitPlan zeros
-returns-4 c = let a = c .before .before .before .before .before .before .before .before .before .before .before .before .before .before .before .before .before .before .before .before .before .before .before .before .before .before .before .before .args in
-    made-of (c .so-far4 .ensures) (written (commitPlan (a .t4) (a .edit) (a .name .now) (a .store)) (a .volume .now) (a .medium) (a .head) (a .k) (c .before .before .before .before .before .before .before .before .before .before .before .before .before .before .before .before .before .before .before .before .before .before .before .before .before .before .before .before .pre .4)
-    (c .before .before .before .before .before .before .before .before .before .before .before .before .before .before .before .before .before .before .before .before .before .before .before .before .changes .ensures) (c .before .before .before .before .before .before .before .before .before .before .before .before .before .before .before .before .before .before .before .before .before .lists .ensures) (c .before .before .before .before .before .before .before .before .before .before .before .before .before .before .before .before .before .before .before .before .if1 .left) (c .before .before .before .before .before .before .before .before .before .before .before .before .before .before .before .before .before .read-body .ensures .0) (c .before .before .before .before .before .before .before .before .before .before .before .before .before .before .before .enum-told .given .1)
-    (zeros 512) (c .before .before .before .before .before .before .before .before .before .before .before .before .before .before .before .before .before .read-body .ensures .1) (c .before .before .before .before .before .before .before .before .before .before .before .before .before .edited .ensures) (c .before .before .before .before .before .before .before .before .before .before .before .crc-of .ensures) (c .before .before .before .before .before .before .before .before .before .before .lists2 .ensures) (c .before .before .before .before .before .before .before .before .before .if2 .left)
-    (c .before .before .before .before .before .before .before .base .ensures .0) (c .before .before .before .before .write-sector .ensures))
+returns-4 c =
+    let at-write-sector = c .before .before .before .before in
+    let at-base = at-write-sector .before .before .before in
+    let at-lists2 = at-base .before .before .before in
+    let at-edited = at-lists2 .before .before .before in
+    let at-read-body = at-edited .before .before .before .before in
+    let at-if1 = at-read-body .before .before .before in
+    let at-changes = at-if1 .before .before .before .before in
+    let start = at-changes .before .before .before .before in
+    let a = start .args in
+    made-of (c .so-far4 .ensures) (written (commitPlan (a .t4) (a .edit) (a .name .now) (a .store)) (a .volume .now) (a .medium) (a .head) (a .k)
+    (start .pre .4) (at-changes .changes .ensures) (at-if1 .before .lists .ensures) (at-if1 .if1 .left) (at-read-body .read-body .ensures .0)
+    (at-edited .before .before .enum-told .given .1) (zeros 512) (at-read-body .read-body .ensures .1) (at-edited .edited .ensures)
+    (at-lists2 .before .crc-of .ensures) (at-lists2 .lists2 .ensures) (at-base .before .before .if2 .left) (at-base .base .ensures .0)
+    (at-write-sector .write-sector .ensures))
 
 pub write-body-sector-spec : {M : Type 1} → statement M
 write-body-sector-spec =

@@ -35,9 +35,11 @@ name-ok-requires : tie.Need-name-ok-requires
 name-ok-requires c κs = search needs
 
 returns-2 : tie.Need-returns-2
-returns-2 c = let e = c .before .before .before .before .before in
-    name-fails (now (e .before .before .before .args .entry)) (e .before .all-zero .ensures) (e .if1 .left)
-    (c .before .before .before .text-len .ensures .0) (c .before .name-ok .ensures) (c .if2 .taken)
+returns-2 c =
+    let at-text-len = c .before .before .before in
+    let at-if1 = at-text-len .before .before in
+    name-fails (now (at-if1 .before .before .before .args .entry)) (at-if1 .before .all-zero .ensures) (at-if1 .if1 .left) (at-text-len .text-len .ensures .0)
+    (c .before .name-ok .ensures) (c .if2 .taken)
 
 sub-all-zero : tie.Need-sub-all-zero
 sub-all-zero c = search needs
@@ -52,19 +54,25 @@ all-zero-requires-2 : tie.Need-all-zero-requires-2
 all-zero-requires-2 c κs = search needs
 
 returns-3 : tie.Need-returns-3
-returns-3 c = let e = c .before .before .before in
-    pad-fails (now (e .before .before .before .before .before .before .before .before .args .entry)) (e .before .before .before .before .before .before .all-zero .ensures) (e .before .before .before .before .before .if1 .left)
-    (e .before .before .before .text-len .ensures .0) (e .before .name-ok .ensures) (e .if2 .left)
-    (c .before .all-zero2 .ensures) (c .if3 .taken)
+returns-3 c =
+    let at-if2 = c .before .before .before in
+    let at-text-len = at-if2 .before .before .before in
+    let at-all-zero = at-text-len .before .before .before in
+    pad-fails (now (at-all-zero .before .before .args .entry)) (at-all-zero .all-zero .ensures) (at-text-len .before .before .if1 .left)
+    (at-text-len .text-len .ensures .0) (at-if2 .before .name-ok .ensures) (at-if2 .if2 .left) (c .before .all-zero2 .ensures) (c .if3 .taken)
 
 get-u32-requires : tie.Need-get-u32-requires
 get-u32-requires c κs = search needs
 
 returns-4 : tie.Need-returns-4
-returns-4 c = let e = c .before .before .before .before .before in
-    id-fails (now (e .before .before .before .before .before .before .before .before .args .entry)) (e .before .before .before .before .before .before .all-zero .ensures) (e .before .before .before .before .before .if1 .left)
-    (e .before .before .before .text-len .ensures .0) (e .before .name-ok .ensures) (e .if2 .left)
-    (c .before .before .before .all-zero2 .ensures) (c .before .before .if3 .left) (c .before .get-u32 .ensures) (c .if4 .taken)
+returns-4 c =
+    let at-all-zero2 = c .before .before .before in
+    let at-if2 = at-all-zero2 .before .before in
+    let at-text-len = at-if2 .before .before .before in
+    let at-all-zero = at-text-len .before .before .before in
+    id-fails (now (at-all-zero .before .before .args .entry)) (at-all-zero .all-zero .ensures) (at-text-len .before .before .if1 .left)
+    (at-text-len .text-len .ensures .0) (at-if2 .before .name-ok .ensures) (at-if2 .if2 .left) (at-all-zero2 .all-zero2 .ensures) (c .before .before .if3 .left)
+    (c .before .get-u32 .ensures) (c .if4 .taken)
 
 sub-all-zero-2 : tie.Need-sub-all-zero-2
 sub-all-zero-2 c = search needs
@@ -79,16 +87,26 @@ all-zero-requires-3 : tie.Need-all-zero-requires-3
 all-zero-requires-3 c κs = search needs
 
 returns-5 : tie.Need-returns-5
-returns-5 c = let e = c .before .before .before .before .before .before .before .before in
-    rest-fails (now (e .before .before .before .before .before .before .before .before .args .entry)) (e .before .before .before .before .before .before .all-zero .ensures) (e .before .before .before .before .before .if1 .left)
-    (e .before .before .before .text-len .ensures .0) (e .before .name-ok .ensures) (e .if2 .left)
-    (c .before .before .before .before .before .before .all-zero2 .ensures) (c .before .before .before .before .before .if3 .left) (c .before .before .before .before .get-u32 .ensures) (c .before .before .before .if4 .left) (c .before .all-zero3 .ensures) (c .if5 .taken)
+returns-5 c =
+    let at-if4 = c .before .before .before in
+    let at-all-zero2 = at-if4 .before .before .before in
+    let at-if2 = at-all-zero2 .before .before in
+    let at-text-len = at-if2 .before .before .before in
+    let at-all-zero = at-text-len .before .before .before in
+    rest-fails (now (at-all-zero .before .before .args .entry)) (at-all-zero .all-zero .ensures) (at-text-len .before .before .if1 .left)
+    (at-text-len .text-len .ensures .0) (at-if2 .before .name-ok .ensures) (at-if2 .if2 .left) (at-all-zero2 .all-zero2 .ensures)
+    (at-if4 .before .before .if3 .left) (at-if4 .before .get-u32 .ensures) (at-if4 .if4 .left) (c .before .all-zero3 .ensures) (c .if5 .taken)
 
 returns-6 : tie.Need-returns-6
-returns-6 c = let e = c .before .before .before .before .before .before .before .before in
-    entry-file (now (e .before .before .before .before .before .before .before .before .args .entry)) (e .before .before .before .before .before .before .all-zero .ensures) (e .before .before .before .before .before .if1 .left)
-    (e .before .before .before .text-len .ensures .0) (e .before .name-ok .ensures) (e .if2 .left)
-    (c .before .before .before .before .before .before .all-zero2 .ensures) (c .before .before .before .before .before .if3 .left) (c .before .before .before .before .get-u32 .ensures) (c .before .before .before .if4 .left) (c .before .all-zero3 .ensures) (c .if5 .left)
+returns-6 c =
+    let at-if4 = c .before .before .before in
+    let at-all-zero2 = at-if4 .before .before .before in
+    let at-if2 = at-all-zero2 .before .before in
+    let at-text-len = at-if2 .before .before .before in
+    let at-all-zero = at-text-len .before .before .before in
+    entry-file (now (at-all-zero .before .before .args .entry)) (at-all-zero .all-zero .ensures) (at-text-len .before .before .if1 .left)
+    (at-text-len .text-len .ensures .0) (at-if2 .before .name-ok .ensures) (at-if2 .if2 .left) (at-all-zero2 .all-zero2 .ensures)
+    (at-if4 .before .before .if3 .left) (at-if4 .before .get-u32 .ensures) (at-if4 .if4 .left) (c .before .all-zero3 .ensures) (c .if5 .left)
 
 pub decode-entry-spec : {M : Type 1} → statement M
 decode-entry-spec =

@@ -25,9 +25,11 @@ in-dir-requires : tie.Need-in-dir-requires
 in-dir-requires c κs = search needs
 
 returns : tie.Need-returns
-returns c = let s = c .before .before .before .before .before in
-    let a = s .args in
-    c .in-dir .ensures ∙ ap (inDir (now (a .dir))) (name-slice (now (a .volume)) (a .store) (a .slot) (c .before .before .entry-place .ensures .0) (s .pre .2))
+returns c =
+    let start = c .before .before .before .before .before in
+    let a = start .args in
+    c .in-dir .ensures ∙ ap (inDir (now (a .dir)))
+    (name-slice (now (a .volume)) (a .store) (a .slot) (c .before .before .entry-place .ensures .0) (start .pre .2))
 
 pub is-in-spec : {M : Type 1} → statement M
 is-in-spec =

@@ -14,8 +14,9 @@ use Rattle.directory.proofs.list_rows.Statement.{statement}
 use Rattle.directory.proofs.list_rows.Tie as tie
 
 abbrev Inv-loop : tie.InvT-loop
-Inv-loop volume medium store dir counts rows₀ count₀ i₀ rows count i = (ScanAt (listing dir counts) volume medium store (rowsOf volume medium store dir counts rows₀) i
-    (record { rows = rows; count = count })) × (count ≤ i) × (length rows ≡ length rows₀)
+Inv-loop volume medium store dir counts rows₀ count₀ i₀ rows count i =
+    (ScanAt (listing dir counts) volume medium store (rowsOf volume medium store dir counts rows₀) i (record { rows = rows; count = count })) × (count ≤ i)
+    × (length rows ≡ length rows₀)
 
 abbrev μ-loop : tie.MeasureT-loop
 μ-loop volume medium store dir counts rows₀ count₀ i₀ rows count i = 64 - i
@@ -37,7 +38,10 @@ same-length : tie.Need-same-length Inv-loop μ-loop
 same-length c = c .before .before .before .before .before .loop .inv .2
 
 returns : tie.Need-returns Inv-loop μ-loop
-returns c = let t = c .before .before .before .before in at-stop (t .before .loop .inv .0) (t .loop-test .taken) (c .before .before .before .slot-at .ensures) (c .before .s .given .1) refl
+returns c =
+    let at-slot-at = c .before .before .before in
+    let at-loop-test = at-slot-at .before in
+    at-stop (at-loop-test .before .loop .inv .0) (at-loop-test .loop-test .taken) (at-slot-at .slot-at .ensures) (c .before .s .given .1) refl
 
 enum-told : tie.Need-enum-told Inv-loop μ-loop
 enum-told c = search needs
@@ -46,8 +50,12 @@ loop-less : tie.Need-loop-less Inv-loop μ-loop
 loop-less c = search needs
 
 loop-again : tie.Need-loop-again Inv-loop μ-loop
-loop-again c = let t = c .before .before .before in
-    (at-next (t .before .loop .inv .0) (t .loop-test .taken) (c .before .before .slot-at .ensures) (c .enum-told .given .1) refl, omega arith, t .before .loop .inv .2)
+loop-again c =
+    let t = c .before .before .before in (
+      at-next (t .before .loop .inv .0) (t .loop-test .taken) (c .before .before .slot-at .ensures) (c .enum-told .given .1) refl,
+      omega arith,
+      t .before .loop .inv .2,
+    )
 
 enum-known-s-2 : tie.Need-enum-known-s-2 Inv-loop μ-loop
 enum-known-s-2 c = search needs
@@ -59,7 +67,11 @@ entry-place-requires : tie.Need-entry-place-requires Inv-loop μ-loop
 entry-place-requires c κs = search needs
 
 add-put-row : tie.Need-add-put-row Inv-loop μ-loop
-add-put-row c = search (needs, found-file _ _ _ _ (c .before .before .before .before .before .before .before .slot-at .ensures) (c .before .before .before .before .before .s2 .given .1) .short)
+add-put-row c =
+    search (
+      needs,
+      let at-s2 = c .before .before .before .before .before in found-file _ _ _ _ (at-s2 .before .before .slot-at .ensures) (at-s2 .s2 .given .1) .short,
+    )
 
 sub-put-row : tie.Need-sub-put-row Inv-loop μ-loop
 sub-put-row c = search needs
@@ -68,7 +80,11 @@ part-put-row-start : tie.Need-part-put-row-start Inv-loop μ-loop
 part-put-row-start c = search needs
 
 part-put-row-end : tie.Need-part-put-row-end Inv-loop μ-loop
-part-put-row-end c = search (needs, found-file _ _ _ _ (c .before .before .before .before .before .before .before .slot-at .ensures) (c .before .before .before .before .before .s2 .given .1) .short)
+part-put-row-end c =
+    search (
+      needs,
+      let at-s2 = c .before .before .before .before .before in found-file _ _ _ _ (at-s2 .before .before .slot-at .ensures) (at-s2 .s2 .given .1) .short,
+    )
 
 mul-put-row : tie.Need-mul-put-row Inv-loop μ-loop
 mul-put-row c = search needs
@@ -87,13 +103,16 @@ loop-less-2 : tie.Need-loop-less-2 Inv-loop μ-loop
 loop-less-2 c = search needs
 
 loop-again-2 : tie.Need-loop-again-2 Inv-loop μ-loop
-loop-again-2 c = let s = c .before .before .before .before .before .before .before .before .before .before in
+loop-again-2 c =
+    let s = c .before .before .before .before .before .before .before .before .before .before in
     let t = s .before .before .before in
     let l = t .before .loop in
     let a = t .before .before .before .before .before .before .args in
-    let n = name-slice (now (a .volume)) (a .store) (l .next) (c .before .before .before .before .before .before .entry-place .ensures .0) (found-file _ _ _ _ (s .before .before .slot-at .ensures) (s .s2 .given .1) .short) in (
-      at-next (l .inv .0) (t .loop-test .taken) (s .before .before .slot-at .ensures) (s .s2 .given .1)
-          (row-made (now (a .dir)) (now (a .counts)) (l .next) _ _ (l .rows) (l .count) (c .before .before .before .before .before .before .before .before .is-in .ensures) _ _ (c .before .before .before .before .before .before .before .if1 .taken) (c .before .before .put-row .ensures) n),
+    let n = name-slice (now (a .volume)) (a .store) (l .next) (c .before .before .before .before .before .before .entry-place .ensures .0)
+    (found-file _ _ _ _ (s .before .before .slot-at .ensures) (s .s2 .given .1) .short) in (
+      let at-if1 = c .before .before .before .before .before .before .before in
+          at-next (l .inv .0) (t .loop-test .taken) (s .before .before .slot-at .ensures) (s .s2 .given .1) (row-made (now (a .dir)) (now (a .counts)) (l .next)
+          _ _ (l .rows) (l .count) (at-if1 .before .is-in .ensures) _ _ (at-if1 .if1 .taken) (c .before .before .put-row .ensures) n),
       omega arith,
       search needs,
     )

@@ -25,9 +25,11 @@ same-requires : tie.Need-same-requires
 same-requires c κs = search needs
 
 returns : tie.Need-returns
-returns c = let s = c .before .before .before .before .before in
-    let a = s .args in
-    c .same .ensures ∙ ap (sameBytes (now (a .name))) (name-slice (now (a .volume)) (a .store) (a .slot) (c .before .before .entry-place .ensures .0) (s .pre .2))
+returns c =
+    let start = c .before .before .before .before .before in
+    let a = start .args in
+    c .same .ensures ∙ ap (sameBytes (now (a .name)))
+    (name-slice (now (a .volume)) (a .store) (a .slot) (c .before .before .entry-place .ensures .0) (start .pre .2))
 
 pub named-spec : {M : Type 1} → statement M
 named-spec =

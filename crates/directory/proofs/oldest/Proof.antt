@@ -9,7 +9,8 @@ use Rattle.directory.proofs.oldest.Statement.{statement}
 use Rattle.directory.proofs.oldest.Tie as tie
 
 abbrev Inv-loop : tie.InvT-loop
-Inv-loop volume medium store dir keeping keep old₀ i₀ old i = ScanAt (seeking dir keeping keep) volume medium store (oldestOf volume medium store dir keeping keep) i old
+Inv-loop volume medium store dir keeping keep old₀ i₀ old i =
+    ScanAt (seeking dir keeping keep) volume medium store (oldestOf volume medium store dir keeping keep) i old
 
 abbrev μ-loop : tie.MeasureT-loop
 μ-loop volume medium store dir keeping keep old₀ i₀ old i = 64 - i
@@ -28,7 +29,10 @@ enum-known-s : tie.Need-enum-known-s Inv-loop μ-loop
 enum-known-s c = search needs
 
 returns : tie.Need-returns Inv-loop μ-loop
-returns c = let t = c .before .before .before .before in at-stop (t .before .loop .inv) (t .loop-test .taken) (c .before .before .before .slot-at .ensures) (c .before .s .given .1) refl
+returns c =
+    let at-slot-at = c .before .before .before in
+    let at-loop-test = at-slot-at .before in
+    at-stop (at-loop-test .before .loop .inv) (at-loop-test .loop-test .taken) (at-slot-at .slot-at .ensures) (c .before .s .given .1) refl
 
 enum-told : tie.Need-enum-told Inv-loop μ-loop
 enum-told c = search needs
@@ -37,7 +41,9 @@ loop-less : tie.Need-loop-less Inv-loop μ-loop
 loop-less c = search needs
 
 loop-again : tie.Need-loop-again Inv-loop μ-loop
-loop-again c = let t = c .before .before .before in at-next (t .before .loop .inv) (t .loop-test .taken) (c .before .before .slot-at .ensures) (c .enum-told .given .1) refl
+loop-again c =
+    let at-loop-test = c .before .before .before in
+    at-next (at-loop-test .before .loop .inv) (at-loop-test .loop-test .taken) (c .before .before .slot-at .ensures) (c .enum-told .given .1) refl
 
 enum-known-s-2 : tie.Need-enum-known-s-2 Inv-loop μ-loop
 enum-known-s-2 c = search needs
@@ -52,9 +58,11 @@ loop-less-2 : tie.Need-loop-less-2 Inv-loop μ-loop
 loop-less-2 c = search needs
 
 loop-again-2 : tie.Need-loop-again-2 Inv-loop μ-loop
-loop-again-2 c = let t = c .before .before .before .before .before .before in
-    at-next (t .before .loop .inv) (t .loop-test .taken) (c .before .before .before .before .before .slot-at .ensures) (c .before .before .before .s2 .given .1)
-    (rw (c .older .ensures, c .before .is-in .ensures, found-file _ _ _ _ (c .before .before .before .before .before .slot-at .ensures) (c .before .before .before .s2 .given .1) .whole))
+loop-again-2 c =
+    let at-s2 = c .before .before .before in
+    let at-loop-test = at-s2 .before .before .before in
+    at-next (at-loop-test .before .loop .inv) (at-loop-test .loop-test .taken) (at-s2 .before .before .slot-at .ensures) (at-s2 .s2 .given .1)
+    (rw (c .older .ensures, c .before .is-in .ensures, found-file _ _ _ _ (at-s2 .before .before .slot-at .ensures) (at-s2 .s2 .given .1) .whole))
 
 returns-2 : tie.Need-returns-2 Inv-loop μ-loop
 returns-2 c = at-end (c .before .loop .inv) (c .loop-test .left)

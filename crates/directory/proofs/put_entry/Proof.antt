@@ -22,11 +22,13 @@ same-length c = search needs
 
 returns : tie.Need-returns
 unfolding entryBytes
-returns c = let z = c .before .before .before .before .before .before .before .before .before .before in
-    let s = z .before .before .before .before in
-    let a = s .args in
-    let cleared = z .put-zeros .ensures ∙ over-whole (zeros 64) (now (a .entry)) (length-zeros 64 ∙ sym (s .pre .0)) in
-    c .before .before .put-u32 .ensures ∙ ap (putLe 4 40 (a .id)) (c .before .before .before .before .before .before .put-bytes .ensures ∙ ap (over 0 (now (a .name))) cleared)
+returns c =
+    let at-put-bytes = c .before .before .before .before .before .before in
+    let at-put-zeros = at-put-bytes .before .before .before .before in
+    let start = at-put-zeros .before .before .before .before in
+    let a = start .args in
+    let cleared = at-put-zeros .put-zeros .ensures ∙ over-whole (zeros 64) (now (a .entry)) (length-zeros 64 ∙ sym (start .pre .0)) in
+    c .before .before .put-u32 .ensures ∙ ap (putLe 4 40 (a .id)) (at-put-bytes .put-bytes .ensures ∙ ap (over 0 (now (a .name))) cleared)
 
 pub put-entry-spec : {M : Type 1} → statement M
 put-entry-spec =

@@ -14,7 +14,10 @@ enum-known-o : tie.Need-enum-known-o
 enum-known-o c = search needs
 
 returns : tie.Need-returns
-returns c = let a = c .before .before .before .before .before .args in sector-fails (now (a .volume)) (a .medium) (a .store) (a .slot) (c .before .before .before .due .ensures) (c .before .o .given .1)
+returns c =
+    let at-due = c .before .before .before in
+    let a = at-due .before .before .args in
+    sector-fails (now (a .volume)) (a .medium) (a .store) (a .slot) (at-due .due .ensures) (c .before .o .given .1)
 
 enum-told : tie.Need-enum-told
 enum-told c = search needs
@@ -38,8 +41,10 @@ decode-entry-requires : tie.Need-decode-entry-requires
 decode-entry-requires c κs = search needs
 
 returns-2 : tie.Need-returns-2
-returns-2 c = let a = c .before .before .before .before .before .before .before .args in
-    sector-passes (now (a .volume)) (a .medium) (a .store) (a .slot) (c .before .before .before .before .before .due .ensures) (c .before .before .before .enum-told .given .1)
+returns-2 c =
+    let at-enum-told = c .before .before .before in
+    let a = at-enum-told .before .before .before .before .args in
+    sector-passes (now (a .volume)) (a .medium) (a .store) (a .slot) (at-enum-told .before .before .due .ensures) (at-enum-told .enum-told .given .1)
     (c .decode-entry .ensures ∙ ap entryOf (entry-slice (now (a .volume)) (a .store) (a .slot) (c .before .before .entry-place .ensures .0)))
 
 pub slot-at-spec : {M : Type 1} → statement M

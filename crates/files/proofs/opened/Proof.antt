@@ -13,7 +13,10 @@ written-by-requires c κs = search needs
 
 returns : tie.Need-returns
 unfolding zeros
-returns c = let a = c .before .before .before .args in opened-new [] (a .medium) (a .store) (a .slot) (a .id) (a .chunk) (a .position) (a .tail) (a .rollover) (c .before .before .with-token .ensures) (c .before .written-by .ensures)
+returns c =
+    let a = c .before .before .before .args in
+    opened-new [] (a .medium) (a .store) (a .slot) (a .id) (a .chunk) (a .position) (a .tail) (a .rollover) (c .before .before .with-token .ensures)
+    (c .before .written-by .ensures)
 
 pub opened-spec : {M : Type 1} → statement M
 opened-spec = tie.close (tie.spec with-token-requires written-by-requires returns)

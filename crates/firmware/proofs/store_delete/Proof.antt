@@ -11,7 +11,9 @@ number-requires : tie.Need-number-requires
 number-requires c κs = search needs
 
 returns : tie.Need-returns
-returns c = let a = c .before .before .before .before .before .args in name-refused (a .volume .now) _ (a .name .now) (c .before .before .name-ok .ensures) (c .before .if1 .taken) (c .number .ensures)
+returns c =
+    let a = c .before .before .before .before .before .args in
+    name-refused (a .volume .now) _ (a .name .now) (c .before .before .name-ok .ensures) (c .before .if1 .taken) (c .number .ensures)
 
 medium-of-requires : tie.Need-medium-of-requires
 medium-of-requires c κs = search needs
@@ -29,7 +31,12 @@ same-length : tie.Need-same-length
 same-length c = search needs
 
 returns-2 : tie.Need-returns-2
-returns-2 c = let a = c .before .before .before .before .before .before .before .before .before .before .before .args in delete-unmounted (a .volume .now) _ (a .name .now) (c .before .before .before .before .before .before .before .before .name-ok .ensures) (c .before .before .before .before .before .before .before .if1 .left) (c .before .before .before .before .before .medium-of .ensures) (c .before .before .before .before .mount .result) (c .before .before .before .before .mount .ensures) (c .before .before .o .given .1) (c .number2 .ensures)
+returns-2 c =
+    let at-mount = c .before .before .before .before in
+    let at-if1 = at-mount .before .before .before in
+    let a = at-if1 .before .before .before .before .args in
+    delete-unmounted (a .volume .now) _ (a .name .now) (at-if1 .before .name-ok .ensures) (at-if1 .if1 .left) (at-mount .before .medium-of .ensures)
+    (at-mount .mount .result) (at-mount .mount .ensures) (c .before .before .o .given .1) (c .number2 .ensures)
 
 enum-told : tie.Need-enum-told
 enum-told c = search needs
@@ -44,7 +51,14 @@ same-length-2 : tie.Need-same-length-2
 same-length-2 c = search needs
 
 returns-3 : tie.Need-returns-3
-returns-3 c = let a = c .before .before .before .before .before .before .before .before .before .before .before .before .before .before .args in delete-told (a .volume .now) _ (a .name .now) (c .before .before .before .before .before .before .before .before .before .before .before .name-ok .ensures) (c .before .before .before .before .before .before .before .before .before .before .if1 .left) (c .before .before .before .before .before .before .before .before .medium-of .ensures) (c .before .before .before .before .before .before .before .mount .result) (c .before .before .before .before .before .before .before .mount .ensures) (c .before .before .before .before .before .enum-told .given .1) (c .before .before .before .delete .result) (c .before .before .before .delete .ensures) (c .code .ensures)
+returns-3 c =
+    let at-delete = c .before .before .before in
+    let at-mount = at-delete .before .before .before .before in
+    let at-if1 = at-mount .before .before .before in
+    let a = at-if1 .before .before .before .before .args in
+    delete-told (a .volume .now) _ (a .name .now) (at-if1 .before .name-ok .ensures) (at-if1 .if1 .left) (at-mount .before .medium-of .ensures)
+    (at-mount .mount .result) (at-mount .mount .ensures) (at-delete .before .before .enum-told .given .1) (at-delete .delete .result)
+    (at-delete .delete .ensures) (c .code .ensures)
 
 pub store-delete-spec : {M : Type 1} → statement M
 store-delete-spec =

@@ -14,13 +14,19 @@ chunks-requires : tie.Need-chunks-requires
 chunks-requires c κs = search needs
 
 code-requires : tie.Need-code-requires
-code-requires c κs = λ d. rw (c .chunks .ensures) (format-few (c .before .before .before .before .before .before .before .before .args .volume .now) _ {r = c .before .before .before .before .format .result} _ _ (c .before .before .before .before .format .ensures .1) d)
+code-requires c κs =
+    let at-format = c .before .before .before .before in
+    λ d. rw (c .chunks .ensures)
+    (format-few (at-format .before .before .before .before .args .volume .now) _ {r = at-format .format .result} _ _ (at-format .format .ensures .1) d)
 
 same-length : tie.Need-same-length
 same-length c = search needs
 
 returns : tie.Need-returns
-returns c = format-told (c .before .before .before .before .before .before .before .before .before .args .volume .now) (c .before .before .before .before .before .before .medium-of .ensures) (c .before .before .before .before .before .format .result) (c .before .chunks .ensures) (c .code .ensures) _ _ (c .before .before .before .before .before .format .ensures)
+returns c =
+    let at-format = c .before .before .before .before .before in
+    format-told (at-format .before .before .before .before .args .volume .now) (at-format .before .medium-of .ensures) (at-format .format .result)
+    (c .before .chunks .ensures) (c .code .ensures) _ _ (at-format .format .ensures)
 
 pub store-format-spec : {M : Type 1} → statement M
 store-format-spec =

@@ -14,10 +14,15 @@ chunks-requires : tie.Need-chunks-requires
 chunks-requires c κs = search needs
 
 code-requires : tie.Need-code-requires
-code-requires c κs = λ d. rw (c .chunks .ensures) (mount-few (c .before .before .before .before .before .args .volume .now) _ {r = c .before .before .mount .result} (c .before .before .mount .ensures) d)
+code-requires c κs =
+    λ d. rw (c .chunks .ensures)
+    (mount-few (c .before .before .before .before .before .args .volume .now) _ {r = c .before .before .mount .result} (c .before .before .mount .ensures) d)
 
 returns : tie.Need-returns
-returns c = mount-told (c .before .before .before .before .before .before .args .volume .now) (c .before .before .before .before .medium-of .ensures) (c .before .before .before .mount .result) (c .before .chunks .ensures) (c .code .ensures) (c .before .before .before .mount .ensures)
+returns c =
+    let at-mount = c .before .before .before in
+    mount-told (at-mount .before .before .before .args .volume .now) (at-mount .before .medium-of .ensures) (at-mount .mount .result)
+    (c .before .chunks .ensures) (c .code .ensures) (at-mount .mount .ensures)
 
 pub store-mount-spec : {M : Type 1} → statement M
 store-mount-spec =

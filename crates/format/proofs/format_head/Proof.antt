@@ -23,7 +23,9 @@ zero-crcs-requires c κs = search needs
 
 returns : tie.Need-returns
 unfolding formatHead idFor
-returns c = rw (c .zero-crcs .ensures, c .before .body .ensures, c .before .before .newest .ensures, c .before .before .before .id-from .ensures, c .before .before .before .before .mix .ensures)
+returns c =
+    let at-id-from = c .before .before .before in
+    rw (c .zero-crcs .ensures, c .before .body .ensures, c .before .before .newest .ensures, at-id-from .id-from .ensures, at-id-from .before .mix .ensures)
 
 pub format-head-spec : {M : Type 1} → statement M
 format-head-spec =

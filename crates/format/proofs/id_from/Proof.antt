@@ -20,7 +20,9 @@ taken-requires : tie.Need-taken-requires Inv-loop μ-loop
 taken-requires c κs = search needs
 
 returns : tie.Need-returns Inv-loop μ-loop
-returns c = let l = c .before .before .before .loop in id-good (c .before .before .before .before .args .c) (l .id) (l .tried) (c .before .taken .ensures) (omega arith) (l .inv .1) (c .if1 .taken)
+returns c =
+    let l = c .before .before .before .loop in
+    id-good (c .before .before .before .before .args .c) (l .id) (l .tried) (c .before .taken .ensures) (omega arith) (l .inv .1) (c .if1 .taken)
 
 mix-requires : tie.Need-mix-requires Inv-loop μ-loop
 mix-requires c κs = search needs
@@ -32,7 +34,12 @@ loop-less : tie.Need-loop-less Inv-loop μ-loop
 loop-less c = search needs
 
 loop-again : tie.Need-loop-again Inv-loop μ-loop
-loop-again c = let l = c .before .before .before .before .loop in (omega arith, id-bad (c .before .before .before .before .before .args .c) (l .id) (l .tried) (c .before .before .taken .ensures) (omega arith) (l .inv .1) (c .before .if1 .left) (c .mix .ensures))
+loop-again c =
+    let l = c .before .before .before .before .loop in (
+      omega arith,
+      id-bad (c .before .before .before .before .before .args .c) (l .id) (l .tried) (c .before .before .taken .ensures) (omega arith) (l .inv .1)
+          (c .before .if1 .left) (c .mix .ensures),
+    )
 
 spare-requires : tie.Need-spare-requires Inv-loop μ-loop
 spare-requires c κs = search needs

@@ -17,11 +17,25 @@ taken-requires-2 c κs = search needs
 
 returns-2 : tie.Need-returns-2
 unfolding spareOf pick
-returns-2 c = rw (← c .before .before .before .taken .ensures, not-false (c .before .before .before .taken .result) (c .before .before .if1 .left), ← c .before .taken2 .ensures, not-true (c .before .taken2 .result) (c .if2 .taken))
+returns-2 c =
+    let at-taken = c .before .before .before in
+    rw (
+      ← at-taken .taken .ensures,
+      not-false (at-taken .taken .result) (c .before .before .if1 .left),
+      ← c .before .taken2 .ensures,
+      not-true (c .before .taken2 .result) (c .if2 .taken),
+    )
 
 returns-3 : tie.Need-returns-3
 unfolding spareOf pick
-returns-3 c = rw (← c .before .before .before .taken .ensures, not-false (c .before .before .before .taken .result) (c .before .before .if1 .left), ← c .before .taken2 .ensures, not-false (c .before .taken2 .result) (c .if2 .left))
+returns-3 c =
+    let at-taken = c .before .before .before in
+    rw (
+      ← at-taken .taken .ensures,
+      not-false (at-taken .taken .result) (c .before .before .if1 .left),
+      ← c .before .taken2 .ensures,
+      not-false (c .before .taken2 .result) (c .if2 .left),
+    )
 
 pub spare-spec : {M : Type 1} → statement M
 spare-spec =

@@ -10,7 +10,8 @@ use Rattle.format.proofs.zero_body.Statement.{statement}
 use Rattle.format.proofs.zero_body.Tie as tie
 
 abbrev Inv-loop : tie.InvT-loop
-Inv-loop volume₀ copy head zero first body m₀ k₀ volume m k = (k ≤ body) × (length volume ≡ length volume₀) × (zeroedFrom copy head (body - k) k volume m ≡ zeroedFrom copy head (bodyOf (head .chunks)) 0 volume₀ m₀)
+Inv-loop volume₀ copy head zero first body m₀ k₀ volume m k =
+    (k ≤ body) × (length volume ≡ length volume₀) × (zeroedFrom copy head (body - k) k volume m ≡ zeroedFrom copy head (bodyOf (head .chunks)) 0 volume₀ m₀)
 
 abbrev μ-loop : tie.MeasureT-loop
 μ-loop volume₀ copy head zero first body m₀ k₀ volume m k = body - k
@@ -25,7 +26,9 @@ body-requires : tie.Need-body-requires Inv-loop μ-loop
 body-requires c κs = search needs
 
 loop-holds : tie.Need-loop-holds Inv-loop μ-loop
-loop-holds c = let a = c .before .before .before .args in (omega arith, refl, zero-start (a .copy) (a .head) (c .before .before .before .pre .2) (a .volume .now) (a .medium) (c .body .ensures))
+loop-holds c =
+    let a = c .before .before .before .args in
+    (omega arith, refl, zero-start (a .copy) (a .head) (c .before .before .before .pre .2) (a .volume .now) (a .medium) (c .body .ensures))
 
 add-write-sector : tie.Need-add-write-sector Inv-loop μ-loop
 add-write-sector c = search needs
@@ -41,8 +44,15 @@ same-length c = search needs
 
 returns : tie.Need-returns Inv-loop μ-loop
 unfolding zeros
-returns c = let a = c .before .before .before .before .before .before .before .before .before .before .before .before .before .before .args in let l = c .before .before .before .before .before .before .before .before .before .before .loop in
-    zero-stop (a .copy) (a .head) (c .before .before .before .before .before .before .before .before .before .before .before .before .before .before .pre .2) (l .volume) (l .m) (c .before .before .before .before .before .before .before .before .before .before .before .body .ensures) (c .before .before .before .before .before .before .before .before .before .loop-test .taken) (c .before .before .before .before .before .before .before .before .before .before .before .before .base .ensures .0) (c .before .before .before .before .before .before .write-sector .ensures .0) (c .before .before .before .before .before .before .write-sector .ensures .1) (l .inv .2) (c .before .o .given .1)
+returns c =
+    let at-write-sector = c .before .before .before .before .before .before in
+    let at-loop-test = at-write-sector .before .before .before in
+    let at-base = at-loop-test .before .before .before in
+    let a = at-base .before .before .args in
+    let l = at-loop-test .before .loop in
+    zero-stop (a .copy) (a .head) (at-base .before .before .pre .2) (l .volume) (l .m) (at-loop-test .before .before .body .ensures)
+    (at-loop-test .loop-test .taken) (at-base .base .ensures .0) (at-write-sector .write-sector .ensures .0) (at-write-sector .write-sector .ensures .1)
+    (l .inv .2) (c .before .o .given .1)
 
 enum-told : tie.Need-enum-told Inv-loop μ-loop
 enum-told c = search needs
@@ -55,14 +65,27 @@ loop-less c = search needs
 
 loop-again : tie.Need-loop-again Inv-loop μ-loop
 unfolding zeros
-loop-again c = let a = c .before .before .before .before .before .before .before .before .before .before .before .before .before .args in let l = c .before .before .before .before .before .before .before .before .before .loop in
-    (omega arith, c .before .before .before .before .before .write-sector .kept .0 ∙ l .inv .1, zero-turn (a .copy) (a .head) (c .before .before .before .before .before .before .before .before .before .before .before .before .before .pre .2) (l .volume) (l .m) (c .before .before .before .before .before .before .before .before .before .before .body .ensures) (c .before .before .before .before .before .before .before .before .loop-test .taken) (c .before .before .before .before .before .before .before .before .before .before .before .base .ensures .0) (c .before .before .before .before .before .write-sector .ensures .0) (c .before .before .before .before .before .write-sector .ensures .1) (l .inv .2) (c .enum-told .given .1))
+loop-again c =
+    let a = c .before .before .before .before .before .before .before .before .before .before .before .before .before .args in
+    let l = c .before .before .before .before .before .before .before .before .before .loop in (
+      omega arith,
+      c .before .before .before .before .before .write-sector .kept .0 ∙ l .inv .1,
+      let at-write-sector = c .before .before .before .before .before in
+          let at-loop-test = at-write-sector .before .before .before in
+          let at-base = at-loop-test .before .before .before in
+          zero-turn (a .copy) (a .head) (at-base .before .before .pre .2) (l .volume) (l .m) (at-loop-test .before .before .body .ensures)
+          (at-loop-test .loop-test .taken) (at-base .base .ensures .0) (at-write-sector .write-sector .ensures .0) (at-write-sector .write-sector .ensures .1)
+          (l .inv .2) (c .enum-told .given .1),
+    )
 
 same-length-2 : tie.Need-same-length-2 Inv-loop μ-loop
 same-length-2 c = search needs
 
 returns-2 : tie.Need-returns-2 Inv-loop μ-loop
-returns-2 c = let a = c .before .before .before .before .before .args in let l = c .before .loop in zero-end (a .copy) (a .head) (c .before .before .before .before .before .pre .2) (l .volume) (l .m) (omega arith) (l .inv .2)
+returns-2 c =
+    let a = c .before .before .before .before .before .args in
+    let l = c .before .loop in
+    zero-end (a .copy) (a .head) (c .before .before .before .before .before .pre .2) (l .volume) (l .m) (omega arith) (l .inv .2)
 
 pub zero-body-spec : {M : Type 1} → statement M
 zero-body-spec =

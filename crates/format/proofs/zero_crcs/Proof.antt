@@ -43,7 +43,11 @@ loop-again c = let l = c .before .loop in let s = c .before .before .crc32 .resu
 
 returns : tie.Need-returns Inv-loop μ-loop
 unfolding zeros
-returns c = let l = c .before .loop in let n = c .before .before .before .before .args .n in let e : l .k ≡ n = omega arith in filled n (c .before .before .before .before .pre) (c .before .before .crc32 .ensures) (rw e at (l .inv .1))
+returns c =
+    let l = c .before .loop in
+    let n = c .before .before .before .before .args .n in
+    let e : l .k ≡ n = omega arith in
+    filled n (c .before .before .before .before .pre) (c .before .before .crc32 .ensures) (rw e at (l .inv .1))
 
 pub zero-crcs-spec : {M : Type 1} → statement M
 zero-crcs-spec =

@@ -31,7 +31,15 @@ taken-requires-2 c κs = search needs
 
 returns-2 : tie.Need-returns-2
 unfolding choiceOf pick
-returns-2 c = rw (← c .before .before .before .before .takes-b .ensures, c .before .before .before .if1 .left, ← c .before .before .before .before .before .is-ours .ensures, c .before .before .if2 .taken, ← c .before .is-ours2 .ensures) (c .taken2 .ensures)
+returns-2 c =
+    let at-if1 = c .before .before .before in
+    rw (
+      ← at-if1 .before .takes-b .ensures,
+      at-if1 .if1 .left,
+      ← at-if1 .before .before .is-ours .ensures,
+      c .before .before .if2 .taken,
+      ← c .before .is-ours2 .ensures,
+    ) (c .taken2 .ensures)
 
 is-damaged-requires : tie.Need-is-damaged-requires
 is-damaged-requires c κs = search needs
@@ -44,14 +52,36 @@ no-current-requires c κs = search needs
 
 returns-3 : tie.Need-returns-3
 unfolding choiceOf pick
-returns-3 c = rw (← c .before .before .before .before .before .before .takes-b .ensures, c .before .before .before .before .before .if1 .left, ← c .before .before .before .before .before .before .before .is-ours .ensures, c .before .before .before .before .if2 .left, ← c .before .before .before .is-damaged .ensures, ← c .before .before .is-damaged2 .ensures, c .before .if3 .taken) (c .no-current .ensures)
+returns-3 c =
+    let at-is-damaged = c .before .before .before in
+    let at-takes-b = at-is-damaged .before .before .before in
+    rw (
+      ← at-takes-b .takes-b .ensures,
+      at-is-damaged .before .before .if1 .left,
+      ← at-takes-b .before .is-ours .ensures,
+      at-is-damaged .before .if2 .left,
+      ← at-is-damaged .is-damaged .ensures,
+      ← c .before .before .is-damaged2 .ensures,
+      c .before .if3 .taken,
+    ) (c .no-current .ensures)
 
 no-current-requires-2 : tie.Need-no-current-requires-2
 no-current-requires-2 c κs = search needs
 
 returns-4 : tie.Need-returns-4
 unfolding choiceOf pick
-returns-4 c = rw (← c .before .before .before .before .before .before .takes-b .ensures, c .before .before .before .before .before .if1 .left, ← c .before .before .before .before .before .before .before .is-ours .ensures, c .before .before .before .before .if2 .left, ← c .before .before .before .is-damaged .ensures, ← c .before .before .is-damaged2 .ensures, c .before .if3 .left) (c .no-current2 .ensures)
+returns-4 c =
+    let at-is-damaged = c .before .before .before in
+    let at-takes-b = at-is-damaged .before .before .before in
+    rw (
+      ← at-takes-b .takes-b .ensures,
+      at-is-damaged .before .before .if1 .left,
+      ← at-takes-b .before .is-ours .ensures,
+      at-is-damaged .before .if2 .left,
+      ← at-is-damaged .is-damaged .ensures,
+      ← c .before .before .is-damaged2 .ensures,
+      c .before .if3 .left,
+    ) (c .no-current2 .ensures)
 
 pub choice-spec : {M : Type 1} → statement M
 choice-spec =

@@ -14,9 +14,10 @@ start c = c .before .before .before .before .before .before .before .before
 -- A is read
 seen : (c : tie.After-is-foreign) → Seen (start c .args .volume .now) (start c .args .medium) (c .before .copy-at .result) (c .is-foreign .result)
 seen c =
+    let at-readable = c .before .before .before .before in
     record {
-      enough = rw (c .before .before .before .before .before .before .sectors .ensures) at (le-ltb _ _ (c .before .before .before .before .before .if1 .left));
-      reads = told (c .before .before .before .before .readable .ensures) (c .before .before .enum-told .given .1);
+      enough = rw (at-readable .before .before .sectors .ensures) at (le-ltb _ _ (at-readable .before .if1 .left));
+      reads = told (at-readable .readable .ensures) (c .before .before .enum-told .given .1);
       copy = c .before .copy-at .ensures;
       foreign = c .is-foreign .ensures;
     }
@@ -42,7 +43,14 @@ no-copies-requires-2 c κs = search needs
 
 returns-2 : tie.Need-returns-2
 unfolding headersOf pick onDone
-returns-2 c = rw (← c .before .before .before .before .before .before .sectors .ensures, le-ltb _ _ (c .before .before .before .before .before .if1 .left), ← c .before .before .before .before .readable .ensures, c .before .before .ra .given .1) (c .no-copies2 .ensures)
+returns-2 c =
+    let at-readable = c .before .before .before .before in
+    rw (
+      ← at-readable .before .before .sectors .ensures,
+      le-ltb _ _ (at-readable .before .if1 .left),
+      ← at-readable .readable .ensures,
+      c .before .before .ra .given .1,
+    ) (c .no-copies2 .ensures)
 
 enum-told : tie.Need-enum-told
 enum-told c = search needs
@@ -69,7 +77,10 @@ no-copies-requires-4 : tie.Need-no-copies-requires-4
 no-copies-requires-4 c κs = search needs
 
 returns-4 : tie.Need-returns-4
-returns-4 c = unread-b (seen (c .before .before .before .before .before .before)) (c .before .before .before .before .before .if2 .left) (c .before .before .before .before .readable2 .ensures) (c .before .before .rb .given .1) (c .no-copies4 .ensures)
+returns-4 c =
+    let at-readable2 = c .before .before .before .before in
+    unread-b (seen (at-readable2 .before .before)) (at-readable2 .before .if2 .left) (at-readable2 .readable2 .ensures) (c .before .before .rb .given .1)
+    (c .no-copies4 .ensures)
 
 enum-told-2 : tie.Need-enum-told-2
 enum-told-2 c = search needs
@@ -84,10 +95,20 @@ no-copies-requires-5 : tie.Need-no-copies-requires-5
 no-copies-requires-5 c κs = search needs
 
 returns-5 : tie.Need-returns-5
-returns-5 c = foreign-b (seen (c .before .before .before .before .before .before .before .before)) (c .before .before .before .before .before .before .before .if2 .left) (c .before .before .before .before .before .before .readable2 .ensures) (c .before .before .before .before .enum-told2 .given .1) (c .before .before .before .copy-at2 .ensures) (c .before .before .is-foreign2 .ensures) (c .before .if3 .taken) (c .no-copies5 .ensures)
+returns-5 c =
+    let at-copy-at2 = c .before .before .before in
+    let at-readable2 = at-copy-at2 .before .before .before in
+    foreign-b (seen (at-readable2 .before .before)) (at-readable2 .before .if2 .left) (at-readable2 .readable2 .ensures)
+    (at-copy-at2 .before .enum-told2 .given .1) (at-copy-at2 .copy-at2 .ensures) (c .before .before .is-foreign2 .ensures) (c .before .if3 .taken)
+    (c .no-copies5 .ensures)
 
 returns-6 : tie.Need-returns-6
-returns-6 c = both (seen (c .before .before .before .before .before .before .before .before .before)) (c .before .before .before .before .before .before .before .before .if2 .left) (c .before .before .before .before .before .before .before .readable2 .ensures) (c .before .before .before .before .before .enum-told2 .given .1) (c .before .before .before .before .copy-at2 .ensures) (c .before .before .before .is-foreign2 .ensures) (c .before .before .if3 .left)
+returns-6 c =
+    let at-is-foreign2 = c .before .before .before in
+    let at-readable2 = at-is-foreign2 .before .before .before .before in
+    both (seen (at-readable2 .before .before)) (at-readable2 .before .if2 .left) (at-readable2 .readable2 .ensures)
+    (at-is-foreign2 .before .before .enum-told2 .given .1) (at-is-foreign2 .before .copy-at2 .ensures) (at-is-foreign2 .is-foreign2 .ensures)
+    (c .before .before .if3 .left)
 
 pub headers-spec : {M : Type 1} → statement M
 headers-spec =

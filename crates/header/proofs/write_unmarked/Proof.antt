@@ -13,7 +13,9 @@ enum-told : tie.Need-enum-told
 enum-told c = search needs
 
 returns : tie.Need-returns
-returns c = let a = c .before .before .before .before .args in write-refused (a .volume .now) (a .medium) (baseOf (a .copy)) (unmarkedOf (a .head)) (c .before .before .spend .ensures) (c .enum-told .given .1)
+returns c =
+    let a = c .before .before .before .before .args in
+    write-refused (a .volume .now) (a .medium) (baseOf (a .copy)) (unmarkedOf (a .head)) (c .before .before .spend .ensures) (c .enum-told .given .1)
 
 enum-told-2 : tie.Need-enum-told-2
 enum-told-2 c = search needs
@@ -43,9 +45,14 @@ same-length : tie.Need-same-length
 same-length c = search needs
 
 returns-2 : tie.Need-returns-2
-returns-2 c = let a = c .before .before .before .before .before .before .before .before .before .args in let p = c .before .before .encode-unmarked in
-    write-done (a .volume .now) (a .medium) (baseOf (a .copy)) (unmarkedOf (a .head)) (c .before .before .before .before .before .before .before .spend .ensures) (c .before .before .before .before .before .enum-told2 .given .1)
-    (in-place (a .volume .now) (unmarkedOf (a .head)) (c .before .before .before .before .base .ensures .0) (p .ensures) (p .kept .1 .0 ∙ c .before .before .before .encode-unmarked-arg .given .2))
+returns-2 c =
+    let at-encode-unmarked-arg = c .before .before .before in
+    let at-spend = at-encode-unmarked-arg .before .before .before .before in
+    let a = at-spend .before .before .args in
+    let p = c .before .before .encode-unmarked in
+    write-done (a .volume .now) (a .medium) (baseOf (a .copy)) (unmarkedOf (a .head)) (at-spend .spend .ensures)
+    (at-encode-unmarked-arg .before .before .enum-told2 .given .1) (in-place (a .volume .now) (unmarkedOf (a .head))
+    (at-encode-unmarked-arg .before .base .ensures .0) (p .ensures) (p .kept .1 .0 ∙ at-encode-unmarked-arg .encode-unmarked-arg .given .2))
 
 pub write-unmarked-spec : {M : Type 1} → statement M
 write-unmarked-spec =

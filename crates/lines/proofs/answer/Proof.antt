@@ -15,7 +15,13 @@ slice-aggregate-put-reply c = search needs
 
 put-reply-requires : tie.Need-put-reply-requires
 unfolding zeros
-put-reply-requires c κs = (c .before .before .before .before .before .before .before .before .before .before .before .before .pre, search needs, reply-few (c .before .before .before .before .before .before .before .before .before .before .before .before .args .volume .now) (c .before .before .before .before .before .before .before .before .before .before .before .before .args .session) (c .before .before .before .before .before .before .before .before .before .before .before .before .args .line .now) (c .before .before .before .before .before .before .step .result) (c .before .before .before .before .before .before .step .ensures))
+put-reply-requires c κs = (
+  c .before .before .before .before .before .before .before .before .before .before .before .before .pre,
+  search needs,
+  let at-step = c .before .before .before .before .before .before in
+      let args = at-step .before .before .before .before .before .before .args in
+      reply-few (args .volume .now) (args .session) (args .line .now) (at-step .step .result) (at-step .step .ensures),
+)
 
 same-length : tie.Need-same-length
 same-length c = search needs
@@ -25,7 +31,11 @@ same-length-2 c = search needs
 
 returns : tie.Need-returns
 unfolding zeros
-returns c = answered (c .before .before .before .before .before .before .before .before .before .before .before .before .before .before .before .args .volume .now) (c .before .before .before .before .before .before .before .before .before .before .before .before .before .before .before .args .session) (c .before .before .before .before .before .before .before .before .before .before .before .before .before .before .before .args .line .now) (c .before .before .before .before .before .before .before .before .before .step .result) (c .before .before .before .before .before .before .before .before .before .step .ensures) (c .before .before .before .before .before .before .before .before .before .before .before .before .before .before .before .args .out .now) (c .before .before .put-reply .ensures)
+returns c =
+    let at-step = c .before .before .before .before .before .before .before .before .before in
+    let args = at-step .before .before .before .before .before .before .args in
+    answered (args .volume .now) (args .session) (args .line .now) (at-step .step .result) (at-step .step .ensures) (args .out .now)
+    (c .before .before .put-reply .ensures)
 
 pub answer-spec : {M : Type 1} → statement M
 answer-spec =

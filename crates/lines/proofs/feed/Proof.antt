@@ -9,7 +9,9 @@ use Rattle.lines.proofs.feed.Statement.{statement}
 use Rattle.lines.proofs.feed.Tie as tie
 
 abbrev Inv-loop : tie.InvT-loop
-Inv-loop volume₀ bytes line₀ fill out₀ s₀ kept₀ at₀ volume line out s kept at = (at ≤ length bytes) × (kept ≤ 601) × (length volume ≡ length volume₀) × (length line ≡ length line₀) × (length out ≡ length out₀) × (feedOf (held volume s (take kept line)) (drop at bytes) .held ≡ feedOf (held volume₀ s₀ (take fill line₀)) bytes .held)
+Inv-loop volume₀ bytes line₀ fill out₀ s₀ kept₀ at₀ volume line out s kept at =
+    (at ≤ length bytes) × (kept ≤ 601) × (length volume ≡ length volume₀) × (length line ≡ length line₀) × (length out ≡ length out₀)
+    × (feedOf (held volume s (take kept line)) (drop at bytes) .held ≡ feedOf (held volume₀ s₀ (take fill line₀)) bytes .held)
 
 abbrev μ-loop : tie.MeasureT-loop
 μ-loop volume₀ bytes line₀ fill out₀ s₀ kept₀ at₀ volume line out s kept at = length bytes - at
@@ -33,10 +35,28 @@ write-all-requires : tie.Need-write-all-requires Inv-loop μ-loop
 write-all-requires c κs = search needs
 
 loop-less : tie.Need-loop-less Inv-loop μ-loop
-loop-less c = omega (arith, c .before .before .before .before .before .before .before .before .before .before .piece .ensures .1, c .before .before .before .before .before .before .before .before .before .before .piece .ensures .4 (c .before .before .before .before .before .before .before .before .before .before .before .before .before .before .loop-test .taken))
+loop-less c =
+    omega (
+      arith,
+      c .before .before .before .before .before .before .before .before .before .before .piece .ensures .1,
+      let at-piece = c .before .before .before .before .before .before .before .before .before .before in
+          at-piece .piece .ensures .4 (at-piece .before .before .before .before .loop-test .taken),
+    )
 
 loop-again : tie.Need-loop-again Inv-loop μ-loop
-loop-again c = let l = c .before .before .before .before .before .before .before .before .before .before .before .before .before .before .before .loop in let a = c .before .before .before .before .before .before .before .before .before .before .before .before .before .before .before .before .before .before .before .before .args in let p = c .before .before .before .before .before .before .before .before .before .before .piece .ensures in (p .1, p .2, search needs, search needs, search needs, feed-turn (held (l .volume) (l .s) (take (l .kept) (l .line))) (a .bytes .now) (l .at) (c .before .before .before .before .before .before .before .before .before .before .piece .result) _ _ _ (p .0) ∙ l .inv .5)
+loop-again c =
+    let l = c .before .before .before .before .before .before .before .before .before .before .before .before .before .before .before .loop in
+    let a = c .before .before .before .before .before .before .before .before .before .before .before .before .before .before .before .before .before .before
+    .before .before .args in
+    let p = c .before .before .before .before .before .before .before .before .before .before .piece .ensures in (
+      p .1,
+      p .2,
+      search needs,
+      search needs,
+      search needs,
+      feed-turn (held (l .volume) (l .s) (take (l .kept) (l .line))) (a .bytes .now) (l .at)
+          (c .before .before .before .before .before .before .before .before .before .before .piece .result) _ _ _ (p .0) ∙ l .inv .5,
+    )
 
 same-length : tie.Need-same-length Inv-loop μ-loop
 same-length c = search needs
@@ -48,7 +68,10 @@ same-length-3 : tie.Need-same-length-3 Inv-loop μ-loop
 same-length-3 c = search needs
 
 returns : tie.Need-returns Inv-loop μ-loop
-returns c = let l = c .before .loop in let a = c .before .before .before .before .before .before .args in (sym (feed-none (held (l .volume) (l .s) (take (l .kept) (l .line))) (a .bytes .now) (l .at) (omega arith)) ∙ l .inv .5, l .inv .1)
+returns c =
+    let l = c .before .loop in
+    let a = c .before .before .before .before .before .before .args in
+    (sym (feed-none (held (l .volume) (l .s) (take (l .kept) (l .line))) (a .bytes .now) (l .at) (omega arith)) ∙ l .inv .5, l .inv .1)
 
 pub feed-spec : {M : Type 1} → statement M
 feed-spec =

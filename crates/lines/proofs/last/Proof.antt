@@ -5,7 +5,10 @@ use Rattle.lines.proofs.last.Statement.{statement}
 use Rattle.lines.proofs.last.Tie as tie
 
 returns : tie.Need-returns
-returns c = (last-empty (c .before .before .before .before .args .volume .now) (c .before .before .before .before .args .session) (c .before .before .before .before .args .line .now) (c .before .before .before .before .args .out .now) (c .if1 .taken), omega arith)
+returns c = (
+  let args = c .before .before .before .before .args in last-empty (args .volume .now) (args .session) (args .line .now) (args .out .now) (c .if1 .taken),
+  omega arith,
+)
 
 answer-requires : tie.Need-answer-requires
 answer-requires c κs = search needs
@@ -17,7 +20,13 @@ same-length-2 : tie.Need-same-length-2
 same-length-2 c = search needs
 
 returns-2 : tie.Need-returns-2
-returns-2 c = (last-line (c .before .before .before .before .before .before .before .before .before .before .before .args .volume .now) (c .before .before .before .before .before .before .before .before .before .before .before .args .session) (c .before .before .before .before .before .before .before .before .before .before .before .args .line .now) (c .before .before .before .before .before .before .before .before .before .before .before .args .out .now) (c .before .before .before .before .before .before .before .if1 .left) (c .before .before .before .before .answer .ensures .2), c .before .before .before .before .answer .ensures .3)
+returns-2 c =
+    let at-answer = c .before .before .before .before in
+    let at-if1 = at-answer .before .before .before in
+    let args = at-if1 .before .before .before .before .args in (
+      last-line (args .volume .now) (args .session) (args .line .now) (args .out .now) (at-if1 .if1 .left) (at-answer .answer .ensures .2),
+      at-answer .answer .ensures .3,
+    )
 
 pub last-spec : {M : Type 1} → statement M
 last-spec =

@@ -12,7 +12,17 @@ same-length : tie.Need-same-length
 same-length c = search needs
 
 returns : tie.Need-returns
-returns c = let a = c .before .before .before .before .before .before .before .before .before .before .args in let g = c .before .before .before .before .gather .ensures in (passed-open (a .volume .now) (a .session) (take (a .fill) (a .line .now)) (a .bytes .now) (a .at) (c .before .before .before .before .gather .last .1 .1 .0) (c .before .before .before .before .gather .result) (g .0) (c .if1 .taken) (a .out .now), g .0 .3, g .0 .4, omega arith, g .1)
+returns c =
+    let a = c .before .before .before .before .before .before .before .before .before .before .args in
+    let g = c .before .before .before .before .gather .ensures in (
+      let at-gather = c .before .before .before .before in
+          passed-open (a .volume .now) (a .session) (take (a .fill) (a .line .now)) (a .bytes .now) (a .at) (at-gather .gather .last .1 .1 .0)
+          (at-gather .gather .result) (g .0) (c .if1 .taken) (a .out .now),
+      g .0 .3,
+      g .0 .4,
+      omega arith,
+      g .1,
+    )
 
 sub-answer : tie.Need-sub-answer
 sub-answer c = search needs
@@ -36,7 +46,20 @@ same-length-4 : tie.Need-same-length-4
 same-length-4 c = search needs
 
 returns-2 : tie.Need-returns-2
-returns-2 c = let a = c .before .before .before .before .before .before .before .before .before .before .before .before .before .before .before .before .before .before .before .before .args in let g = c .before .before .before .before .before .before .before .before .before .before .before .before .before .before .gather .ensures in let r = c .before .before .before .before .before .answer .ensures in (passed-ended (a .volume .now) (a .session) (take (a .fill) (a .line .now)) (a .bytes .now) (a .at) (c .before .before .before .before .before .before .before .before .before .before .before .before .before .before .gather .last .1 .1 .0) (c .before .before .before .before .before .before .before .before .before .before .before .before .before .before .gather .result) (g .0) (c .before .before .before .before .before .before .before .before .before .before .if1 .left) (a .out .now) r, g .0 .3, omega arith, r .3, g .1)
+returns-2 c =
+    let a = c .before .before .before .before .before .before .before .before .before .before .before .before .before .before .before .before .before .before
+    .before .before .args in
+    let g = c .before .before .before .before .before .before .before .before .before .before .before .before .before .before .gather .ensures in
+    let r = c .before .before .before .before .before .answer .ensures in (
+      let at-if1 = c .before .before .before .before .before .before .before .before .before .before in
+          let at-gather = at-if1 .before .before .before .before in
+          passed-ended (a .volume .now) (a .session) (take (a .fill) (a .line .now)) (a .bytes .now) (a .at) (at-gather .gather .last .1 .1 .0)
+          (at-gather .gather .result) (g .0) (at-if1 .if1 .left) (a .out .now) r,
+      g .0 .3,
+      omega arith,
+      r .3,
+      g .1,
+    )
 
 pub piece-spec : {M : Type 1} → statement M
 piece-spec =

@@ -7,7 +7,9 @@ use Rattle.lines.proofs.run.Statement.{statement}
 use Rattle.lines.proofs.run.Tie as tie
 
 abbrev Inv-loop : tie.InvT-loop
-Inv-loop volume₀ bytes₀ line₀ out₀ s₀ fill₀ n₀ turns₀ volume bytes line out s fill n turns = (n ≤ length bytes) × (fill ≤ 601) × (length volume ≡ length volume₀) × (length bytes ≡ length bytes₀) × (length line ≡ length line₀) × (length out ≡ length out₀)
+Inv-loop volume₀ bytes₀ line₀ out₀ s₀ fill₀ n₀ turns₀ volume bytes line out s fill n turns =
+    (n ≤ length bytes) × (fill ≤ 601) × (length volume ≡ length volume₀) × (length bytes ≡ length bytes₀) × (length line ≡ length line₀)
+    × (length out ≡ length out₀)
 
 abbrev μ-loop : tie.MeasureT-loop
 μ-loop volume₀ bytes₀ line₀ out₀ s₀ fill₀ n₀ turns₀ volume bytes line out s fill n turns = turns
@@ -46,7 +48,14 @@ loop-less : tie.Need-loop-less Inv-loop μ-loop
 loop-less c = search needs
 
 loop-again : tie.Need-loop-again Inv-loop μ-loop
-loop-again c = (c .before .before .before .read-some2 .ensures, c .before .before .before .before .before .before .before .before .before .before .before .before .feed .ensures .1, search needs, search needs, search needs, search needs)
+loop-again c = (
+  c .before .before .before .read-some2 .ensures,
+  c .before .before .before .before .before .before .before .before .before .before .before .before .feed .ensures .1,
+  search needs,
+  search needs,
+  search needs,
+  search needs,
+)
 
 sub-last : tie.Need-sub-last Inv-loop μ-loop
 sub-last c = search needs

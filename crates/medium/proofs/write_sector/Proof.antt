@@ -11,7 +11,9 @@ enum-told : tie.Need-enum-told
 enum-told c = search needs
 
 returns : tie.Need-returns
-returns c = let a = c .before .before .before .before .args in write-refused (a .volume .now) (a .medium) (a .at) (a .sector .now) (c .before .before .spend .ensures) (c .enum-told .given .1)
+returns c =
+    let a = c .before .before .before .before .args in
+    write-refused (a .volume .now) (a .medium) (a .at) (a .sector .now) (c .before .before .spend .ensures) (c .enum-told .given .1)
 
 enum-told-2 : tie.Need-enum-told-2
 enum-told-2 c = search needs
@@ -27,7 +29,11 @@ same-length c = search needs
 
 returns-2 : tie.Need-returns-2
 unfolding writeAt
-returns-2 c = let a = c .before .before .before .before .before .before .before .before .before .args in write-done (a .volume .now) (a .medium) (a .at) (a .sector .now) (c .before .before .before .before .before .before .before .spend .ensures) (c .before .before .before .before .before .enum-told2 .given .1) (c .before .before .put-bytes .ensures)
+returns-2 c =
+    let at-enum-told2 = c .before .before .before .before .before in
+    let a = at-enum-told2 .before .before .before .before .args in
+    write-done (a .volume .now) (a .medium) (a .at) (a .sector .now) (at-enum-told2 .before .before .spend .ensures) (at-enum-told2 .enum-told2 .given .1)
+    (c .before .before .put-bytes .ensures)
 
 pub write-sector-spec : {M : Type 1} → statement M
 write-sector-spec =

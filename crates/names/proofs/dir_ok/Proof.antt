@@ -35,7 +35,9 @@ name-ok-requires : tie.Need-name-ok-requires
 name-ok-requires c κs = search needs
 
 returns-4 : tie.Need-returns-4
-returns-4 c = (simp sub-zero at (c .name-ok .ensures)) ∙ sym (dir-name _ (c .before .before .before .before .before .if1 .left) (omega arith) (c .before .before .if3 .left))
+returns-4 c =
+    (simp sub-zero at (c .name-ok .ensures)) ∙ sym
+    (dir-name _ (c .before .before .before .before .before .if1 .left) (omega arith) (c .before .before .if3 .left))
 
 pub dir-ok-spec : {M : Type 1} → statement M
 dir-ok-spec =

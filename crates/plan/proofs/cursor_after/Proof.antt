@@ -15,7 +15,12 @@ enum-known-edit : tie.Need-enum-known-edit
 enum-known-edit c = search needs
 
 add-result : tie.Need-add-result
-add-result c = omega (arith, c .before .before .before .pre, create-fits (c .before .before .before .args .head .chunks) (c .before .edit .given .1) (c .before .before .before .pre .0))
+add-result c =
+    omega (
+      arith,
+      c .before .before .before .pre,
+      let start = c .before .before .before in create-fits (start .args .head .chunks) (c .before .edit .given .1) (start .pre .0),
+    )
 
 rem-result : tie.Need-rem-result
 rem-result c = search needs
@@ -24,7 +29,12 @@ enum-known-edit-2 : tie.Need-enum-known-edit-2
 enum-known-edit-2 c = search needs
 
 add-result-2 : tie.Need-add-result-2
-add-result-2 c = omega (arith, c .before .before .before .pre, extend-fits (c .before .before .before .args .head .chunks) (c .before .edit2 .given .1) (c .before .before .before .pre .0))
+add-result-2 c =
+    omega (
+      arith,
+      c .before .before .before .pre,
+      let start = c .before .before .before in extend-fits (start .args .head .chunks) (c .before .edit2 .given .1) (start .pre .0),
+    )
 
 rem-result-2 : tie.Need-rem-result-2
 rem-result-2 c = search needs

@@ -15,7 +15,7 @@ enum-known-edit : tie.Need-enum-known-edit
 enum-known-edit c = search needs
 
 add-result : tie.Need-add-result
-add-result c = omega (arith, create-fits (c .before .before .before .args .head .chunks) (c .before .edit .given .1) (c .before .before .before .pre))
+add-result c = omega (arith, let start = c .before .before .before in create-fits (start .args .head .chunks) (c .before .edit .given .1) (start .pre))
 
 enum-told-2 : tie.Need-enum-told-2
 enum-told-2 c = search needs

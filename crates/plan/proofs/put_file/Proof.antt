@@ -35,7 +35,11 @@ same-length c = search needs
 
 returns-2 : tie.Need-returns-2
 unfolding entryPut pick
-returns-2 c = let a = c .before .before .before .before .before .before .before .args in rw (eq-eqb _ _ (c .before .before .before .before .if1 .left)) (entry-back (a .slot) (a .id) (a .name .now) (a .sector .now) (c .before .before .before .before .before .before .before .pre .1) (c .before .before .put-entry .ensures))
+returns-2 c =
+    let at-if1 = c .before .before .before .before in
+    let start = at-if1 .before .before .before in
+    let a = start .args in
+    rw (eq-eqb _ _ (at-if1 .if1 .left)) (entry-back (a .slot) (a .id) (a .name .now) (a .sector .now) (start .pre .1) (c .before .before .put-entry .ensures))
 
 pub put-file-spec : {M : Type 1} → statement M
 put-file-spec =

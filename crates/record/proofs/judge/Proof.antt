@@ -24,11 +24,18 @@ cast-n c = search needs
 
 returns-2 : tie.Need-returns-2
 unfolding judgeOf pick
-returns-2 c = rw (told (c .before .before .before .before .matches .ensures) (not-false _ (c .before .before .before .if1 .left)), told (c .before .before .is-sealed .ensures) (c .before .if2 .taken), c .get-u16 .ensures)
+returns-2 c =
+    let at-if1 = c .before .before .before in
+    rw (
+      told (at-if1 .before .matches .ensures) (not-false _ (at-if1 .if1 .left)),
+      told (c .before .before .is-sealed .ensures) (c .before .if2 .taken),
+      c .get-u16 .ensures,
+    )
 
 returns-3 : tie.Need-returns-3
 unfolding judgeOf pick
-returns-3 c = rw (told (c .before .before .before .matches .ensures) (not-false _ (c .before .before .if1 .left)), told (c .before .is-sealed .ensures) (c .if2 .left))
+returns-3 c =
+    rw (told (c .before .before .before .matches .ensures) (not-false _ (c .before .before .if1 .left)), told (c .before .is-sealed .ensures) (c .if2 .left))
 
 pub judge-spec : {M : Type 1} → statement M
 judge-spec =

@@ -21,7 +21,14 @@ get-u32-requires-2 c κs = search needs
 returns : tie.Need-returns
 unfolding matchesOf
 returns c =
-    rw (c .before .before .before .before .before .get-u16 .ensures, c .before .before .before .starts-with .ensures, c .before .before .get-u64 .ensures, c .before .get-u32 .ensures, c .get-u322 .ensures)
+    let at-starts-with = c .before .before .before in
+    rw (
+      at-starts-with .before .before .get-u16 .ensures,
+      at-starts-with .starts-with .ensures,
+      c .before .before .get-u64 .ensures,
+      c .before .get-u32 .ensures,
+      c .get-u322 .ensures,
+    )
 
 pub matches-spec : {M : Type 1} → statement M
 matches-spec =

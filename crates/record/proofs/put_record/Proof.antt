@@ -35,17 +35,18 @@ same-length c = search needs
 
 returns : tie.Need-returns
 returns c =
-    let z = c .before .before in
-    let y = z .before .before .before .before in
-    let x = y .before .before .before .before in
-    let w = x .before .before .before .before in
-    let v = w .before .before .before .before in
-    let u = v .before .before .before .before in
-    let b = u .before .before .before .before in
-    let a = b .before .before .before .before in
-    let s = a .before .before .before .before .before .before in
-    record-made (s .args .id) (s .args .file) (s .args .number) (s .args .payload .now) (s .args .sector .now) (s .pre .0) (a .put-bytes .ensures) (b .put-zeros .ensures)
-    (u .put-u16 .ensures) (v .put-u32 .ensures) (w .put-u322 .ensures) (x .put-u64 .ensures) (y .put-bytes2 .ensures) (z .seal .ensures)
+    let at-seal = c .before .before in
+    let at-put-bytes2 = at-seal .before .before .before .before in
+    let at-put-u64 = at-put-bytes2 .before .before .before .before in
+    let at-put-u322 = at-put-u64 .before .before .before .before in
+    let at-put-u32 = at-put-u322 .before .before .before .before in
+    let at-put-u16 = at-put-u32 .before .before .before .before in
+    let at-put-zeros = at-put-u16 .before .before .before .before in
+    let at-put-bytes = at-put-zeros .before .before .before .before in
+    let start = at-put-bytes .before .before .before .before .before .before in
+    record-made (start .args .id) (start .args .file) (start .args .number) (start .args .payload .now) (start .args .sector .now) (start .pre .0)
+    (at-put-bytes .put-bytes .ensures) (at-put-zeros .put-zeros .ensures) (at-put-u16 .put-u16 .ensures) (at-put-u32 .put-u32 .ensures)
+    (at-put-u322 .put-u322 .ensures) (at-put-u64 .put-u64 .ensures) (at-put-bytes2 .put-bytes2 .ensures) (at-seal .seal .ensures)
 
 pub put-record-spec : {M : Type 1} → statement M
 put-record-spec =

@@ -19,7 +19,9 @@ enum-known-o c = search needs
 
 returns : tie.Need-returns
 unfolding readRecordOf onDone
-returns c = rw (← c .before .before .before .before .«data» .ensures, told (c .before .before .before .readable .ensures) (c .before .o .given .1))
+returns c =
+    let at-readable = c .before .before .before in
+    rw (← at-readable .before .«data» .ensures, told (at-readable .readable .ensures) (c .before .o .given .1))
 
 enum-told : tie.Need-enum-told
 enum-told c = search needs
@@ -44,7 +46,10 @@ judge-requires c κs = search needs
 
 returns-2 : tie.Need-returns-2
 unfolding readRecordOf onDone sectorAt part
-returns-2 c = rw (← c .before .before .before .before .before .«data» .ensures, told (c .before .before .before .before .readable .ensures) (c .before .before .enum-told .given .1)) (simp add-sub-cancel-left at (c .judge .ensures))
+returns-2 c =
+    let at-readable = c .before .before .before .before in
+    rw (← at-readable .before .«data» .ensures, told (at-readable .readable .ensures) (c .before .before .enum-told .given .1))
+    (simp add-sub-cancel-left at (c .judge .ensures))
 
 pub record-spec : {M : Type 1} → statement M
 record-spec =

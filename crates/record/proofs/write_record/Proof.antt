@@ -48,12 +48,14 @@ same-length c = search needs
 
 returns-2 : tie.Need-returns-2
 returns-2 c =
-    let d = c .before .before .before .before in
-    let s = d .before .before .before .before .before .before in
-    let a = s .args in
+    let at-put-record-arg = c .before .before .before in
+    let at-data = at-put-record-arg .before in
+    let at-spend = at-data .before .before .before in
+    let a = at-spend .before .before .before .args in
     let r : List ℕ = recordOf (a .store .head .id) (a .id) (a .number) (a .payload .now) in
-    write-done (a .volume .now) (a .medium) (dataAt (a .store) (a .chunk) (a .index)) r (d .before .before .before .spend .ensures) (d .before .enum-told2 .given .1)
-    (in-place (a .volume .now) r (d .«data» .ensures) (c .before .before .put-record .ensures) (c .before .before .put-record .kept .0 ∙ c .before .before .before .put-record-arg .given .2))
+    write-done (a .volume .now) (a .medium) (dataAt (a .store) (a .chunk) (a .index)) r (at-spend .spend .ensures) (at-data .before .enum-told2 .given .1)
+    (in-place (a .volume .now) r (at-data .«data» .ensures) (c .before .before .put-record .ensures)
+    (c .before .before .put-record .kept .0 ∙ at-put-record-arg .put-record-arg .given .2))
 
 pub write-record-spec : {M : Type 1} → statement M
 write-record-spec =

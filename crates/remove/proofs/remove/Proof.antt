@@ -17,7 +17,7 @@ part-commit-end c = search needs
 
 commit-requires : tie.Need-commit-requires
 unfolding isFormat
-commit-requires c κs = (c .before .before .before .before .pre .0, c .before .before .before .before .pre .1, refl, lit≤ tt)
+commit-requires c κs = let start = c .before .before .before .before in (start .pre .0, start .pre .1, refl, lit≤ tt)
 
 enum-told : tie.Need-enum-told
 enum-told c = search needs
@@ -26,7 +26,10 @@ same-length : tie.Need-same-length
 same-length c = search needs
 
 returns : tie.Need-returns
-returns c = let a = c .before .before .before .before .before .before .before .before .before .before .before .args in remove-refused (a .volume .now) (a .medium) (a .store) (a .slot) (a .id) (c .before .before .before .before .before .before .commit .ensures) (c .enum-told .given .1)
+returns c =
+    let at-commit = c .before .before .before .before .before .before in
+    let a = at-commit .before .before .before .before .before .args in
+    remove-refused (a .volume .now) (a .medium) (a .store) (a .slot) (a .id) (at-commit .commit .ensures) (c .enum-told .given .1)
 
 enum-told-2 : tie.Need-enum-told-2
 enum-told-2 c = search needs
@@ -38,7 +41,11 @@ same-length-2 : tie.Need-same-length-2
 same-length-2 c = search needs
 
 returns-2 : tie.Need-returns-2
-returns-2 c = let a = c .before .before .before .before .before .before .before .before .before .before .before .before .args in remove-done (a .volume .now) (a .medium) (a .store) (a .slot) (a .id) (c .before .before .before .before .before .before .before .commit .ensures) (c .before .enum-told2 .given .1) (c .closed-for .ensures)
+returns-2 c =
+    let at-commit = c .before .before .before .before .before .before .before in
+    let a = at-commit .before .before .before .before .before .args in
+    remove-done (a .volume .now) (a .medium) (a .store) (a .slot) (a .id) (at-commit .commit .ensures) (c .before .enum-told2 .given .1)
+    (c .closed-for .ensures)
 
 pub remove-spec : {M : Type 1} → statement M
 remove-spec =

@@ -27,22 +27,42 @@ same-length : tie.Need-same-length
 same-length c = search needs
 
 returns : tie.Need-returns
-returns c = let a = c .before .before .before .before .before .before .before .before .before .before .args in made-of (c .none-gone2 .ensures) (oldest-none (a .volume .now) (a .medium) (a .store) (a .dir .now) (a .keeping) (a .keep) (c .before .before .before .before .before .before .oldest .ensures) (c .before .before .before .before .found2 .given .1) (not-true _ (c .before .if1 .taken)))
+returns c =
+    let at-found2 = c .before .before .before .before in
+    let a = at-found2 .before .before .before .before .before .before .args in
+    made-of (c .none-gone2 .ensures) (oldest-none (a .volume .now) (a .medium) (a .store) (a .dir .now) (a .keeping) (a .keep)
+    (at-found2 .before .before .oldest .ensures) (at-found2 .found2 .given .1) (not-true _ (c .before .if1 .taken)))
 
 take-away-requires : tie.Need-take-away-requires
-take-away-requires c κs = let a = c .before .before .before .before .before .before .before .before .before .before .args in (c .before .before .before .before .before .before .before .before .before .before .pre, oldest-file (a .volume .now) (a .medium) (a .store) (a .dir .now) (a .keeping) (a .keep) (sym (c .before .before .before .before .before .before .oldest .ensures) ∙ c .before .before .before .before .found2 .given .1) (not-false _ (c .before .if1 .left)) .file .below)
+take-away-requires c κs =
+    let at-found2 = c .before .before .before .before in
+    let start = at-found2 .before .before .before .before .before .before in
+    let a = start .args in (
+      start .pre,
+      oldest-file (a .volume .now) (a .medium) (a .store) (a .dir .now) (a .keeping) (a .keep)
+          (sym (at-found2 .before .before .oldest .ensures) ∙ at-found2 .found2 .given .1) (not-false _ (c .before .if1 .left)) .file .below,
+    )
 
 same-length-2 : tie.Need-same-length-2
 same-length-2 c = search needs
 
 returns-2 : tie.Need-returns-2
-returns-2 c = let a = c .before .before .before .before .before .before .before .before .args in made-of (c .none-gone .ensures) (oldest-refused (a .volume .now) (a .medium) (a .store) (a .dir .now) (a .keeping) (a .keep) (c .before .before .before .before .oldest .ensures) (c .before .before .found .given .1))
+returns-2 c =
+    let at-oldest = c .before .before .before .before in
+    let a = at-oldest .before .before .before .before .args in
+    made-of (c .none-gone .ensures) (oldest-refused (a .volume .now) (a .medium) (a .store) (a .dir .now) (a .keeping) (a .keep) (at-oldest .oldest .ensures)
+    (c .before .before .found .given .1))
 
 same-length-3 : tie.Need-same-length-3
 same-length-3 c = search needs
 
 returns-3 : tie.Need-returns-3
-returns-3 c = let a = c .before .before .before .before .before .before .before .before .before .before .before .before .before .args in oldest-goes (a .volume .now) (a .medium) (a .store) (a .dir .now) (a .keeping) (a .keep) (c .before .before .before .before .before .before .before .before .before .oldest .ensures) (c .before .before .before .before .before .before .before .found2 .given .1) (not-false _ (c .before .before .before .before .if1 .left)) (c .before .before .take-away .ensures)
+returns-3 c =
+    let at-if1 = c .before .before .before .before in
+    let at-found2 = at-if1 .before .before .before in
+    let a = at-found2 .before .before .before .before .before .before .args in
+    oldest-goes (a .volume .now) (a .medium) (a .store) (a .dir .now) (a .keeping) (a .keep) (at-found2 .before .before .oldest .ensures)
+    (at-found2 .found2 .given .1) (not-false _ (at-if1 .if1 .left)) (c .before .before .take-away .ensures)
 
 pub remove-oldest-spec : {M : Type 1} → statement M
 remove-oldest-spec =

@@ -43,7 +43,11 @@ same-length : tie.Need-same-length
 same-length c = search needs
 
 returns : tie.Need-returns
-returns c = let a = c .before .before .before .before .before .before .before .before .before .before .before .before .before .before .before .before .before .args in made-of (c .none-gone .ensures) (gone-refused (part 0 40 (entryAt (a .volume .now) (a .store) (a .old .slot))) (a .old .len) (removeOf (a .volume .now) (a .medium) (a .store) (a .old .slot) (a .old .id)) (c .before .before .before .before .before .before .before .before .remove .ensures) (c .before .before .o .given .1))
+returns c =
+    let at-remove = c .before .before .before .before .before .before .before .before in
+    let a = at-remove .before .before .before .before .before .before .before .before .before .args in
+    made-of (c .none-gone .ensures) (gone-refused (part 0 40 (entryAt (a .volume .now) (a .store) (a .old .slot))) (a .old .len)
+    (removeOf (a .volume .now) (a .medium) (a .store) (a .old .slot) (a .old .id)) (at-remove .remove .ensures) (c .before .before .o .given .1))
 
 enum-told : tie.Need-enum-told
 enum-told c = search needs
@@ -53,9 +57,19 @@ same-length-2 c = search needs
 
 returns-2 : tie.Need-returns-2
 unfolding zeros
-returns-2 c = let a = c .before .before .before .before .before .before .before .before .before .before .before .before .before .before .before .args in
-    let n = whole-name (a .volume .now) (a .store) (a .old .slot) (c .before .before .before .before .before .before .before .before .before .before .before .before .before .entry-place .ensures .0) (omega (arith, store-facts _ _ (c .before .before .before .before .before .before .before .before .before .before .before .before .before .before .before .pre .0) .enough, c .before .before .before .before .before .before .before .before .before .before .before .before .before .entry-place .ensures .1)) (c .before .before .before .before .before .before .before .before .before .put-bytes .ensures) in
-    gone-done (part 0 40 (entryAt (a .volume .now) (a .store) (a .old .slot))) (a .old .len) (removeOf (a .volume .now) (a .medium) (a .store) (a .old .slot) (a .old .id)) (c .before .before .before .before .before .before .remove .ensures) (c .enum-told .given .1) n
+returns-2 c =
+    let a = c .before .before .before .before .before .before .before .before .before .before .before .before .before .before .before .args in
+    let n = whole-name (a .volume .now) (a .store) (a .old .slot)
+    (c .before .before .before .before .before .before .before .before .before .before .before .before .before .entry-place .ensures .0)
+    (omega (
+      arith,
+      store-facts _ _
+          (c .before .before .before .before .before .before .before .before .before .before .before .before .before .before .before .pre .0) .enough,
+      c .before .before .before .before .before .before .before .before .before .before .before .before .before .entry-place .ensures .1,
+    )) (c .before .before .before .before .before .before .before .before .before .put-bytes .ensures) in
+    gone-done (part 0 40 (entryAt (a .volume .now) (a .store) (a .old .slot))) (a .old .len)
+    (removeOf (a .volume .now) (a .medium) (a .store) (a .old .slot) (a .old .id)) (c .before .before .before .before .before .before .remove .ensures)
+    (c .enum-told .given .1) n
 
 pub take-away-spec : {M : Type 1} → statement M
 take-away-spec =

@@ -24,7 +24,10 @@ enum-known-j : tie.Need-enum-known-j Inv-loop μ-loop
 enum-known-j c = search needs
 
 returns : tie.Need-returns Inv-loop μ-loop
-returns c = count-refused (c .before .before .before .before .before .loop .inv) (c .before .before .before .before .loop-test .taken) refl (c .before .before .before .record-at .ensures) (c .before .j .given .1)
+returns c =
+    let at-record-at = c .before .before .before in
+    count-refused (at-record-at .before .before .loop .inv) (at-record-at .before .loop-test .taken) refl (at-record-at .record-at .ensures)
+    (c .before .j .given .1)
 
 enum-told : tie.Need-enum-told Inv-loop μ-loop
 enum-told c = search needs
@@ -33,7 +36,9 @@ add-t12 : tie.Need-add-t12 Inv-loop μ-loop
 add-t12 c = search needs
 
 returns-2 : tie.Need-returns-2 Inv-loop μ-loop
-returns-2 c = count-valid (c .before .before .before .before .loop .inv) (c .before .before .before .loop-test .taken) refl (c .before .before .record-at .ensures) (c .enum-told .given .1)
+returns-2 c =
+    let at-loop-test = c .before .before .before in
+    count-valid (at-loop-test .before .loop .inv) (at-loop-test .loop-test .taken) refl (c .before .before .record-at .ensures) (c .enum-told .given .1)
 
 enum-told-2 : tie.Need-enum-told-2 Inv-loop μ-loop
 enum-told-2 c = search needs
@@ -42,7 +47,9 @@ loop-less : tie.Need-loop-less Inv-loop μ-loop
 loop-less c = search needs
 
 loop-again : tie.Need-loop-again Inv-loop μ-loop
-loop-again c = count-next (c .before .before .before .before .loop .inv) (c .before .before .before .loop-test .taken) refl (c .before .before .record-at .ensures) (c .enum-told2 .given .1)
+loop-again c =
+    let at-loop-test = c .before .before .before in
+    count-next (at-loop-test .before .loop .inv) (at-loop-test .loop-test .taken) refl (c .before .before .record-at .ensures) (c .enum-told2 .given .1)
 
 returns-3 : tie.Need-returns-3 Inv-loop μ-loop
 returns-3 c = count-none (c .before .loop .inv) (c .loop-test .left)

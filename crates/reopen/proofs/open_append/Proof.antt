@@ -20,10 +20,18 @@ open-file-requires : tie.Need-open-file-requires
 open-file-requires c κs = c .before .before .before .before .before .before .pre
 
 returns : tie.Need-returns
-returns c = let a = c .before .before .before .before .before .before .before .args in not-found (a .name .now) (a .rollover) (a .volume .now) (a .medium) (a .store) (c .before .before .before .before .find .ensures) (c .before .before .f .given .1) (c .refused .ensures)
+returns c =
+    let at-find = c .before .before .before .before in
+    let a = at-find .before .before .before .args in
+    not-found (a .name .now) (a .rollover) (a .volume .now) (a .medium) (a .store) (at-find .find .ensures) (c .before .before .f .given .1)
+    (c .refused .ensures)
 
 returns-2 : tie.Need-returns-2
-returns-2 c = let a = c .before .before .before .before .before .before .before .args in name-found (a .name .now) (a .rollover) (a .volume .now) (a .medium) (a .store) (c .before .before .before .before .find .ensures) (c .before .before .f2 .given .1) (c .open-file .ensures)
+returns-2 c =
+    let at-find = c .before .before .before .before in
+    let a = at-find .before .before .before .args in
+    name-found (a .name .now) (a .rollover) (a .volume .now) (a .medium) (a .store) (at-find .find .ensures) (c .before .before .f2 .given .1)
+    (c .open-file .ensures)
 
 pub open-append-spec : {M : Type 1} → statement M
 open-append-spec =

@@ -17,10 +17,19 @@ enum-known-c-2 : tie.Need-enum-known-c-2
 enum-known-c-2 c = search needs
 
 sub-position : tie.Need-sub-position
-sub-position c = let a = c .before .before .before .before .before .before .args in last-placed (a .rollover) (a .volume .now) (a .medium) (a .store) (a .slot) (a .id) (c .before .before .before .before .chain .ensures) (c .before .before .c2 .given .1) (c .before .before .before .before .before .before .pre) .0
+sub-position c =
+    let at-chain = c .before .before .before .before in
+    let a = at-chain .before .before .args in
+    last-placed (a .rollover) (a .volume .now) (a .medium) (a .store) (a .slot) (a .id) (at-chain .chain .ensures) (c .before .before .c2 .given .1)
+    (at-chain .before .before .pre) .0
 
 count-records-requires : tie.Need-count-records-requires
-count-records-requires c κs = let a = c .before .before .before .before .before .before .args in let l = last-placed (a .rollover) (a .volume .now) (a .medium) (a .store) (a .slot) (a .id) (c .before .before .before .before .chain .ensures) (c .before .before .c2 .given .1) (c .before .before .before .before .before .before .pre) in (c .before .before .before .before .before .before .pre, l .1, l .2)
+count-records-requires c κs =
+    let at-chain = c .before .before .before .before in
+    let a = at-chain .before .before .args in
+    let l = last-placed (a .rollover) (a .volume .now) (a .medium) (a .store) (a .slot) (a .id) (at-chain .chain .ensures) (c .before .before .c2 .given .1)
+    (at-chain .before .before .pre) in
+    (at-chain .before .before .pre, l .1, l .2)
 
 enum-known-n : tie.Need-enum-known-n
 enum-known-n c = search needs
@@ -38,13 +47,27 @@ opened-requires : tie.Need-opened-requires
 opened-requires c κs = search needs
 
 returns : tie.Need-returns
-returns c = let a = c .before .before .before .before .before .before .args in no-chain (a .rollover) (a .volume .now) (a .medium) (a .store) (a .slot) (a .id) (c .before .before .before .before .chain .ensures) (c .before .before .c .given .1) (c .refused .ensures)
+returns c =
+    let at-chain = c .before .before .before .before in
+    let a = at-chain .before .before .args in
+    no-chain (a .rollover) (a .volume .now) (a .medium) (a .store) (a .slot) (a .id) (at-chain .chain .ensures) (c .before .before .c .given .1)
+    (c .refused .ensures)
 
 returns-2 : tie.Need-returns-2
-returns-2 c = let a = c .before .before .before .before .before .before .before .before .before .before .before .args in no-count (a .rollover) (a .volume .now) (a .medium) (a .store) (a .slot) (a .id) (c .before .before .before .before .before .before .before .before .before .chain .ensures) (c .before .before .before .before .before .before .before .c2 .given .1) (c .before .before .before .before .count-records .ensures) (c .before .before .n .given .1) (c .refused2 .ensures)
+returns-2 c =
+    let at-count-records = c .before .before .before .before in
+    let at-c2 = at-count-records .before .before .before in
+    let a = at-c2 .before .before .before .before .args in
+    no-count (a .rollover) (a .volume .now) (a .medium) (a .store) (a .slot) (a .id) (at-c2 .before .before .chain .ensures) (at-c2 .c2 .given .1)
+    (at-count-records .count-records .ensures) (c .before .before .n .given .1) (c .refused2 .ensures)
 
 returns-3 : tie.Need-returns-3
-returns-3 c = let a = c .before .before .before .before .before .before .before .before .before .before .before .before .args in file-opened (a .rollover) (a .volume .now) (a .medium) (a .store) (a .slot) (a .id) (c .before .before .before .before .before .before .before .before .before .before .chain .ensures) (c .before .before .before .before .before .before .before .before .c2 .given .1) (c .before .before .before .before .before .count-records .ensures) (c .before .before .before .n2 .given .1) (c .before .tail-for .ensures) (c .opened .ensures)
+returns-3 c =
+    let at-n2 = c .before .before .before in
+    let at-c2 = at-n2 .before .before .before .before .before in
+    let a = at-c2 .before .before .before .before .args in
+    file-opened (a .rollover) (a .volume .now) (a .medium) (a .store) (a .slot) (a .id) (at-c2 .before .before .chain .ensures) (at-c2 .c2 .given .1)
+    (at-n2 .before .before .count-records .ensures) (at-n2 .n2 .given .1) (c .before .tail-for .ensures) (c .opened .ensures)
 
 pub open-file-spec : {M : Type 1} → statement M
 open-file-spec =

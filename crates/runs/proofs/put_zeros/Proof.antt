@@ -39,7 +39,8 @@ loop-again c =
     let s = c .before .before in (
       omega arith,
       simp length-set (l .inv .1),
-      ap (λ (d : List ℕ). set d (s .args .at + l .i) 0) (l .inv .2) ∙ zero-more (now (s .args .dst)) (s .args .at) (s .args .n) (l .i) (s .pre) (c .loop-test .taken),
+      ap (λ (d : List ℕ). set d (s .args .at + l .i) 0) (l .inv .2) ∙ zero-more (now (s .args .dst)) (s .args .at) (s .args .n) (l .i) (s .pre)
+          (c .loop-test .taken),
     )
 
 same-length : tie.Need-same-length Inv-loop μ-loop

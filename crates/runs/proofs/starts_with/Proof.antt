@@ -13,7 +13,8 @@ use Rattle.runs.proofs.starts_with.Statement.{statement}
 use Rattle.runs.proofs.starts_with.Tie as tie
 
 abbrev Inv-loop : tie.InvT-loop
-Inv-loop bytes at what i₀ i-end i = (i ≤ length what) × (i-end ≡ length what) × (startsWith (drop i what) (drop (at + i) bytes) ≡ startsWith what (drop at bytes))
+Inv-loop bytes at what i₀ i-end i =
+    (i ≤ length what) × (i-end ≡ length what) × (startsWith (drop i what) (drop (at + i) bytes) ≡ startsWith what (drop at bytes))
 
 abbrev μ-loop : tie.MeasureT-loop
 μ-loop bytes at what i₀ i-end i = i-end - i

@@ -7,7 +7,9 @@ refused-requires : tie.Need-refused-requires
 refused-requires c κs = search needs
 
 returns : tie.Need-returns
-returns c = no-format (c .before .before .before .before .before .before .args .volume .now) (c .before .before .before .before .before .before .args .s) _ (c .before .if1 .taken) (c .refused .ensures) _
+returns c =
+    let args = c .before .before .before .before .before .before .args in
+    no-format (args .volume .now) (args .s) _ (c .before .if1 .taken) (c .refused .ensures) _
 
 create-requires : tie.Need-create-requires
 create-requires c κs = search needs
@@ -19,7 +21,11 @@ same-length : tie.Need-same-length
 same-length c = search needs
 
 returns-2 : tie.Need-returns-2
-returns-2 c = create-refused (c .before .before .before .before .before .before .before .before .before .before .before .before .before .before .before .before .args .volume .now) (c .before .before .before .before .before .before .before .before .before .before .before .before .before .before .before .before .args .s) (c .before .before .before .before .before .before .before .before .before .before .before .if1 .left) (c .before .before .before .before .before .before .before .before .before .before .before .before .before .before .before .before .args .name .now) _ (c .before .before .before .before .before .before .before .before .before .before .before .before .before .before .before .before .args .dir .now) (c .before .before .before .before .before .before .before .before .before .create .result) (c .before .before .before .before .before .before .before .before .before .create .ensures) (c .before .o .given .1)
+returns-2 c =
+    let at-create = c .before .before .before .before .before .before .before .before .before in
+    let args = at-create .before .before .before .before .before .before .before .args in
+    create-refused (args .volume .now) (args .s) (at-create .before .before .if1 .left) (args .name .now) _ (args .dir .now) (at-create .create .result)
+    (at-create .create .ensures) (c .before .o .given .1)
 
 enum-told : tie.Need-enum-told
 enum-told c = search needs
@@ -31,7 +37,11 @@ same-length-2 : tie.Need-same-length-2
 same-length-2 c = search needs
 
 returns-3 : tie.Need-returns-3
-returns-3 c = create-done (c .before .before .before .before .before .before .before .before .before .before .before .before .before .before .before .before .args .volume .now) (c .before .before .before .before .before .before .before .before .before .before .before .before .before .before .before .before .args .s) (c .before .before .before .before .before .before .before .before .before .before .before .if1 .left) (c .before .before .before .before .before .before .before .before .before .before .before .before .before .before .before .before .args .name .now) _ (c .before .before .before .before .before .before .before .before .before .before .before .before .before .before .before .before .args .dir .now) (c .before .before .before .before .before .before .before .before .before .create .result) (c .before .before .before .before .before .before .before .before .before .create .ensures) (c .before .enum-told .given .1)
+returns-3 c =
+    let at-create = c .before .before .before .before .before .before .before .before .before in
+    let args = at-create .before .before .before .before .before .before .before .args in
+    create-done (args .volume .now) (args .s) (at-create .before .before .if1 .left) (args .name .now) _ (args .dir .now) (at-create .create .result)
+    (at-create .create .ensures) (c .before .enum-told .given .1)
 
 pub create-line-spec : {M : Type 1} → statement M
 create-line-spec =

@@ -7,7 +7,9 @@ refused-requires : tie.Need-refused-requires
 refused-requires c κs = search needs
 
 returns : tie.Need-returns
-returns c = no-format (c .before .before .before .before .before .args .volume .now) (c .before .before .before .before .before .args .s) _ (c .before .if1 .taken) (c .refused .ensures) _
+returns c =
+    let args = c .before .before .before .before .before .args in
+    no-format (args .volume .now) (args .s) _ (c .before .if1 .taken) (c .refused .ensures) _
 
 delete-requires : tie.Need-delete-requires
 delete-requires c κs = search needs
@@ -19,7 +21,11 @@ same-length : tie.Need-same-length
 same-length c = search needs
 
 returns-2 : tie.Need-returns-2
-returns-2 c = delete-told (c .before .before .before .before .before .before .before .before .before .before .before .before .args .volume .now) (c .before .before .before .before .before .before .before .before .before .before .before .before .args .s) (c .before .before .before .before .before .before .before .before .if1 .left) (c .before .before .before .before .before .before .before .before .before .before .before .before .args .name .now) (c .before .before .before .before .before .before .delete .result) (c .before .before .before .before .before .before .delete .ensures) (c .number-reply .result) (c .number-reply .ensures)
+returns-2 c =
+    let at-delete = c .before .before .before .before .before .before in
+    let args = at-delete .before .before .before .before .before .before .args in
+    delete-told (args .volume .now) (args .s) (at-delete .before .before .if1 .left) (args .name .now) (at-delete .delete .result) (at-delete .delete .ensures)
+    (c .number-reply .result) (c .number-reply .ensures)
 
 pub delete-line-spec : {M : Type 1} → statement M
 delete-line-spec =

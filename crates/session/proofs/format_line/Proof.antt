@@ -13,7 +13,10 @@ same-length : tie.Need-same-length
 same-length c = search needs
 
 returns : tie.Need-returns
-returns c = format-refused (c .before .before .before .before .before .before .before .before .before .before .before .before .args .volume .now) (c .before .before .before .before .before .before .before .before .before .before .before .before .args .s) _ _ (c .before .before .before .before .before .before .before .before .before .format .result) (c .before .before .before .before .before .before .before .before .before .format .ensures) (c .before .o .given .1)
+returns c =
+    let at-format = c .before .before .before .before .before .before .before .before .before in
+    let args = at-format .before .before .before .args in
+    format-refused (args .volume .now) (args .s) _ _ (at-format .format .result) (at-format .format .ensures) (c .before .o .given .1)
 
 enum-told : tie.Need-enum-told
 enum-told c = search needs
@@ -28,7 +31,10 @@ same-length-2 : tie.Need-same-length-2
 same-length-2 c = search needs
 
 returns-2 : tie.Need-returns-2
-returns-2 c = format-done (c .before .before .before .before .before .before .before .before .before .before .before .before .args .volume .now) (c .before .before .before .before .before .before .before .before .before .before .before .before .args .s) _ _ (c .before .before .before .before .before .before .before .before .before .format .result) (c .before .before .before .before .before .before .before .before .before .format .ensures) (c .before .enum-told .given .1) (c .chunks .ensures)
+returns-2 c =
+    let at-format = c .before .before .before .before .before .before .before .before .before in
+    let args = at-format .before .before .before .args in
+    format-done (args .volume .now) (args .s) _ _ (at-format .format .result) (at-format .format .ensures) (c .before .enum-told .given .1) (c .chunks .ensures)
 
 pub format-line-spec : {M : Type 1} → statement M
 format-line-spec =

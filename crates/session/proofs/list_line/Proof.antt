@@ -8,7 +8,9 @@ refused-requires : tie.Need-refused-requires
 refused-requires c κs = search needs
 
 returns : tie.Need-returns
-returns c = no-list (c .before .before .before .before .before .args .volume .now) (c .before .before .before .before .before .args .s) _ (c .before .if1 .taken) (c .refused .ensures) _
+returns c =
+    let args = c .before .before .before .before .before .args in
+    no-list (args .volume .now) (args .s) _ (c .before .if1 .taken) (c .refused .ensures) _
 
 slice-aggregate-list : tie.Need-slice-aggregate-list
 slice-aggregate-list c = search needs
@@ -27,7 +29,12 @@ same-length c = search needs
 
 returns-2 : tie.Need-returns-2
 unfolding zeros
-returns-2 c = list-told (c .before .before .before .before .before .before .before .before .before .before .before .before .before .before .before .args .volume .now) (c .before .before .before .before .before .before .before .before .before .before .before .before .before .before .before .args .s) (c .before .before .before .before .before .before .before .before .before .before .before .if1 .left) (c .before .before .before .before .before .before .before .before .before .before .before .before .before .before .before .args .rows .now) (c .before .before .before .before .before .before .before .list .result) (c .before .before .before .before .before .before .before .list .ensures) (c .rows-reply .result) (c .rows-reply .ensures)
+returns-2 c =
+    let at-list = c .before .before .before .before .before .before .before in
+    let at-if1 = at-list .before .before .before .before in
+    let args = at-if1 .before .before .before .before .args in
+    list-told (args .volume .now) (args .s) (at-if1 .if1 .left) (args .rows .now) (at-list .list .result) (at-list .list .ensures) (c .rows-reply .result)
+    (c .rows-reply .ensures)
 
 pub list-line-spec : {M : Type 1} → statement M
 list-line-spec =

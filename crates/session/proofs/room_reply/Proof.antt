@@ -8,7 +8,7 @@ enum-known-o : tie.Need-enum-known-o
 enum-known-o c = search needs
 
 returns : tie.Need-returns
-returns c = room-not (c .before .before .before .args .o) (c .before .before .before .args .appender) (c .before .o .given .1)
+returns c = let args = c .before .before .before .args in room-not (args .o) (args .appender) (c .before .o .given .1)
 
 enum-told : tie.Need-enum-told
 enum-told c = search needs
@@ -23,10 +23,16 @@ enum-known-room-2 : tie.Need-enum-known-room-2
 enum-known-room-2 c = search needs
 
 returns-2 : tie.Need-returns-2
-returns-2 c = room-refused (c .before .before .before .before .before .before .args .o) (c .before .before .before .before .before .before .args .appender) (c .before .before .before .before .enum-told .given .1) (c .before .before .before .room .ensures) (c .before .room2 .given .1)
+returns-2 c =
+    let at-room = c .before .before .before in
+    let args = at-room .before .before .before .args in
+    room-refused (args .o) (args .appender) (at-room .before .enum-told .given .1) (at-room .room .ensures) (c .before .room2 .given .1)
 
 returns-3 : tie.Need-returns-3
-returns-3 c = room-is (c .before .before .before .before .before .before .args .o) (c .before .before .before .before .before .before .args .appender) (c .before .before .before .before .enum-told .given .1) (c .before .before .before .room .ensures) (c .before .room3 .given .1)
+returns-3 c =
+    let at-room = c .before .before .before in
+    let args = at-room .before .before .before .args in
+    room-is (args .o) (args .appender) (at-room .before .enum-told .given .1) (at-room .room .ensures) (c .before .room3 .given .1)
 
 pub room-reply-spec : {M : Type 1} → statement M
 room-reply-spec =

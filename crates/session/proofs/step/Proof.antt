@@ -26,19 +26,46 @@ enum-known-p-2 : tie.Need-enum-known-p-2
 enum-known-p-2 c = search needs
 
 sub-create-line : tie.Need-sub-create-line
-sub-create-line c = let h = create-parts (c .before .before .before .before .before .before .before .before .before .args .volume .now) (c .before .before .before .before .before .before .before .before .before .args .rows .now) (c .before .before .before .before .before .before .before .before .before .args .line .now) (c .before .before .before .before .before .before .before .before .before .args .session) (c .before .before .before .before .before .allowed .ensures) (c .before .before .before .before .parse .ensures) (c .before .before .p2 .given .1) in omega (arith, h)
+sub-create-line c =
+    let h = (let at-parse = c .before .before .before .before in
+    let args = at-parse .before .before .before .before .before .args in
+    create-parts (args .volume .now) (args .rows .now) (args .line .now) (args .session) (at-parse .before .allowed .ensures) (at-parse .parse .ensures)
+    (c .before .before .p2 .given .1)) in
+    omega (arith, h)
 
 part-create-line-start : tie.Need-part-create-line-start
-part-create-line-start c = let h = create-parts (c .before .before .before .before .before .before .before .before .before .args .volume .now) (c .before .before .before .before .before .before .before .before .before .args .rows .now) (c .before .before .before .before .before .before .before .before .before .args .line .now) (c .before .before .before .before .before .before .before .before .before .args .session) (c .before .before .before .before .before .allowed .ensures) (c .before .before .before .before .parse .ensures) (c .before .before .p2 .given .1) in omega (arith, h)
+part-create-line-start c =
+    let h = (let at-parse = c .before .before .before .before in
+    let args = at-parse .before .before .before .before .before .args in
+    create-parts (args .volume .now) (args .rows .now) (args .line .now) (args .session) (at-parse .before .allowed .ensures) (at-parse .parse .ensures)
+    (c .before .before .p2 .given .1)) in
+    omega (arith, h)
 
 part-create-line-end : tie.Need-part-create-line-end
-part-create-line-end c = let h = create-parts (c .before .before .before .before .before .before .before .before .before .args .volume .now) (c .before .before .before .before .before .before .before .before .before .args .rows .now) (c .before .before .before .before .before .before .before .before .before .args .line .now) (c .before .before .before .before .before .before .before .before .before .args .session) (c .before .before .before .before .before .allowed .ensures) (c .before .before .before .before .parse .ensures) (c .before .before .p2 .given .1) in omega (arith, h)
+part-create-line-end c =
+    let h = (let at-parse = c .before .before .before .before in
+    let args = at-parse .before .before .before .before .before .args in
+    create-parts (args .volume .now) (args .rows .now) (args .line .now) (args .session) (at-parse .before .allowed .ensures) (at-parse .parse .ensures)
+    (c .before .before .p2 .given .1)) in
+    omega (arith, h)
 
 sub-create-line-2 : tie.Need-sub-create-line-2
-sub-create-line-2 c = let h = create-parts (c .before .before .before .before .before .before .before .before .before .before .args .volume .now) (c .before .before .before .before .before .before .before .before .before .before .args .rows .now) (c .before .before .before .before .before .before .before .before .before .before .args .line .now) (c .before .before .before .before .before .before .before .before .before .before .args .session) (c .before .before .before .before .before .before .allowed .ensures) (c .before .before .before .before .before .parse .ensures) (c .before .before .before .p2 .given .1) in omega (arith, h)
+sub-create-line-2 c =
+    let h = (let at-p2 = c .before .before .before in
+    let at-allowed = at-p2 .before .before .before in
+    let args = at-allowed .before .before .before .before .args in
+    create-parts (args .volume .now) (args .rows .now) (args .line .now) (args .session) (at-allowed .allowed .ensures) (at-p2 .before .before .parse .ensures)
+    (at-p2 .p2 .given .1)) in
+    omega (arith, h)
 
 part-create-line-start-2 : tie.Need-part-create-line-start-2
-part-create-line-start-2 c = let h = create-parts (c .before .before .before .before .before .before .before .before .before .before .args .volume .now) (c .before .before .before .before .before .before .before .before .before .before .args .rows .now) (c .before .before .before .before .before .before .before .before .before .before .args .line .now) (c .before .before .before .before .before .before .before .before .before .before .args .session) (c .before .before .before .before .before .before .allowed .ensures) (c .before .before .before .before .before .parse .ensures) (c .before .before .before .p2 .given .1) in omega (arith, h)
+part-create-line-start-2 c =
+    let h = (let at-p2 = c .before .before .before in
+    let at-allowed = at-p2 .before .before .before in
+    let args = at-allowed .before .before .before .before .args in
+    create-parts (args .volume .now) (args .rows .now) (args .line .now) (args .session) (at-allowed .allowed .ensures) (at-p2 .before .before .parse .ensures)
+    (at-p2 .p2 .given .1)) in
+    omega (arith, h)
 
 part-create-line-end-2 : tie.Need-part-create-line-end-2
 part-create-line-end-2 c = search needs
@@ -50,10 +77,20 @@ enum-known-p-3 : tie.Need-enum-known-p-3
 enum-known-p-3 c = search needs
 
 sub-append-line : tie.Need-sub-append-line
-sub-append-line c = let h = append-part (c .before .before .before .before .before .before .before .before .before .args .volume .now) (c .before .before .before .before .before .before .before .before .before .args .rows .now) (c .before .before .before .before .before .before .before .before .before .args .line .now) (c .before .before .before .before .before .before .before .before .before .args .session) (c .before .before .before .before .before .allowed .ensures) (c .before .before .before .before .parse .ensures) (c .before .before .p3 .given .1) in omega (arith, h)
+sub-append-line c =
+    let h = (let at-parse = c .before .before .before .before in
+    let args = at-parse .before .before .before .before .before .args in
+    append-part (args .volume .now) (args .rows .now) (args .line .now) (args .session) (at-parse .before .allowed .ensures) (at-parse .parse .ensures)
+    (c .before .before .p3 .given .1)) in
+    omega (arith, h)
 
 part-append-line-start : tie.Need-part-append-line-start
-part-append-line-start c = let h = append-part (c .before .before .before .before .before .before .before .before .before .args .volume .now) (c .before .before .before .before .before .before .before .before .before .args .rows .now) (c .before .before .before .before .before .before .before .before .before .args .line .now) (c .before .before .before .before .before .before .before .before .before .args .session) (c .before .before .before .before .before .allowed .ensures) (c .before .before .before .before .parse .ensures) (c .before .before .p3 .given .1) in omega (arith, h)
+part-append-line-start c =
+    let h = (let at-parse = c .before .before .before .before in
+    let args = at-parse .before .before .before .before .before .args in
+    append-part (args .volume .now) (args .rows .now) (args .line .now) (args .session) (at-parse .before .allowed .ensures) (at-parse .parse .ensures)
+    (c .before .before .p3 .given .1)) in
+    omega (arith, h)
 
 part-append-line-end : tie.Need-part-append-line-end
 part-append-line-end c = search needs
@@ -71,10 +108,20 @@ enum-known-p-4 : tie.Need-enum-known-p-4
 enum-known-p-4 c = search needs
 
 sub-delete-line : tie.Need-sub-delete-line
-sub-delete-line c = let h = delete-part (c .before .before .before .before .before .before .before .before .before .args .volume .now) (c .before .before .before .before .before .before .before .before .before .args .rows .now) (c .before .before .before .before .before .before .before .before .before .args .line .now) (c .before .before .before .before .before .before .before .before .before .args .session) (c .before .before .before .before .before .allowed .ensures) (c .before .before .before .before .parse .ensures) (c .before .before .p4 .given .1) in omega (arith, h)
+sub-delete-line c =
+    let h = (let at-parse = c .before .before .before .before in
+    let args = at-parse .before .before .before .before .before .args in
+    delete-part (args .volume .now) (args .rows .now) (args .line .now) (args .session) (at-parse .before .allowed .ensures) (at-parse .parse .ensures)
+    (c .before .before .p4 .given .1)) in
+    omega (arith, h)
 
 part-delete-line-start : tie.Need-part-delete-line-start
-part-delete-line-start c = let h = delete-part (c .before .before .before .before .before .before .before .before .before .args .volume .now) (c .before .before .before .before .before .before .before .before .before .args .rows .now) (c .before .before .before .before .before .before .before .before .before .args .line .now) (c .before .before .before .before .before .before .before .before .before .args .session) (c .before .before .before .before .before .allowed .ensures) (c .before .before .before .before .parse .ensures) (c .before .before .p4 .given .1) in omega (arith, h)
+part-delete-line-start c =
+    let h = (let at-parse = c .before .before .before .before in
+    let args = at-parse .before .before .before .before .before .args in
+    delete-part (args .volume .now) (args .rows .now) (args .line .now) (args .session) (at-parse .before .allowed .ensures) (at-parse .parse .ensures)
+    (c .before .before .p4 .given .1)) in
+    omega (arith, h)
 
 part-delete-line-end : tie.Need-part-delete-line-end
 part-delete-line-end c = search needs
@@ -89,37 +136,67 @@ list-line-requires : tie.Need-list-line-requires
 list-line-requires c κs = search needs
 
 returns : tie.Need-returns
-returns c = other-word (c .before .before .before .before .before .before .before .before .args .volume .now) (c .before .before .before .before .before .before .before .before .args .rows .now) (c .before .before .before .before .before .before .before .before .args .line .now) (c .before .before .before .before .before .before .before .before .args .session) (c .before .before .before .before .allowed .ensures) (c .before .before .before .parse .ensures) (c .before .enum-told .given .1) (c .refused .result) (c .refused .ensures)
+returns c =
+    let at-parse = c .before .before .before in
+    let args = at-parse .before .before .before .before .before .args in
+    other-word (args .volume .now) (args .rows .now) (args .line .now) (args .session) (at-parse .before .allowed .ensures) (at-parse .parse .ensures)
+    (c .before .enum-told .given .1) (c .refused .result) (c .refused .ensures)
 
 same-length : tie.Need-same-length
 same-length c = search needs
 
 returns-2 : tie.Need-returns-2
-returns-2 c = format-word (c .before .before .before .before .before .before .before .before .before .before .before .before .args .volume .now) (c .before .before .before .before .before .before .before .before .before .before .before .before .args .rows .now) (c .before .before .before .before .before .before .before .before .before .before .before .before .args .line .now) (c .before .before .before .before .before .before .before .before .before .before .before .before .args .session) (c .before .before .before .before .before .before .before .before .allowed .ensures) (c .before .before .before .before .before .before .before .parse .ensures) (c .before .before .before .before .before .p .given .1) (c .before .before .format-line .result) (c .before .before .format-line .ensures)
+returns-2 c =
+    let at-p = c .before .before .before .before .before in
+    let at-allowed = at-p .before .before .before in
+    let args = at-allowed .before .before .before .before .args in
+    format-word (args .volume .now) (args .rows .now) (args .line .now) (args .session) (at-allowed .allowed .ensures) (at-p .before .before .parse .ensures)
+    (at-p .p .given .1) (c .before .before .format-line .result) (c .before .before .format-line .ensures)
 
 same-length-2 : tie.Need-same-length-2
 same-length-2 c = search needs
 
 returns-3 : tie.Need-returns-3
-returns-3 c = create-word (c .before .before .before .before .before .before .before .before .before .before .before .before .before .before .args .volume .now) (c .before .before .before .before .before .before .before .before .before .before .before .before .before .before .args .rows .now) (c .before .before .before .before .before .before .before .before .before .before .before .before .before .before .args .line .now) (c .before .before .before .before .before .before .before .before .before .before .before .before .before .before .args .session) (c .before .before .before .before .before .before .before .before .before .before .allowed .ensures) (c .before .before .before .before .before .before .before .before .before .parse .ensures) (c .before .before .before .before .before .before .before .p2 .given .1) (c .before .before .create-line .result) (c .before .before .create-line .ensures)
+returns-3 c =
+    let at-p2 = c .before .before .before .before .before .before .before in
+    let at-allowed = at-p2 .before .before .before in
+    let args = at-allowed .before .before .before .before .args in
+    create-word (args .volume .now) (args .rows .now) (args .line .now) (args .session) (at-allowed .allowed .ensures) (at-p2 .before .before .parse .ensures)
+    (at-p2 .p2 .given .1) (c .before .before .create-line .result) (c .before .before .create-line .ensures)
 
 same-length-3 : tie.Need-same-length-3
 same-length-3 c = search needs
 
 returns-4 : tie.Need-returns-4
-returns-4 c = append-word (c .before .before .before .before .before .before .before .before .before .before .before .before .before .args .volume .now) (c .before .before .before .before .before .before .before .before .before .before .before .before .before .args .rows .now) (c .before .before .before .before .before .before .before .before .before .before .before .before .before .args .line .now) (c .before .before .before .before .before .before .before .before .before .before .before .before .before .args .session) (c .before .before .before .before .before .before .before .before .before .allowed .ensures) (c .before .before .before .before .before .before .before .before .parse .ensures) (c .before .before .before .before .before .before .p3 .given .1) (c .before .before .append-line .result) (c .before .before .append-line .ensures)
+returns-4 c =
+    let at-p3 = c .before .before .before .before .before .before in
+    let at-allowed = at-p3 .before .before .before in
+    let args = at-allowed .before .before .before .before .args in
+    append-word (args .volume .now) (args .rows .now) (args .line .now) (args .session) (at-allowed .allowed .ensures) (at-p3 .before .before .parse .ensures)
+    (at-p3 .p3 .given .1) (c .before .before .append-line .result) (c .before .before .append-line .ensures)
 
 same-length-4 : tie.Need-same-length-4
 same-length-4 c = search needs
 
 returns-5 : tie.Need-returns-5
-returns-5 c = sync-word (c .before .before .before .before .before .before .before .before .before .before .before .args .volume .now) (c .before .before .before .before .before .before .before .before .before .before .before .args .rows .now) (c .before .before .before .before .before .before .before .before .before .before .before .args .line .now) (c .before .before .before .before .before .before .before .before .before .before .before .args .session) (c .before .before .before .before .before .before .before .allowed .ensures) (c .before .before .before .before .before .before .parse .ensures) (c .before .before .before .before .enum-told2 .given .1) (c .before .before .sync-line .result) (c .before .before .sync-line .ensures)
+returns-5 c =
+    let at-enum-told2 = c .before .before .before .before in
+    let at-allowed = at-enum-told2 .before .before .before in
+    let args = at-allowed .before .before .before .before .args in
+    sync-word (args .volume .now) (args .rows .now) (args .line .now) (args .session) (at-allowed .allowed .ensures)
+    (at-enum-told2 .before .before .parse .ensures) (at-enum-told2 .enum-told2 .given .1) (c .before .before .sync-line .result)
+    (c .before .before .sync-line .ensures)
 
 same-length-5 : tie.Need-same-length-5
 same-length-5 c = search needs
 
 returns-6 : tie.Need-returns-6
-returns-6 c = delete-word (c .before .before .before .before .before .before .before .before .before .before .before .before .before .args .volume .now) (c .before .before .before .before .before .before .before .before .before .before .before .before .before .args .rows .now) (c .before .before .before .before .before .before .before .before .before .before .before .before .before .args .line .now) (c .before .before .before .before .before .before .before .before .before .before .before .before .before .args .session) (c .before .before .before .before .before .before .before .before .before .allowed .ensures) (c .before .before .before .before .before .before .before .before .parse .ensures) (c .before .before .before .before .before .before .p4 .given .1) (c .before .before .delete-line .result) (c .before .before .delete-line .ensures)
+returns-6 c =
+    let at-p4 = c .before .before .before .before .before .before in
+    let at-allowed = at-p4 .before .before .before in
+    let args = at-allowed .before .before .before .before .args in
+    delete-word (args .volume .now) (args .rows .now) (args .line .now) (args .session) (at-allowed .allowed .ensures) (at-p4 .before .before .parse .ensures)
+    (at-p4 .p4 .given .1) (c .before .before .delete-line .result) (c .before .before .delete-line .ensures)
 
 same-length-6 : tie.Need-same-length-6
 same-length-6 c = search needs
@@ -128,7 +205,13 @@ same-length-7 : tie.Need-same-length-7
 same-length-7 c = search needs
 
 returns-7 : tie.Need-returns-7
-returns-7 c = list-word (c .before .before .before .before .before .before .before .before .before .before .before .before .args .volume .now) (c .before .before .before .before .before .before .before .before .before .before .before .before .args .rows .now) (c .before .before .before .before .before .before .before .before .before .before .before .before .args .line .now) (c .before .before .before .before .before .before .before .before .before .before .before .before .args .session) (c .before .before .before .before .before .before .before .before .allowed .ensures) (c .before .before .before .before .before .before .before .parse .ensures) (c .before .before .before .before .before .enum-told3 .given .1) (c .before .before .list-line .result) (c .before .before .list-line .ensures)
+returns-7 c =
+    let at-enum-told3 = c .before .before .before .before .before in
+    let at-allowed = at-enum-told3 .before .before .before in
+    let args = at-allowed .before .before .before .before .args in
+    list-word (args .volume .now) (args .rows .now) (args .line .now) (args .session) (at-allowed .allowed .ensures)
+    (at-enum-told3 .before .before .parse .ensures) (at-enum-told3 .enum-told3 .given .1) (c .before .before .list-line .result)
+    (c .before .before .list-line .ensures)
 
 pub step-spec : {M : Type 1} → statement M
 step-spec =

@@ -9,13 +9,16 @@ refused-requires c κs = search needs
 
 returns : tie.Need-returns
 unfolding afterCreate
-returns c = no-format (c .before .before .before .before .args .volume .now) (c .before .before .before .before .args .s) _ (c .before .if1 .taken) (c .refused .ensures) _
+returns c = let args = c .before .before .before .before .args in no-format (args .volume .now) (args .s) _ (c .before .if1 .taken) (c .refused .ensures) _
 
 refused-requires-2 : tie.Need-refused-requires-2
 refused-requires-2 c κs = search needs
 
 returns-2 : tie.Need-returns-2
-returns-2 c = no-create (c .before .before .before .before .before .before .args .volume .now) (c .before .before .before .before .before .before .args .s) _ (c .before .before .before .if1 .left) (c .before .if2 .taken) (c .refused2 .ensures) _
+returns-2 c =
+    let at-if1 = c .before .before .before in
+    let args = at-if1 .before .before .before .args in
+    no-create (args .volume .now) (args .s) _ (at-if1 .if1 .left) (c .before .if2 .taken) (c .refused2 .ensures) _
 
 sync-requires : tie.Need-sync-requires
 sync-requires c κs = search needs
@@ -27,7 +30,12 @@ same-length : tie.Need-same-length
 same-length c = search needs
 
 returns-3 : tie.Need-returns-3
-returns-3 c = sync-told (c .before .before .before .before .before .before .before .before .before .before .before .args .volume .now) (c .before .before .before .before .before .before .before .before .before .before .before .args .s) (c .before .before .before .before .before .before .before .before .if1 .left) (c .before .before .before .before .before .before .if2 .left) (c .before .before .before .sync .result) (c .flushed .result) (c .flushed .ensures) (c .before .before .before .sync .ensures)
+returns-3 c =
+    let at-sync = c .before .before .before in
+    let at-if2 = at-sync .before .before .before in
+    let args = at-if2 .before .before .before .before .before .args in
+    sync-told (args .volume .now) (args .s) (at-if2 .before .before .if1 .left) (at-if2 .if2 .left) (at-sync .sync .result) (c .flushed .result)
+    (c .flushed .ensures) (at-sync .sync .ensures)
 
 pub sync-line-spec : {M : Type 1} → statement M
 sync-line-spec =

@@ -19,11 +19,23 @@ returns c = rw (← (c .before .before .sectors .ensures), told (c .before .hand
 
 returns-2 : tie.Need-returns-2
 unfolding askedOf pick
-returns-2 c = rw (← (c .before .before .before .sectors .ensures), told (c .before .before .handle-ok .ensures) (not-false _ (c .before .if1 .left)), not-true (c .before .before .before .before .before .args .fine) (c .if2 .taken))
+returns-2 c =
+    let at-sectors = c .before .before .before in
+    rw (
+      ← (at-sectors .sectors .ensures),
+      told (c .before .before .handle-ok .ensures) (not-false _ (c .before .if1 .left)),
+      not-true (at-sectors .before .before .args .fine) (c .if2 .taken),
+    )
 
 returns-3 : tie.Need-returns-3
 unfolding askedOf pick
-returns-3 c = rw (← (c .before .before .before .sectors .ensures), told (c .before .before .handle-ok .ensures) (not-false _ (c .before .if1 .left)), not-false (c .before .before .before .before .before .args .fine) (c .if2 .left))
+returns-3 c =
+    let at-sectors = c .before .before .before in
+    rw (
+      ← (at-sectors .sectors .ensures),
+      told (c .before .before .handle-ok .ensures) (not-false _ (c .before .if1 .left)),
+      not-false (at-sectors .before .before .args .fine) (c .if2 .left),
+    )
 
 pub asked-spec : {M : Type 1} → statement M
 asked-spec =

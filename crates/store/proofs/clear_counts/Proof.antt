@@ -31,7 +31,12 @@ loop-less : tie.Need-loop-less Inv-loop μ-loop
 loop-less c = search needs
 
 loop-again : tie.Need-loop-again Inv-loop μ-loop
-loop-again c = let l = c .before .loop in (search needs, search needs, ap (λ (x : _). set x (l .i) 0) (l .inv .2) ∙ cleared-turn (c .before .before .args .counts .now) (l .i) (c .before .before .pre) (c .loop-test .taken))
+loop-again c =
+    let l = c .before .loop in (
+      search needs,
+      search needs,
+      ap (λ (x : _). set x (l .i) 0) (l .inv .2) ∙ cleared-turn (c .before .before .args .counts .now) (l .i) (c .before .before .pre) (c .loop-test .taken),
+    )
 
 same-length : tie.Need-same-length Inv-loop μ-loop
 same-length c = search needs

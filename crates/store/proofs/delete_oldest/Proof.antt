@@ -20,7 +20,11 @@ same-length : tie.Need-same-length
 same-length c = search needs
 
 returns : tie.Need-returns
-returns c = let a = c .before .before .before .before .before .before .before .before .before .args in dir-refused (a .volume .now) (a .medium) (a .store) (a .dir .now) (c .before .before .before .before .before .dir-ok .ensures) (c .before .before .before .before .asked .ensures) (c .before .before .o .given .1) (c .none-gone .ensures)
+returns c =
+    let at-asked = c .before .before .before .before in
+    let a = at-asked .before .before .before .before .before .args in
+    dir-refused (a .volume .now) (a .medium) (a .store) (a .dir .now) (at-asked .before .dir-ok .ensures) (at-asked .asked .ensures)
+    (c .before .before .o .given .1) (c .none-gone .ensures)
 
 enum-told : tie.Need-enum-told
 enum-told c = search needs
@@ -32,13 +36,22 @@ open-id-requires : tie.Need-open-id-requires
 open-id-requires c κs = search needs
 
 remove-oldest-requires : tie.Need-remove-oldest-requires
-remove-oldest-requires c κs = asked-done (c .before .before .before .before .before .before .before .before .before .before .args .volume .now) (c .before .before .before .before .before .before .before .before .before .before .args .store) _ (c .before .before .before .before .before .asked .ensures) (c .before .before .before .enum-told .given .1) .ok
+remove-oldest-requires c κs =
+    let at-enum-told = c .before .before .before in
+    let args = at-enum-told .before .before .before .before .before .before .before .args in
+    asked-done (args .volume .now) (args .store) _ (at-enum-told .before .before .asked .ensures) (at-enum-told .enum-told .given .1) .ok
 
 same-length-2 : tie.Need-same-length-2
 same-length-2 c = search needs
 
 returns-2 : tie.Need-returns-2
-returns-2 c = let a = c .before .before .before .before .before .before .before .before .before .before .before .before .before .args in oldest-told (a .volume .now) (a .medium) (a .store) (a .dir .now) (c .before .before .before .before .before .before .before .before .before .dir-ok .ensures) (c .before .before .before .before .before .before .before .before .asked .ensures) (c .before .before .before .before .before .before .enum-told .given .1) (c .before .before .before .before .before .is-open .ensures) (c .before .before .before .before .open-id .ensures) (c .before .before .remove-oldest .ensures)
+returns-2 c =
+    let at-open-id = c .before .before .before .before in
+    let at-asked = at-open-id .before .before .before .before in
+    let a = at-asked .before .before .before .before .before .args in
+    oldest-told (a .volume .now) (a .medium) (a .store) (a .dir .now) (at-asked .before .dir-ok .ensures) (at-asked .asked .ensures)
+    (at-open-id .before .before .enum-told .given .1) (at-open-id .before .is-open .ensures) (at-open-id .open-id .ensures)
+    (c .before .before .remove-oldest .ensures)
 
 pub delete-oldest-spec : {M : Type 1} → statement M
 delete-oldest-spec =

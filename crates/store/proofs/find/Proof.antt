@@ -18,17 +18,21 @@ enum-known-o c = search needs
 
 returns : tie.Need-returns
 unfolding findCall onDone
-returns c = rw (← (c .before .before .before .before .name-ok .ensures), told (c .before .before .before .asked .ensures) (c .before .o .given .1))
+returns c = let at-asked = c .before .before .before in rw (← (at-asked .before .name-ok .ensures), told (at-asked .asked .ensures) (c .before .o .given .1))
 
 enum-told : tie.Need-enum-told
 enum-told c = search needs
 
 find-requires : tie.Need-find-requires
-find-requires c κs = asked-done (c .before .before .before .before .before .before .args .volume .now) (c .before .before .before .before .before .before .args .store) _ (c .before .before .asked .ensures) (c .enum-told .given .1) .held .enough
+find-requires c κs =
+    let args = c .before .before .before .before .before .before .args in
+    asked-done (args .volume .now) (args .store) _ (c .before .before .asked .ensures) (c .enum-told .given .1) .held .enough
 
 returns-2 : tie.Need-returns-2
 unfolding findCall onDone
-returns-2 c = rw (← (c .before .before .before .before .name-ok .ensures), told (c .before .before .before .asked .ensures) (c .before .enum-told .given .1), ← (c .find .ensures))
+returns-2 c =
+    let at-asked = c .before .before .before in
+    rw (← (at-asked .before .name-ok .ensures), told (at-asked .asked .ensures) (c .before .enum-told .given .1), ← (c .find .ensures))
 
 pub find-spec : {M : Type 1} → statement M
 find-spec =

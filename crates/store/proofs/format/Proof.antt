@@ -18,7 +18,11 @@ same-length c = search needs
 
 returns : tie.Need-returns
 unfolding formatCall
-returns c = (c .before .before .before .format .ensures .0, ap (λ (r : StoreAnswer). storeAnswer r) (c .committed .ensures) ∙ ap (λ (z : Committed). storeAnswer (answerOf z)) (c .before .before .before .format .ensures .1))
+returns c =
+    let at-format = c .before .before .before in (
+      at-format .format .ensures .0,
+      ap (λ (r : StoreAnswer). storeAnswer r) (c .committed .ensures) ∙ ap (λ (z : Committed). storeAnswer (answerOf z)) (at-format .format .ensures .1),
+    )
 
 pub format-spec : {M : Type 1} → statement M
 format-spec =

@@ -17,13 +17,19 @@ no-reader-requires : tie.Need-no-reader-requires
 no-reader-requires c κs = search needs
 
 returns : tie.Need-returns
-returns c = let a = c .before .before .before .before .before .before .before .before .args in input-refused (a .volume .now) (a .medium) (a .store) (a .name .now) (c .before .before .before .before .before .name-ok .ensures) (c .before .before .before .before .asked .ensures) (c .before .before .o .given .1) (c .no-reader .ensures)
+returns c =
+    let at-asked = c .before .before .before .before in
+    let a = at-asked .before .before .before .before .args in
+    input-refused (a .volume .now) (a .medium) (a .store) (a .name .now) (at-asked .before .name-ok .ensures) (at-asked .asked .ensures)
+    (c .before .before .o .given .1) (c .no-reader .ensures)
 
 enum-told : tie.Need-enum-told
 enum-told c = search needs
 
 find-requires : tie.Need-find-requires
-find-requires c κs = asked-done (c .before .before .before .before .before .before .args .volume .now) (c .before .before .before .before .before .before .args .store) _ (c .before .before .asked .ensures) (c .enum-told .given .1) .held .enough
+find-requires c κs =
+    let args = c .before .before .before .before .before .before .args in
+    asked-done (args .volume .now) (args .store) _ (c .before .before .asked .ensures) (c .enum-told .given .1) .held .enough
 
 enum-known-f : tie.Need-enum-known-f
 enum-known-f c = search needs
@@ -35,7 +41,11 @@ enum-known-f-2 : tie.Need-enum-known-f-2
 enum-known-f-2 c = search needs
 
 chain-requires : tie.Need-chain-requires
-chain-requires c κs = let h = asked-done (c .before .before .before .before .before .before .before .before .before .before .args .volume .now) (c .before .before .before .before .before .before .before .before .before .before .args .store) _ (c .before .before .before .before .before .before .asked .ensures) (c .before .before .before .before .enum-told .given .1) .held in (h .enough, h .head .chunks-most)
+chain-requires c κs =
+    let at-enum-told = c .before .before .before .before in
+    let args = at-enum-told .before .before .before .before .before .before .args in
+    let h = asked-done (args .volume .now) (args .store) _ (at-enum-told .before .before .asked .ensures) (at-enum-told .enum-told .given .1) .held in
+    (h .enough, h .head .chunks-most)
 
 enum-known-c : tie.Need-enum-known-c
 enum-known-c c = search needs
@@ -50,13 +60,32 @@ start-requires : tie.Need-start-requires
 start-requires c κs = search needs
 
 returns-2 : tie.Need-returns-2
-returns-2 c = let a = c .before .before .before .before .before .before .before .before .before .before .before .args in not-found (a .volume .now) (a .medium) (a .store) (a .name .now) (c .before .before .before .before .before .before .before .before .name-ok .ensures) (c .before .before .before .before .before .before .before .asked .ensures) (c .before .before .before .before .before .enum-told .given .1) (c .before .before .before .before .find .ensures) (c .before .before .f .given .1) (c .no-reader2 .ensures)
+returns-2 c =
+    let at-find = c .before .before .before .before in
+    let at-asked = at-find .before .before .before in
+    let a = at-asked .before .before .before .before .args in
+    not-found (a .volume .now) (a .medium) (a .store) (a .name .now) (at-asked .before .name-ok .ensures) (at-asked .asked .ensures)
+    (at-find .before .enum-told .given .1) (at-find .find .ensures) (c .before .before .f .given .1) (c .no-reader2 .ensures)
 
 returns-3 : tie.Need-returns-3
-returns-3 c = let a = c .before .before .before .before .before .before .before .before .before .before .before .before .before .before .before .args in no-chain (a .volume .now) (a .medium) (a .store) (a .name .now) (c .before .before .before .before .before .before .before .before .before .before .before .before .name-ok .ensures) (c .before .before .before .before .before .before .before .before .before .before .before .asked .ensures) (c .before .before .before .before .before .before .before .before .before .enum-told .given .1) (c .before .before .before .before .before .before .before .before .find .ensures) (c .before .before .before .before .before .before .f2 .given .1) (c .before .before .before .before .chain .ensures) (c .before .before .c .given .1) (c .no-reader3 .ensures)
+returns-3 c =
+    let at-chain = c .before .before .before .before in
+    let at-find = at-chain .before .before .before .before in
+    let at-asked = at-find .before .before .before in
+    let a = at-asked .before .before .before .before .args in
+    no-chain (a .volume .now) (a .medium) (a .store) (a .name .now) (at-asked .before .name-ok .ensures) (at-asked .asked .ensures)
+    (at-find .before .enum-told .given .1) (at-find .find .ensures) (at-chain .before .before .f2 .given .1) (at-chain .chain .ensures)
+    (c .before .before .c .given .1) (c .no-reader3 .ensures)
 
 returns-4 : tie.Need-returns-4
-returns-4 c = let a = c .before .before .before .before .before .before .before .before .before .before .before .before .before .before .before .args in started (a .volume .now) (a .medium) (a .store) (a .name .now) (c .before .before .before .before .before .before .before .before .before .before .before .before .name-ok .ensures) (c .before .before .before .before .before .before .before .before .before .before .before .asked .ensures) (c .before .before .before .before .before .before .before .before .before .enum-told .given .1) (c .before .before .before .before .before .before .before .before .find .ensures) (c .before .before .before .before .before .before .f2 .given .1) (c .before .before .before .before .chain .ensures) (c .before .before .c2 .given .1) (c .start .ensures)
+returns-4 c =
+    let at-chain = c .before .before .before .before in
+    let at-find = at-chain .before .before .before .before in
+    let at-asked = at-find .before .before .before in
+    let a = at-asked .before .before .before .before .args in
+    started (a .volume .now) (a .medium) (a .store) (a .name .now) (at-asked .before .name-ok .ensures) (at-asked .asked .ensures)
+    (at-find .before .enum-told .given .1) (at-find .find .ensures) (at-chain .before .before .f2 .given .1) (at-chain .chain .ensures)
+    (c .before .before .c2 .given .1) (c .start .ensures)
 
 pub reader-spec : {M : Type 1} → statement M
 reader-spec =

@@ -13,7 +13,9 @@ use Rattle.table.proofs.chain.Statement.{statement}
 use Rattle.table.proofs.chain.Tie as tie
 
 abbrev Inv-loop : tie.InvT-loop
-Inv-loop volume medium store slot n s₀ next₀ s next = (At (onLink (chainV slot)) (linkAt volume medium store) chainEnd (linksOf (store .head .chunks)) (chainOf volume medium store slot) next s) × (s .count ≤ next)
+Inv-loop volume medium store slot n s₀ next₀ s next =
+    (At (onLink (chainV slot)) (linkAt volume medium store) chainEnd (linksOf (store .head .chunks)) (chainOf volume medium store slot) next s)
+    × (s .count ≤ next)
 
 abbrev μ-loop : tie.MeasureT-loop
 μ-loop volume medium store slot n s₀ next₀ s next = n - next
@@ -35,7 +37,8 @@ enum-known-e : tie.Need-enum-known-e Inv-loop μ-loop
 enum-known-e c = search needs
 
 returns : tie.Need-returns Inv-loop μ-loop
-returns c = at-stop (c .before .before .before .before .before .loop .inv .0) (omega arith) (c .before .before .before .link-at .ensures) (c .before .e .given .1) refl
+returns c =
+    at-stop (c .before .before .before .before .before .loop .inv .0) (omega arith) (c .before .before .before .link-at .ensures) (c .before .e .given .1) refl
 
 enum-told : tie.Need-enum-told Inv-loop μ-loop
 enum-told c = search needs
@@ -44,7 +47,8 @@ loop-less : tie.Need-loop-less Inv-loop μ-loop
 loop-less c = search needs
 
 loop-again : tie.Need-loop-again Inv-loop μ-loop
-loop-again c = (at-next (c .before .before .before .before .loop .inv .0) (omega arith) (c .before .before .link-at .ensures) (c .enum-told .given .1) refl, omega arith)
+loop-again c =
+    (at-next (c .before .before .before .before .loop .inv .0) (omega arith) (c .before .before .link-at .ensures) (c .enum-told .given .1) refl, omega arith)
 
 enum-told-2 : tie.Need-enum-told-2 Inv-loop μ-loop
 enum-told-2 c = search needs
@@ -53,7 +57,8 @@ loop-less-2 : tie.Need-loop-less-2 Inv-loop μ-loop
 loop-less-2 c = search needs
 
 loop-again-2 : tie.Need-loop-again-2 Inv-loop μ-loop
-loop-again-2 c = (at-next (c .before .before .before .before .loop .inv .0) (omega arith) (c .before .before .link-at .ensures) (c .enum-told2 .given .1) refl, omega arith)
+loop-again-2 c =
+    (at-next (c .before .before .before .before .loop .inv .0) (omega arith) (c .before .before .link-at .ensures) (c .enum-told2 .given .1) refl, omega arith)
 
 enum-known-e-2 : tie.Need-enum-known-e-2 Inv-loop μ-loop
 enum-known-e-2 c = search needs
@@ -66,14 +71,24 @@ loop-less-3 c = search needs
 
 loop-again-3 : tie.Need-loop-again-3 Inv-loop μ-loop
 unfolding chainStep
-loop-again-3 c = rw (c .chain-step .ensures) (at-next (c .before .before .before .before .before .before .before .before .loop .inv .0) (omega arith) (c .before .before .before .before .before .before .link-at .ensures) (c .before .before .before .before .e2 .given .1) (ap walk.next (pick-true _ _ (eq-eqb _ _ (c .before .if1 .taken)))), chain-below _ _ _ _ (c .before .before .before .before .before .before .before .before .loop .inv .1))
+loop-again-3 c =
+    rw (c .chain-step .ensures) (
+      at-next (c .before .before .before .before .before .before .before .before .loop .inv .0) (omega arith)
+          (c .before .before .before .before .before .before .link-at .ensures) (c .before .before .before .before .e2 .given .1)
+          (ap walk.next (pick-true _ _ (eq-eqb _ _ (c .before .if1 .taken)))),
+      chain-below _ _ _ _ (c .before .before .before .before .before .before .before .before .loop .inv .1),
+    )
 
 loop-less-4 : tie.Need-loop-less-4 Inv-loop μ-loop
 loop-less-4 c = search needs
 
 loop-again-4 : tie.Need-loop-again-4 Inv-loop μ-loop
 unfolding chainStep
-loop-again-4 c = (at-next (c .before .before .before .before .before .before .before .loop .inv .0) (omega arith) (c .before .before .before .before .before .link-at .ensures) (c .before .before .before .e2 .given .1) (ap walk.next (pick-false _ _ (ne-eqb _ _ (c .if1 .left)))), omega arith)
+loop-again-4 c = (
+  at-next (c .before .before .before .before .before .before .before .loop .inv .0) (omega arith) (c .before .before .before .before .before .link-at .ensures)
+      (c .before .before .before .e2 .given .1) (ap walk.next (pick-false _ _ (ne-eqb _ _ (c .if1 .left)))),
+  omega arith,
+)
 
 chain-end-requires : tie.Need-chain-end-requires Inv-loop μ-loop
 chain-end-requires c κs = search needs

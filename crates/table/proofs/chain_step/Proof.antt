@@ -10,10 +10,16 @@ add-count : tie.Need-add-count
 add-count c = search needs
 
 returns : tie.Need-returns
-returns c = let a = c .before .before .before .before .before .before .args in chain-higher (a .i) (a .l) (a .s) (c .before .before .before .before .before .first-step .ensures) (c .if1 .taken)
+returns c =
+    let at-first-step = c .before .before .before .before .before in
+    let a = at-first-step .before .args in
+    chain-higher (a .i) (a .l) (a .s) (at-first-step .first-step .ensures) (c .if1 .taken)
 
 returns-2 : tie.Need-returns-2
-returns-2 c = let a = c .before .before .before .before .before .before .args in chain-lower (a .i) (a .l) (a .s) (c .before .before .before .before .before .first-step .ensures) (c .if1 .left)
+returns-2 c =
+    let at-first-step = c .before .before .before .before .before in
+    let a = at-first-step .before .args in
+    chain-lower (a .i) (a .l) (a .s) (at-first-step .first-step .ensures) (c .if1 .left)
 
 pub chain-step-spec : {M : Type 1} → statement M
 chain-step-spec =

@@ -19,7 +19,9 @@ same-length : tie.Need-same-length
 same-length c = search needs
 
 returns : tie.Need-returns
-returns c = let a = c .before .before .before .before .args in clear-kept (a .slot) (a .i) (a .sector .now) (rw (c .before .get-u16 .ensures) at (c .if1 .taken))
+returns c =
+    let a = c .before .before .before .before .args in
+    clear-kept (a .slot) (a .i) (a .sector .now) (rw (c .before .get-u16 .ensures) at (c .if1 .taken))
 
 mul-put-zeros : tie.Need-mul-put-zeros
 mul-put-zeros c = search needs
@@ -31,7 +33,10 @@ same-length-2 : tie.Need-same-length-2
 same-length-2 c = search needs
 
 returns-2 : tie.Need-returns-2
-returns-2 c = let a = c .before .before .before .before .before .before .before .before .args in clear-owned (a .slot) (a .i) (a .sector .now) (rw (c .before .before .before .before .before .get-u16 .ensures) at (c .before .before .before .before .if1 .left)) (c .before .before .put-zeros .ensures)
+returns-2 c =
+    let at-if1 = c .before .before .before .before in
+    let a = at-if1 .before .before .before .before .args in
+    clear-owned (a .slot) (a .i) (a .sector .now) (rw (at-if1 .before .get-u16 .ensures) at (at-if1 .if1 .left)) (c .before .before .put-zeros .ensures)
 
 pub clear-link-spec : {M : Type 1} → statement M
 clear-link-spec =

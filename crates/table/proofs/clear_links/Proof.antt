@@ -9,7 +9,8 @@ use Rattle.table.proofs.clear_links.Statement.{statement}
 use Rattle.table.proofs.clear_links.Tie as tie
 
 abbrev Inv-loop : tie.InvT-loop
-Inv-loop sector₀ slot i₀ sector i = (At (λ j s k. next (clearLink slot k s)) (λ j. j) (λ s. s) 128 (clearedOf slot sector₀) i sector) × (length sector ≡ length sector₀)
+Inv-loop sector₀ slot i₀ sector i =
+    (At (λ j s k. next (clearLink slot k s)) (λ j. j) (λ s. s) 128 (clearedOf slot sector₀) i sector) × (length sector ≡ length sector₀)
 
 abbrev μ-loop : tie.MeasureT-loop
 μ-loop sector₀ slot i₀ sector i = 128 - i
@@ -28,7 +29,11 @@ loop-less : tie.Need-loop-less Inv-loop μ-loop
 loop-less c = search needs
 
 loop-again : tie.Need-loop-again Inv-loop μ-loop
-loop-again c = (rw (c .before .before .clear-link .ensures) (at-next (c .before .before .before .before .before .loop .inv .0) (c .before .before .before .before .loop-test .taken) refl refl refl), search needs)
+loop-again c = (
+  let at-loop-test = c .before .before .before .before in
+      rw (c .before .before .clear-link .ensures) (at-next (at-loop-test .before .loop .inv .0) (at-loop-test .loop-test .taken) refl refl refl),
+  search needs,
+)
 
 same-length : tie.Need-same-length Inv-loop μ-loop
 same-length c = search needs

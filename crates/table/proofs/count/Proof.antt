@@ -12,7 +12,9 @@ use Rattle.table.proofs.count.Statement.{statement}
 use Rattle.table.proofs.count.Tie as tie
 
 abbrev Inv-loop : tie.InvT-loop
-Inv-loop volume medium store counts₀ n next₀ counts next = (At (onLink countV) (linkAt volume medium store) (countV .done) (linksOf (store .head .chunks)) (countOf volume medium store counts₀) next counts) × (length counts ≡ length counts₀) × ((k : ℕ) → k < 64 → getD counts k 0 ≤ next)
+Inv-loop volume medium store counts₀ n next₀ counts next =
+    (At (onLink countV) (linkAt volume medium store) (countV .done) (linksOf (store .head .chunks)) (countOf volume medium store counts₀) next counts)
+    × (length counts ≡ length counts₀) × ((k : ℕ) → k < 64 → getD counts k 0 ≤ next)
 
 abbrev μ-loop : tie.MeasureT-loop
 μ-loop volume medium store counts₀ n next₀ counts next = n - next
@@ -38,7 +40,8 @@ same-length c = c .before .before .before .before .before .loop .inv .1
 
 returns : tie.Need-returns Inv-loop μ-loop
 returns c =
-    let q = at-stop (c .before .before .before .before .before .loop .inv .0) (omega arith) (c .before .before .before .link-at .ensures) (c .before .e .given .1) refl in
+    let q = at-stop (c .before .before .before .before .before .loop .inv .0) (omega arith) (c .before .before .before .link-at .ensures)
+    (c .before .e .given .1) refl in
     (ap (λ (x : Counted). x .outcome) q, ap (λ (x : Counted). x .counts) q)
 
 enum-told : tie.Need-enum-told Inv-loop μ-loop
@@ -48,7 +51,11 @@ loop-less : tie.Need-loop-less Inv-loop μ-loop
 loop-less c = search needs
 
 loop-again : tie.Need-loop-again Inv-loop μ-loop
-loop-again c = (at-next (c .before .before .before .before .loop .inv .0) (omega arith) (c .before .before .link-at .ensures) (c .enum-told .given .1) refl, c .before .before .before .before .loop .inv .1, λ k h. omega (arith, c .before .before .before .before .loop .inv .2 k h))
+loop-again c = (
+  at-next (c .before .before .before .before .loop .inv .0) (omega arith) (c .before .before .link-at .ensures) (c .enum-told .given .1) refl,
+  c .before .before .before .before .loop .inv .1,
+  λ k h. omega (arith, c .before .before .before .before .loop .inv .2 k h),
+)
 
 enum-told-2 : tie.Need-enum-told-2 Inv-loop μ-loop
 enum-told-2 c = search needs
@@ -57,7 +64,11 @@ loop-less-2 : tie.Need-loop-less-2 Inv-loop μ-loop
 loop-less-2 c = search needs
 
 loop-again-2 : tie.Need-loop-again-2 Inv-loop μ-loop
-loop-again-2 c = (at-next (c .before .before .before .before .loop .inv .0) (omega arith) (c .before .before .link-at .ensures) (c .enum-told2 .given .1) refl, c .before .before .before .before .loop .inv .1, λ k h. omega (arith, c .before .before .before .before .loop .inv .2 k h))
+loop-again-2 c = (
+  at-next (c .before .before .before .before .loop .inv .0) (omega arith) (c .before .before .link-at .ensures) (c .enum-told2 .given .1) refl,
+  c .before .before .before .before .loop .inv .1,
+  λ k h. omega (arith, c .before .before .before .before .loop .inv .2 k h),
+)
 
 enum-known-e-2 : tie.Need-enum-known-e-2 Inv-loop μ-loop
 enum-known-e-2 c = search needs
@@ -69,7 +80,9 @@ slice-read-counts : tie.Need-slice-read-counts Inv-loop μ-loop
 slice-read-counts c = omega (arith, found-link _ _ _ _ (c .before .before .before .before .link-at .ensures) (c .before .before .e2 .given .1) .1 .slot)
 
 add-counts : tie.Need-add-counts Inv-loop μ-loop
-add-counts c = let h = found-link _ _ _ _ (c .before .before .before .before .link-at .ensures) (c .before .before .e2 .given .1) .1 .slot in omega (arith, c .before .before .before .before .before .before .loop .inv .2 _ h)
+add-counts c =
+    let h = found-link _ _ _ _ (c .before .before .before .before .link-at .ensures) (c .before .before .e2 .given .1) .1 .slot in
+    omega (arith, c .before .before .before .before .before .before .loop .inv .2 _ h)
 
 mul-counts-2 : tie.Need-mul-counts-2 Inv-loop μ-loop
 mul-counts-2 c = omega (arith, found-link _ _ _ _ (c .before .before .before .before .link-at .ensures) (c .before .before .e2 .given .1) .1 .slot)
@@ -83,8 +96,11 @@ loop-less-3 c = search needs
 loop-again-3 : tie.Need-loop-again-3 Inv-loop μ-loop
 loop-again-3 c =
     let l = c .before .before .before .before .before .before .loop in
-    let b = found-link _ _ _ _ (c .before .before .before .before .link-at .ensures) (c .before .before .e2 .given .1) .1 .slot in
-    (at-next (l .inv .0) (omega arith) (c .before .before .before .before .link-at .ensures) (c .before .before .e2 .given .1) refl, simp length-set (l .inv .1), count-below (l .counts) _ (l .next) b (omega (arith, b)) (l .inv .2))
+    let b = found-link _ _ _ _ (c .before .before .before .before .link-at .ensures) (c .before .before .e2 .given .1) .1 .slot in (
+      at-next (l .inv .0) (omega arith) (c .before .before .before .before .link-at .ensures) (c .before .before .e2 .given .1) refl,
+      simp length-set (l .inv .1),
+      count-below (l .counts) _ (l .next) b (omega (arith, b)) (l .inv .2),
+    )
 
 same-length-2 : tie.Need-same-length-2 Inv-loop μ-loop
 same-length-2 c = c .before .loop .inv .1

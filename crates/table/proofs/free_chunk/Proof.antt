@@ -11,7 +11,9 @@ use Rattle.table.proofs.free_chunk.Statement.{statement}
 use Rattle.table.proofs.free_chunk.Tie as tie
 
 abbrev Inv-loop : tie.InvT-loop
-Inv-loop volume medium store h n best₀ next₀ best next = (At (onLink (freeV (store .head .cursor) (store .head .chunks))) (linkAt volume medium store) (freeV (store .head .cursor) (store .head .chunks) .done) (linksOf (store .head .chunks)) (freeOf volume medium store) next best) × Before next best
+Inv-loop volume medium store h n best₀ next₀ best next =
+    (At (onLink (freeV (store .head .cursor) (store .head .chunks))) (linkAt volume medium store) (freeV (store .head .cursor) (store .head .chunks) .done)
+    (linksOf (store .head .chunks)) (freeOf volume medium store) next best) × Before next best
 
 abbrev μ-loop : tie.MeasureT-loop
 μ-loop volume medium store h n best₀ next₀ best next = n - next
@@ -33,7 +35,8 @@ enum-known-e : tie.Need-enum-known-e Inv-loop μ-loop
 enum-known-e c = search needs
 
 returns : tie.Need-returns Inv-loop μ-loop
-returns c = at-stop (c .before .before .before .before .before .loop .inv .0) (omega arith) (c .before .before .before .link-at .ensures) (c .before .e .given .1) refl
+returns c =
+    at-stop (c .before .before .before .before .before .loop .inv .0) (omega arith) (c .before .before .before .link-at .ensures) (c .before .e .given .1) refl
 
 enum-told : tie.Need-enum-told Inv-loop μ-loop
 enum-told c = search needs
@@ -42,19 +45,28 @@ loop-less : tie.Need-loop-less Inv-loop μ-loop
 loop-less c = search needs
 
 loop-again : tie.Need-loop-again Inv-loop μ-loop
-loop-again c = (at-next (c .before .before .before .before .loop .inv .0) (omega arith) (c .before .before .link-at .ensures) (c .enum-told .given .1) refl, before-more (c .before .before .before .before .loop .next) (c .before .before .before .before .loop .best) (c .before .before .before .before .loop .inv .1))
+loop-again c = (
+  at-next (c .before .before .before .before .loop .inv .0) (omega arith) (c .before .before .link-at .ensures) (c .enum-told .given .1) refl,
+  let at-loop = c .before .before .before .before in before-more (at-loop .loop .next) (at-loop .loop .best) (at-loop .loop .inv .1),
+)
 
 enum-told-2 : tie.Need-enum-told-2 Inv-loop μ-loop
 enum-told-2 c = search needs
 
 free-step-requires : tie.Need-free-step-requires Inv-loop μ-loop
-free-step-requires c κs = (search needs, found-free _ _ _ _ (c .before .before .link-at .ensures) (c .enum-told2 .given .1), c .before .before .before .before .loop .inv .1)
+free-step-requires c κs =
+    (search needs, found-free _ _ _ _ (c .before .before .link-at .ensures) (c .enum-told2 .given .1), c .before .before .before .before .loop .inv .1)
 
 loop-less-2 : tie.Need-loop-less-2 Inv-loop μ-loop
 loop-less-2 c = search needs
 
 loop-again-2 : tie.Need-loop-again-2 Inv-loop μ-loop
-loop-again-2 c = rw (c .free-step .ensures) (at-next (c .before .before .before .before .before .loop .inv .0) (omega arith) (c .before .before .before .link-at .ensures) (c .before .enum-told2 .given .1) refl, before-step _ _ _ _ (c .before .before .before .before .before .loop .inv .1))
+loop-again-2 c =
+    rw (c .free-step .ensures) (
+      at-next (c .before .before .before .before .before .loop .inv .0) (omega arith) (c .before .before .before .link-at .ensures)
+          (c .before .enum-told2 .given .1) refl,
+      before-step _ _ _ _ (c .before .before .before .before .before .loop .inv .1),
+    )
 
 enum-told-3 : tie.Need-enum-told-3 Inv-loop μ-loop
 enum-told-3 c = search needs
@@ -63,7 +75,10 @@ loop-less-3 : tie.Need-loop-less-3 Inv-loop μ-loop
 loop-less-3 c = search needs
 
 loop-again-3 : tie.Need-loop-again-3 Inv-loop μ-loop
-loop-again-3 c = (at-next (c .before .before .before .before .loop .inv .0) (omega arith) (c .before .before .link-at .ensures) (c .enum-told3 .given .1) refl, before-more (c .before .before .before .before .loop .next) (c .before .before .before .before .loop .best) (c .before .before .before .before .loop .inv .1))
+loop-again-3 c = (
+  at-next (c .before .before .before .before .loop .inv .0) (omega arith) (c .before .before .link-at .ensures) (c .enum-told3 .given .1) refl,
+  let at-loop = c .before .before .before .before in before-more (at-loop .loop .next) (at-loop .loop .best) (at-loop .loop .inv .1),
+)
 
 returns-2 : tie.Need-returns-2 Inv-loop μ-loop
 returns-2 c = at-end (c .before .loop .inv .0) (omega arith)

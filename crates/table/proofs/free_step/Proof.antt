@@ -15,7 +15,10 @@ enum-known-best-2 c = search needs
 
 returns : tie.Need-returns
 unfolding freeStep
-returns c = let s = c .before .before .before .before in rw (c .before .before .best2 .given .1) (later-near _ _ _ _ (s .pre .0) (s .pre .1) (rw (c .before .before .best2 .given .1) at (s .pre .2)) (c .if1 .taken))
+returns c =
+    let start = c .before .before .before .before in
+    rw (c .before .before .best2 .given .1)
+    (later-near _ _ _ _ (start .pre .0) (start .pre .1) (rw (c .before .before .best2 .given .1) at (start .pre .2)) (c .if1 .taken))
 
 returns-2 : tie.Need-returns-2
 unfolding freeStep
@@ -27,7 +30,10 @@ returns-3 c = rw (c .enum-told .given .1)
 
 returns-4 : tie.Need-returns-4
 unfolding freeStep
-returns-4 c = let s = c .before .before .before .before in rw (c .before .before .best2 .given .1) (later-far _ _ _ _ (s .pre .0) (s .pre .1) (rw (c .before .before .best2 .given .1) at (s .pre .2)) (c .if1 .left))
+returns-4 c =
+    let start = c .before .before .before .before in
+    rw (c .before .before .best2 .given .1)
+    (later-far _ _ _ _ (start .pre .0) (start .pre .1) (rw (c .before .before .best2 .given .1) at (start .pre .2)) (c .if1 .left))
 
 pub free-step-spec : {M : Type 1} → statement M
 free-step-spec =

@@ -18,7 +18,10 @@ enum-known-o : tie.Need-enum-known-o
 enum-known-o c = search needs
 
 returns : tie.Need-returns
-returns c = let s = c .before .before .before .before .before in link-refused (s .args .volume .now) (s .args .medium) (s .args .store) (s .args .chunk) (c .before .before .before .due .ensures) (c .before .o .given .1)
+returns c =
+    let at-due = c .before .before .before in
+    let args = at-due .before .before .args in
+    link-refused (args .volume .now) (args .medium) (args .store) (args .chunk) (at-due .due .ensures) (c .before .o .given .1)
 
 enum-told : tie.Need-enum-told
 enum-told c = search needs
@@ -51,7 +54,13 @@ link-of-requires : tie.Need-link-of-requires
 link-of-requires c κs = search needs
 
 returns-2 : tie.Need-returns-2
-returns-2 c = let s = c .before .before .before .before .before .before .before .before .before .before in link-read (s .args .volume .now) (s .args .medium) (s .args .store) (s .args .chunk) (c .before .before .before .before .before .before .before .before .due .ensures) (c .before .before .before .before .before .before .enum-told .given .1) (ap (λ x. 512 * (x + 9) + 4 * s .args .chunk) (c .before .before .before .before .base .ensures .0)) (c .before .before .before .get-u16 .ensures) (c .before .before .get-u162 .ensures) (c .link-of .ensures)
+returns-2 c =
+    let at-get-u16 = c .before .before .before in
+    let at-enum-told = at-get-u16 .before .before .before in
+    let args = at-enum-told .before .before .before .before .args in
+    link-read (args .volume .now) (args .medium) (args .store) (args .chunk) (at-enum-told .before .before .due .ensures) (at-enum-told .enum-told .given .1)
+    (ap (λ x. 512 * (x + 9) + 4 * args .chunk) (at-get-u16 .before .base .ensures .0)) (at-get-u16 .get-u16 .ensures) (c .before .before .get-u162 .ensures)
+    (c .link-of .ensures)
 
 pub link-at-spec : {M : Type 1} → statement M
 link-at-spec =

@@ -11,7 +11,9 @@ use Rattle.table.proofs.locate.Statement.{statement}
 use Rattle.table.proofs.locate.Tie as tie
 
 abbrev Inv-loop : tie.InvT-loop
-Inv-loop volume medium store slot position n found₀ next₀ found next = At (onLink (locateV slot position)) (linkAt volume medium store) (locateV slot position .done) (linksOf (store .head .chunks)) (locateOf volume medium store slot position) next found
+Inv-loop volume medium store slot position n found₀ next₀ found next =
+    At (onLink (locateV slot position)) (linkAt volume medium store) (locateV slot position .done) (linksOf (store .head .chunks))
+    (locateOf volume medium store slot position) next found
 
 abbrev μ-loop : tie.MeasureT-loop
 μ-loop volume medium store slot position n found₀ next₀ found next = n - next
@@ -33,7 +35,8 @@ enum-known-e : tie.Need-enum-known-e Inv-loop μ-loop
 enum-known-e c = search needs
 
 returns : tie.Need-returns Inv-loop μ-loop
-returns c = at-stop (c .before .before .before .before .before .loop .inv) (omega arith) (c .before .before .before .link-at .ensures) (c .before .e .given .1) refl
+returns c =
+    at-stop (c .before .before .before .before .before .loop .inv) (omega arith) (c .before .before .before .link-at .ensures) (c .before .e .given .1) refl
 
 enum-told : tie.Need-enum-told Inv-loop μ-loop
 enum-told c = search needs
@@ -61,14 +64,20 @@ loop-less-3 c = search needs
 
 loop-again-3 : tie.Need-loop-again-3 Inv-loop μ-loop
 unfolding locateStep
-loop-again-3 c = at-next (c .before .before .before .before .before .before .before .before .loop .inv) (omega arith) (c .before .before .before .before .before .before .link-at .ensures) (c .before .before .before .before .e2 .given .1) (ap walk.next (pick-true _ _ (c .if1 .taken)))
+loop-again-3 c =
+    at-next (c .before .before .before .before .before .before .before .before .loop .inv) (omega arith)
+    (c .before .before .before .before .before .before .link-at .ensures) (c .before .before .before .before .e2 .given .1)
+    (ap walk.next (pick-true _ _ (c .if1 .taken)))
 
 loop-less-4 : tie.Need-loop-less-4 Inv-loop μ-loop
 loop-less-4 c = search needs
 
 loop-again-4 : tie.Need-loop-again-4 Inv-loop μ-loop
 unfolding locateStep
-loop-again-4 c = at-next (c .before .before .before .before .before .before .before .before .loop .inv) (omega arith) (c .before .before .before .before .before .before .link-at .ensures) (c .before .before .before .before .e2 .given .1) (ap walk.next (pick-false _ _ (c .if1 .left)))
+loop-again-4 c =
+    at-next (c .before .before .before .before .before .before .before .before .loop .inv) (omega arith)
+    (c .before .before .before .before .before .before .link-at .ensures) (c .before .before .before .before .e2 .given .1)
+    (ap walk.next (pick-false _ _ (c .if1 .left)))
 
 returns-2 : tie.Need-returns-2 Inv-loop μ-loop
 returns-2 c = at-end (c .before .loop .inv) (omega arith)

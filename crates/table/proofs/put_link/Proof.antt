@@ -48,7 +48,8 @@ returns : tie.Need-returns
 unfolding ownerOf
 returns c =
     let a = c .before .before .before .before .before .before .before .before .before .before .before .before .args in
-    let room : 4 * (a .chunk % 128) + 4 ≤ length (now (a .sector)) = omega (arith, c .before .before .before .before .before .before .before .before .before .before .before .before .pre .0) in
+    let room : 4 * (a .chunk % 128) + 4 ≤ length (now (a .sector)) =
+    omega (arith, c .before .before .before .before .before .before .before .before .before .before .before .before .pre .0) in
     cc (link-put (a .link) (4 * (a .chunk % 128)) (now (a .sector)) room)
 
 pub put-link-spec : {M : Type 1} → statement M

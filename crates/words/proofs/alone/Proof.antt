@@ -25,11 +25,15 @@ same-requires-2 c κs = search needs
 
 returns-2 : tie.Need-returns-2
 unfolding aloneOf meaning within pick
-returns-2 c = (rw (told (c .before .before .before .before .same .ensures) (c .before .before .before .if1 .left), told (c .before .same2 .ensures) (c .if2 .taken)), tt)
+returns-2 c =
+    let at-if1 = c .before .before .before in
+    (rw (told (at-if1 .before .same .ensures) (at-if1 .if1 .left), told (c .before .same2 .ensures) (c .if2 .taken)), tt)
 
 returns-3 : tie.Need-returns-3
 unfolding aloneOf meaning within pick
-returns-3 c = (rw (told (c .before .before .before .before .same .ensures) (c .before .before .before .if1 .left), told (c .before .same2 .ensures) (c .if2 .left)), tt)
+returns-3 c =
+    let at-if1 = c .before .before .before in
+    (rw (told (at-if1 .before .same .ensures) (at-if1 .if1 .left), told (c .before .same2 .ensures) (c .if2 .left)), tt)
 
 pub alone-spec : {M : Type 1} → statement M
 alone-spec =

@@ -14,7 +14,8 @@ use Rattle.words.proofs.decimal.Statement.{statement}
 use Rattle.words.proofs.decimal.Tie as tie
 
 abbrev Inv-loop : tie.InvT-loop
-Inv-loop text max value₀ i₀ i-end value i = (i ≤ length text) × (i-end ≡ length text) × (value ≤ max) × (decimalFrom max value (drop i text) ≡ decimalOf max text)
+Inv-loop text max value₀ i₀ i-end value i =
+    (i ≤ length text) × (i-end ≡ length text) × (value ≤ max) × (decimalFrom max value (drop i text) ≡ decimalOf max text)
 
 abbrev μ-loop : tie.MeasureT-loop
 μ-loop text max value₀ i₀ i-end value i = i-end - i

@@ -23,7 +23,11 @@ shared-slice-read-if1 : tie.Need-shared-slice-read-if1 Inv-loop μ-loop
 shared-slice-read-if1 c = search needs
 
 returns : tie.Need-returns Inv-loop μ-loop
-returns c = (omega (arith, field-stop (now (c .before .before .before .before .args .line)) (c .before .before .before .loop .i) (omega arith) (c .if1 .taken)), search needs, search needs)
+returns c = (
+  omega (arith, field-stop (now (c .before .before .before .before .args .line)) (c .before .before .before .loop .i) (omega arith) (c .if1 .taken)),
+  search needs,
+  search needs,
+)
 
 add-i : tie.Need-add-i Inv-loop μ-loop
 add-i c = search needs
@@ -32,7 +36,12 @@ loop-less : tie.Need-loop-less Inv-loop μ-loop
 loop-less c = search needs
 
 loop-again : tie.Need-loop-again Inv-loop μ-loop
-loop-again c = (search needs, search needs, refl, omega (arith, field-next (now (c .before .before .before .before .args .line)) (c .before .before .before .loop .i) (omega arith) (c .if1 .left)))
+loop-again c = (
+  search needs,
+  search needs,
+  refl,
+  omega (arith, field-next (now (c .before .before .before .before .args .line)) (c .before .before .before .loop .i) (omega arith) (c .if1 .left)),
+)
 
 returns-2 : tie.Need-returns-2 Inv-loop μ-loop
 returns-2 c = (omega (arith, field-none (now (c .before .before .args .line)) (c .before .loop .i) (omega arith)), search needs, search needs)

@@ -54,14 +54,36 @@ enum-told-2 c = search needs
 
 returns-2 : tie.Need-returns-2
 unfolding bothOf formatOf meaning within
-returns-2 c = (rw (told (c .before .before .before .before .before .before .before .decimal .ensures) (c .before .before .before .before .before .size .given .1), told (simp tail-part at (c .before .before .decimal2 .ensures)) (c .enum-told2 .given .1)), tt)
+returns-2 c =
+    let at-size = c .before .before .before .before .before in (
+      rw (
+        told (at-size .before .before .decimal .ensures) (at-size .size .given .1),
+        told (simp tail-part at (c .before .before .decimal2 .ensures)) (c .enum-told2 .given .1),
+      ),
+      tt,
+    )
 
 cast-t16 : tie.Need-cast-t16
-cast-t16 c = record { fits = omega (arith, decimal-most _ _ _ (told (c .before .before .before .before .before .before .before .before .decimal .ensures) (c .before .before .before .before .before .before .size .given .1))) }
+cast-t16 c =
+    record {
+      fits = omega (
+        arith,
+        let at-size = c .before .before .before .before .before .before in
+            decimal-most _ _ _ (told (at-size .before .before .decimal .ensures) (at-size .size .given .1)),
+      );
+    }
 
 returns-3 : tie.Need-returns-3
 unfolding bothOf formatOf meaning within
-returns-3 c = (rw (told (c .before .before .before .before .before .before .before .before .decimal .ensures) (c .before .before .before .before .before .before .size .given .1), told (simp tail-part at (c .before .before .before .decimal2 .ensures)) (c .before .seed .given .1)), tt)
+returns-3 c =
+    let at-decimal2 = c .before .before .before in
+    let at-size = at-decimal2 .before .before .before in (
+      rw (
+        told (at-size .before .before .decimal .ensures) (at-size .size .given .1),
+        told (simp tail-part at (at-decimal2 .decimal2 .ensures)) (c .before .seed .given .1),
+      ),
+      tt,
+    )
 
 pub format-line-spec : {M : Type 1} → statement M
 format-line-spec =

@@ -30,7 +30,11 @@ with-one-requires : tie.Need-with-one-requires
 with-one-requires c κs = search needs
 
 returns-3 : tie.Need-returns-3
-returns-3 c = (c .with-one .ensures .0 ∙ sym (one-tab _ (omega arith) _ (c .before .before .before .before .field-end .ensures .0) (omega arith) _ (c .before .before .field-end2 .ensures .0) (c .before .if3 .taken)), c .with-one .ensures .1)
+returns-3 c = (
+  c .with-one .ensures .0 ∙ sym (one-tab _ (omega arith) _ (c .before .before .before .before .field-end .ensures .0) (omega arith) _
+      (c .before .before .field-end2 .ensures .0) (c .before .if3 .taken)),
+  c .with-one .ensures .1,
+)
 
 add-field-end-2 : tie.Need-add-field-end-2
 add-field-end-2 c = search needs
@@ -40,13 +44,21 @@ field-end-requires-3 c κs = search needs
 
 returns-4 : tie.Need-returns-4
 unfolding meaning within
-returns-4 c = (sym (more-tabs _ (omega arith) _ (c .before .before .before .before .before .field-end .ensures .0) (omega arith) _ (c .before .before .before .field-end2 .ensures .0) (omega arith) _ (c .before .field-end3 .ensures .0) (omega arith)), tt)
+returns-4 c = (
+  sym (more-tabs _ (omega arith) _ (c .before .before .before .before .before .field-end .ensures .0) (omega arith) _
+      (c .before .before .before .field-end2 .ensures .0) (omega arith) _ (c .before .field-end3 .ensures .0) (omega arith)),
+  tt,
+)
 
 with-two-requires : tie.Need-with-two-requires
 with-two-requires c κs = search needs
 
 returns-5 : tie.Need-returns-5
-returns-5 c = (c .with-two .ensures .0 ∙ sym (two-tabs _ (omega arith) _ (c .before .before .before .before .before .before .field-end .ensures .0) (omega arith) _ (c .before .before .before .before .field-end2 .ensures .0) (omega arith) _ (c .before .before .field-end3 .ensures .0) (omega arith)), c .with-two .ensures .1)
+returns-5 c = (
+  c .with-two .ensures .0 ∙ sym (two-tabs _ (omega arith) _ (c .before .before .before .before .before .before .field-end .ensures .0) (omega arith) _
+      (c .before .before .before .before .field-end2 .ensures .0) (omega arith) _ (c .before .before .field-end3 .ensures .0) (omega arith)),
+  c .with-two .ensures .1,
+)
 
 pub parse-spec : {M : Type 1} → statement M
 parse-spec =

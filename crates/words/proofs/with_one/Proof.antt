@@ -38,11 +38,17 @@ same-requires-2 c κs = search needs
 
 returns-2 : tie.Need-returns-2
 unfolding withOneOf meaning within pick
-returns-2 c = (rw (told (simp sub-zero at (c .before .before .before .before .same .ensures)) (c .before .before .before .if1 .left), told (simp sub-zero at (c .before .same2 .ensures)) (c .if2 .taken)), search needs)
+returns-2 c = (
+  let at-if1 = c .before .before .before in
+      rw (told (simp sub-zero at (at-if1 .before .same .ensures)) (at-if1 .if1 .left), told (simp sub-zero at (c .before .same2 .ensures)) (c .if2 .taken)),
+  search needs,
+)
 
 returns-3 : tie.Need-returns-3
 unfolding withOneOf meaning within pick
-returns-3 c = (rw (told (simp sub-zero at (c .before .before .before .before .same .ensures)) (c .before .before .before .if1 .left), told (simp sub-zero at (c .before .same2 .ensures)) (c .if2 .left)), tt)
+returns-3 c =
+    let at-if1 = c .before .before .before in
+    (rw (told (simp sub-zero at (at-if1 .before .same .ensures)) (at-if1 .if1 .left), told (simp sub-zero at (c .before .same2 .ensures)) (c .if2 .left)), tt)
 
 pub with-one-spec : {M : Type 1} → statement M
 with-one-spec =

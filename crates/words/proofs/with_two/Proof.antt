@@ -47,7 +47,14 @@ same-requires-2 c κs = search needs
 
 returns-2 : tie.Need-returns-2
 unfolding withTwoOf meaning within pick
-returns-2 c = (rw (told (simp sub-zero at (c .before .before .before .before .same .ensures)) (c .before .before .before .if1 .left), told (simp sub-zero at (c .before .same2 .ensures)) (not-true _ (c .if2 .taken))), tt)
+returns-2 c =
+    let at-if1 = c .before .before .before in (
+      rw (
+        told (simp sub-zero at (at-if1 .before .same .ensures)) (at-if1 .if1 .left),
+        told (simp sub-zero at (c .before .same2 .ensures)) (not-true _ (c .if2 .taken)),
+      ),
+      tt,
+    )
 
 sub-same : tie.Need-sub-same
 sub-same c = search needs
@@ -66,8 +73,13 @@ same-requires-3 c κs = search needs
 
 returns-3 : tie.Need-returns-3
 unfolding meaning within
-returns-3 c =
-    (is-create _ _ _ _ (told (simp sub-zero at (c .before .before .before .before .before .before .before .same .ensures)) (c .before .before .before .before .before .before .if1 .left)) (told (simp sub-zero at (c .before .before .before .before .same2 .ensures)) (not-false _ (c .before .before .before .if2 .left))) (simp tail-part at (c .same3 .ensures)), search needs)
+returns-3 c = (
+  let at-if2 = c .before .before .before in
+      let at-if1 = at-if2 .before .before .before in
+      is-create _ _ _ _ (told (simp sub-zero at (at-if1 .before .same .ensures)) (at-if1 .if1 .left))
+      (told (simp sub-zero at (at-if2 .before .same2 .ensures)) (not-false _ (at-if2 .if2 .left))) (simp tail-part at (c .same3 .ensures)),
+  search needs,
+)
 
 pub with-two-spec : {M : Type 1} → statement M
 with-two-spec =

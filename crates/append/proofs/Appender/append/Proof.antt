@@ -22,15 +22,21 @@ same-length c = search needs
 
 returns : tie.Need-returns
 unfolding appendCall
-returns c = let a = c .before .before .before .before .before .before .before .before .args in offer-refused (a .volume .now) (a .medium) (a .store) (a .self) (appendOf (a .bytes .now) (a .volume .now) (a .medium) (a .store) (a .self)) (c .before .before .before .before .check .ensures) (c .before .before .o .given .1) (c .stopped .ensures)
+returns c =
+    let at-check = c .before .before .before .before in
+    let a = at-check .before .before .before .before .args in
+    offer-refused (a .volume .now) (a .medium) (a .store) (a .self) (appendOf (a .bytes .now) (a .volume .now) (a .medium) (a .store) (a .self))
+    (at-check .check .ensures) (c .before .before .o .given .1) (c .stopped .ensures)
 
 enum-told : tie.Need-enum-told
 enum-told c = search needs
 
 put-requires : tie.Need-put-requires
-put-requires c κs = let a = c .before .before .before .before .before .before .before .args in
+put-requires c κs =
+    let a = c .before .before .before .before .before .before .before .args in
     let n : length (a .self .buffer) ≡ 486 = search (needs, c .before .before .before .before .before .before .before .good .0) in
-    let f : May (a .volume .now) (a .store) (a .self) = may-facts (a .volume .now) (a .store) (a .self) n (sym (c .before .before .before .check .ensures) ∙ c .before .enum-told .given .1) in
+    let f : May (a .volume .now) (a .store) (a .self) = may-facts (a .volume .now) (a .store) (a .self) n
+    (sym (c .before .before .before .check .ensures) ∙ c .before .enum-told .given .1) in
     (f .ok, f .fit, f .room)
 
 same-length-2 : tie.Need-same-length-2
@@ -38,7 +44,11 @@ same-length-2 c = search needs
 
 returns-2 : tie.Need-returns-2
 unfolding appendCall
-returns-2 c = let a = c .before .before .before .before .before .before .before .before .before .before .args in offer-done (a .volume .now) (a .medium) (a .store) (a .self) (appendOf (a .bytes .now) (a .volume .now) (a .medium) (a .store) (a .self)) (c .before .before .before .before .before .before .check .ensures) (c .before .before .before .before .enum-told .given .1) (c .before .before .put .ensures)
+returns-2 c =
+    let at-enum-told = c .before .before .before .before in
+    let a = at-enum-told .before .before .before .before .before .before .args in
+    offer-done (a .volume .now) (a .medium) (a .store) (a .self) (appendOf (a .bytes .now) (a .volume .now) (a .medium) (a .store) (a .self))
+    (at-enum-told .before .before .check .ensures) (at-enum-told .enum-told .given .1) (c .before .before .put .ensures)
 
 pub append-spec : {M : Type 1} → statement M
 append-spec =

@@ -14,7 +14,8 @@ tail-ok-requires c κs = search needs
 
 returns : tie.Need-returns
 unfolding appenderOk
-returns c = rw (c .before .before .before .before .before .before .before .before .dir-ok .ensures, c .before .before .fill-ok .ensures, c .before .tail-ok .ensures)
+returns c =
+    rw (c .before .before .before .before .before .before .before .before .dir-ok .ensures, c .before .before .fill-ok .ensures, c .before .tail-ok .ensures)
 
 pub handle-ok-spec : {M : Type 1} → statement M
 handle-ok-spec =

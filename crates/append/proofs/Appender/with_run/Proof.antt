@@ -8,7 +8,9 @@ slice-aggregate-put-bytes : tie.Need-slice-aggregate-put-bytes
 slice-aggregate-put-bytes c = search needs
 
 put-bytes-requires : tie.Need-put-bytes-requires
-put-bytes-requires c κs = let n : length (c .before .before .before .before .args .self .buffer) ≡ 486 = search (needs, c .before .before .before .before .good .0) in search (needs, n, c .before .before .before .before .pre)
+put-bytes-requires c κs =
+    let n : length (c .before .before .before .before .args .self .buffer) ≡ 486 = search (needs, c .before .before .before .before .good .0) in
+    search (needs, n, c .before .before .before .before .pre)
 
 add-t11 : tie.Need-add-t11
 add-t11 c = search (needs, c .before .before .before .before .before .before .pre)

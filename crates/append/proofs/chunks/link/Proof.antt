@@ -31,7 +31,11 @@ same-length : tie.Need-same-length
 same-length c = search needs
 
 returns : tie.Need-returns
-returns c = let a = c .before .before .before .before .before .before .before .before .before .before .before .before .before .args in made-of (c .stopped .ensures) (link-refused (a .volume .now) (a .medium) (a .store) (a .appender) (a .partial) (a .records) (a .next) (c .before .before .before .before .before .before .before .before .commit .ensures) (c .before .before .o .given .1))
+returns c =
+    let at-commit = c .before .before .before .before .before .before .before .before in
+    let a = at-commit .before .before .before .before .before .args in
+    made-of (c .stopped .ensures) (link-refused (a .volume .now) (a .medium) (a .store) (a .appender) (a .partial) (a .records) (a .next)
+    (at-commit .commit .ensures) (c .before .before .o .given .1))
 
 enum-told : tie.Need-enum-told
 enum-told c = search needs
@@ -46,7 +50,11 @@ same-length-2 : tie.Need-same-length-2
 same-length-2 c = search needs
 
 returns-2 : tie.Need-returns-2
-returns-2 c = let a = c .before .before .before .before .before .before .before .before .before .before .before .before .before .args in made-of (c .finished .ensures) (link-done (a .volume .now) (a .medium) (a .store) (a .appender) (a .partial) (a .records) (a .next) (c .before .before .before .before .before .before .before .before .commit .ensures) (c .before .before .enum-told .given .1) (c .before .moved-to .ensures))
+returns-2 c =
+    let at-commit = c .before .before .before .before .before .before .before .before in
+    let a = at-commit .before .before .before .before .before .args in
+    made-of (c .finished .ensures) (link-done (a .volume .now) (a .medium) (a .store) (a .appender) (a .partial) (a .records) (a .next)
+    (at-commit .commit .ensures) (c .before .before .enum-told .given .1) (c .before .moved-to .ensures))
 
 pub link-spec : {M : Type 1} → statement M
 link-spec =

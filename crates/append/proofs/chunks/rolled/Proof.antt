@@ -27,7 +27,10 @@ part-remove-oldest-start : tie.Need-part-remove-oldest-start
 part-remove-oldest-start c = search needs
 
 part-remove-oldest-end : tie.Need-part-remove-oldest-end
-part-remove-oldest-end c = let n : length (c .before .before .before .before .before .before .before .args .appender .dir .bytes) ≡ 40 = search (needs, c .before .before .before .before .before .before .before .good .1 .1 .1 .0) in search (needs, n, c .before .before .before .before .before .before .before .pre .1 .dir (c .before .before .before .before .before .before .before .pre .4))
+part-remove-oldest-end c =
+    let n : length (c .before .before .before .before .before .before .before .args .appender .dir .bytes) ≡ 40 =
+    search (needs, c .before .before .before .before .before .before .before .good .1 .1 .1 .0) in
+    search (needs, n, let start = c .before .before .before .before .before .before .before in start .pre .1 .dir (start .pre .4))
 
 remove-oldest-requires : tie.Need-remove-oldest-requires
 remove-oldest-requires c κs = c .before .before .before .before .before .before .before .before .pre .0
@@ -42,7 +45,12 @@ same-length : tie.Need-same-length
 same-length c = search needs
 
 returns : tie.Need-returns
-returns c = let a = c .before .before .before .before .before .before .before .before .before .before .before .before .before .before .before .before .before .args in made-of (c .stopped .ensures) (rolled-refused (a .volume .now) (a .medium) (a .store) (a .appender) (a .partial) (a .records) (dir-slice (a .appender .dir)) (c .before .before .before .before .before .before .before .before .before .before .before .before .before .before .before .is-open .ensures) (c .before .before .before .before .before .before .before .before .before .before .before .before .before .before .open-id .ensures) (c .before .before .before .before .before .before .before .before .remove-oldest .ensures) (c .before .before .o .given .1))
+returns c =
+    let at-remove-oldest = c .before .before .before .before .before .before .before .before in
+    let at-open-id = at-remove-oldest .before .before .before .before .before .before in
+    let a = at-open-id .before .before .before .args in
+    made-of (c .stopped .ensures) (rolled-refused (a .volume .now) (a .medium) (a .store) (a .appender) (a .partial) (a .records) (dir-slice (a .appender .dir))
+    (at-open-id .before .is-open .ensures) (at-open-id .open-id .ensures) (at-remove-oldest .remove-oldest .ensures) (c .before .before .o .given .1))
 
 enum-told : tie.Need-enum-told
 enum-told c = search needs
@@ -54,12 +62,23 @@ same-length-2 : tie.Need-same-length-2
 same-length-2 c = search needs
 
 returns-2 : tie.Need-returns-2
-returns-2 c = let a = c .before .before .before .before .before .before .before .before .before .before .before .before .before .before .before .before .before .before .args in made-of (c .stopped2 .ensures) (rolled-none (a .volume .now) (a .medium) (a .store) (a .appender) (a .partial) (a .records) (dir-slice (a .appender .dir)) (c .before .before .before .before .before .before .before .before .before .before .before .before .before .before .before .before .is-open .ensures) (c .before .before .before .before .before .before .before .before .before .before .before .before .before .before .before .open-id .ensures) (c .before .before .before .before .before .before .before .before .before .remove-oldest .ensures) (c .before .before .before .enum-told .given .1) (not-true _ (c .before .if1 .taken)))
+returns-2 c =
+    let at-enum-told = c .before .before .before in
+    let at-remove-oldest = at-enum-told .before .before .before .before .before .before in
+    let at-open-id = at-remove-oldest .before .before .before .before .before .before in
+    let a = at-open-id .before .before .before .args in
+    made-of (c .stopped2 .ensures) (rolled-none (a .volume .now) (a .medium) (a .store) (a .appender) (a .partial) (a .records) (dir-slice (a .appender .dir))
+    (at-open-id .before .is-open .ensures) (at-open-id .open-id .ensures) (at-remove-oldest .remove-oldest .ensures) (at-enum-told .enum-told .given .1)
+    (not-true _ (c .before .if1 .taken)))
 
 free-chunk-requires : tie.Need-free-chunk-requires
-free-chunk-requires c κs = let a = c .before .before .before .before .before .before .before .before .before .before .before .before .before .before .before .before .before .before .args in
-    let n : length (a .store .head .crcs) ≡ 24 = count (c .before .before .before .before .before .before .before .before .before .before .before .before .before .before .before .before .before .before) in
-    let k = rolled-after (a .volume .now) (a .medium) (a .store) (a .appender) (c .before .before .before .before .before .before .before .before .before .before .before .before .before .before .before .before .before .before .pre .0) n (c .before .before .before .before .before .before .before .before .before .before .before .before .before .before .before .before .before .before .pre .1) _ _ _ (c .before .before .before .before .before .before .before .before .before .remove-oldest .ensures) in
+free-chunk-requires c κs =
+    let at-remove-oldest = c .before .before .before .before .before .before .before .before .before in
+    let start = at-remove-oldest .before .before .before .before .before .before .before .before .before in
+    let a = start .args in
+    let n : length (a .store .head .crcs) ≡ 24 = count start in
+    let k = rolled-after (a .volume .now) (a .medium) (a .store) (a .appender) (start .pre .0) n (start .pre .1) _ _ _
+    (at-remove-oldest .remove-oldest .ensures) in
     let h = store-facts _ _ (k .ok) in
     (h .enough, h .head .chunks-most, h .head .cursor)
 
@@ -79,28 +98,62 @@ enum-known-p-2 : tie.Need-enum-known-p-2
 enum-known-p-2 c = search needs
 
 link-requires : tie.Need-link-requires
-link-requires c κs = let a = c .before .before .before .before .before .before .before .before .before .before .before .before .before .before .before .before .before .before .before .before .before .before .before .args in
-    let n : length (a .store .head .crcs) ≡ 24 = count (c .before .before .before .before .before .before .before .before .before .before .before .before .before .before .before .before .before .before .before .before .before .before .before) in
-    let k = rolled-after (a .volume .now) (a .medium) (a .store) (a .appender) (c .before .before .before .before .before .before .before .before .before .before .before .before .before .before .before .before .before .before .before .before .before .before .before .pre .0) n (c .before .before .before .before .before .before .before .before .before .before .before .before .before .before .before .before .before .before .before .before .before .before .before .pre .1) _ _ _ (c .before .before .before .before .before .before .before .before .before .before .before .before .before .before .remove-oldest .ensures) in
-    (k .ok, k .fit, c .before .before .before .before .before .before .before .before .before .before .before .before .before .before .before .before .before .before .before .before .before .before .before .pre .2, c .before .before .before .before .before .before .before .before .before .before .before .before .before .before .before .before .before .before .before .before .before .before .before .pre .3, free-range _ _ _ (told (c .before .before .before .before .free-chunk .ensures) (c .before .before .p2 .given .1)))
+link-requires c κs =
+    let at-free-chunk = c .before .before .before .before in
+    let at-remove-oldest = at-free-chunk .before .before .before .before .before .before .before .before .before .before in
+    let start = at-remove-oldest .before .before .before .before .before .before .before .before .before in
+    let a = start .args in
+    let n : length (a .store .head .crcs) ≡ 24 = count start in
+    let k = rolled-after (a .volume .now) (a .medium) (a .store) (a .appender) (start .pre .0) n (start .pre .1) _ _ _
+    (at-remove-oldest .remove-oldest .ensures) in
+    (k .ok, k .fit, start .pre .2, start .pre .3, free-range _ _ _ (told (at-free-chunk .free-chunk .ensures) (c .before .before .p2 .given .1)))
 
 same-length-3 : tie.Need-same-length-3
 same-length-3 c = c .before .before .before .before .before .before .before .before .before .before .before .before .before .before .remove-oldest .kept .0
 
 returns-3 : tie.Need-returns-3
-returns-3 c = let a = c .before .before .before .before .before .before .before .before .before .before .before .before .before .before .before .before .before .before .before .before .before .before .before .args in made-of (c .stopped3 .ensures) (rolled-unread (a .volume .now) (a .medium) (a .store) (a .appender) (a .partial) (a .records) (dir-slice (a .appender .dir)) (c .before .before .before .before .before .before .before .before .before .before .before .before .before .before .before .before .before .before .before .before .before .is-open .ensures) (c .before .before .before .before .before .before .before .before .before .before .before .before .before .before .before .before .before .before .before .before .open-id .ensures) (c .before .before .before .before .before .before .before .before .before .before .before .before .before .before .remove-oldest .ensures) (c .before .before .before .before .before .before .before .before .enum-told .given .1) (not-false _ (c .before .before .before .before .before .before .if1 .left)) (c .before .before .before .before .free-chunk .ensures) (c .before .before .p .given .1))
+returns-3 c =
+    let at-free-chunk = c .before .before .before .before in
+    let at-enum-told = at-free-chunk .before .before .before .before in
+    let at-remove-oldest = at-enum-told .before .before .before .before .before .before in
+    let at-open-id = at-remove-oldest .before .before .before .before .before .before in
+    let a = at-open-id .before .before .before .args in
+    made-of (c .stopped3 .ensures) (rolled-unread (a .volume .now) (a .medium) (a .store) (a .appender) (a .partial) (a .records) (dir-slice (a .appender .dir))
+    (at-open-id .before .is-open .ensures) (at-open-id .open-id .ensures) (at-remove-oldest .remove-oldest .ensures) (at-enum-told .enum-told .given .1)
+    (not-false _ (at-free-chunk .before .before .if1 .left)) (at-free-chunk .free-chunk .ensures) (c .before .before .p .given .1))
 
 same-length-4 : tie.Need-same-length-4
 same-length-4 c = c .before .before .before .before .before .before .before .before .before .before .before .before .before .remove-oldest .kept .0
 
 returns-4 : tie.Need-returns-4
-returns-4 c = let a = c .before .before .before .before .before .before .before .before .before .before .before .before .before .before .before .before .before .before .before .before .before .before .args in made-of (c .stopped4 .ensures) (rolled-corrupt (a .volume .now) (a .medium) (a .store) (a .appender) (a .partial) (a .records) (dir-slice (a .appender .dir)) (c .before .before .before .before .before .before .before .before .before .before .before .before .before .before .before .before .before .before .before .before .is-open .ensures) (c .before .before .before .before .before .before .before .before .before .before .before .before .before .before .before .before .before .before .before .open-id .ensures) (c .before .before .before .before .before .before .before .before .before .before .before .before .before .remove-oldest .ensures) (c .before .before .before .before .before .before .before .enum-told .given .1) (not-false _ (c .before .before .before .before .before .if1 .left)) (c .before .before .before .free-chunk .ensures) (c .before .enum-told2 .given .1))
+returns-4 c =
+    let at-free-chunk = c .before .before .before in
+    let at-enum-told = at-free-chunk .before .before .before .before in
+    let at-remove-oldest = at-enum-told .before .before .before .before .before .before in
+    let at-open-id = at-remove-oldest .before .before .before .before .before .before in
+    let a = at-open-id .before .before .before .args in
+    made-of (c .stopped4 .ensures) (rolled-corrupt (a .volume .now) (a .medium) (a .store) (a .appender) (a .partial) (a .records)
+    (dir-slice (a .appender .dir)) (at-open-id .before .is-open .ensures) (at-open-id .open-id .ensures) (at-remove-oldest .remove-oldest .ensures)
+    (at-enum-told .enum-told .given .1) (not-false _ (at-free-chunk .before .before .if1 .left)) (at-free-chunk .free-chunk .ensures)
+    (c .before .enum-told2 .given .1))
 
 same-length-5 : tie.Need-same-length-5
-same-length-5 c = c .before .before .link .kept .0 ∙ c .before .before .before .before .before .before .before .before .before .before .before .before .before .before .before .before .before .remove-oldest .kept .0
+same-length-5 c =
+    let at-remove-oldest =
+    c .before .before .before .before .before .before .before .before .before .before .before .before .before .before .before .before .before in
+    c .before .before .link .kept .0 ∙ at-remove-oldest .remove-oldest .kept .0
 
 returns-5 : tie.Need-returns-5
-returns-5 c = let a = c .before .before .before .before .before .before .before .before .before .before .before .before .before .before .before .before .before .before .before .before .before .before .before .before .before .before .args in rolled-linked (a .volume .now) (a .medium) (a .store) (a .appender) (a .partial) (a .records) (dir-slice (a .appender .dir)) (c .before .before .before .before .before .before .before .before .before .before .before .before .before .before .before .before .before .before .before .before .before .before .before .before .is-open .ensures) (c .before .before .before .before .before .before .before .before .before .before .before .before .before .before .before .before .before .before .before .before .before .before .before .open-id .ensures) (c .before .before .before .before .before .before .before .before .before .before .before .before .before .before .before .before .before .remove-oldest .ensures) (c .before .before .before .before .before .before .before .before .before .before .before .enum-told .given .1) (not-false _ (c .before .before .before .before .before .before .before .before .before .if1 .left)) (c .before .before .before .before .before .before .before .free-chunk .ensures) (c .before .before .before .before .before .p2 .given .1) (c .before .before .link .ensures)
+returns-5 c =
+    let at-p2 = c .before .before .before .before .before in
+    let at-if1 = at-p2 .before .before .before .before in
+    let at-remove-oldest = at-if1 .before .before .before .before .before .before .before .before in
+    let at-open-id = at-remove-oldest .before .before .before .before .before .before in
+    let a = at-open-id .before .before .before .args in
+    rolled-linked (a .volume .now) (a .medium) (a .store) (a .appender) (a .partial) (a .records) (dir-slice (a .appender .dir))
+    (at-open-id .before .is-open .ensures) (at-open-id .open-id .ensures) (at-remove-oldest .remove-oldest .ensures)
+    (at-if1 .before .before .enum-told .given .1) (not-false _ (at-if1 .if1 .left)) (at-p2 .before .before .free-chunk .ensures) (at-p2 .p2 .given .1)
+    (c .before .before .link .ensures)
 
 pub rolled-spec : {M : Type 1} → statement M
 rolled-spec =

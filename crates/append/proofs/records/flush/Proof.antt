@@ -20,7 +20,12 @@ same-length : tie.Need-same-length
 same-length c = search needs
 
 returns : tie.Need-returns
-returns c = let a = c .before .before .before .before .before .before .before .before .before .before .before .before .before .args in made-of (c .stopped .ensures) (flush-refused (a .volume .now) (a .medium) (a .store) (a .appender) (c .before .before .before .before .before .before .before .before .before .before .write .ensures) (c .before .before .before .before .before .before .o .given .1) (c .before .closed .ensures))
+returns c =
+    let at-o = c .before .before .before .before .before .before in
+    let at-write = at-o .before .before .before .before in
+    let a = at-write .before .before .before .args in
+    made-of (c .stopped .ensures)
+    (flush-refused (a .volume .now) (a .medium) (a .store) (a .appender) (at-write .write .ensures) (at-o .o .given .1) (c .before .closed .ensures))
 
 enum-told : tie.Need-enum-told
 enum-told c = search needs
@@ -29,7 +34,10 @@ same-length-2 : tie.Need-same-length-2
 same-length-2 c = search needs
 
 returns-2 : tie.Need-returns-2
-returns-2 c = let a = c .before .before .before .before .before .before .before .args in flush-done (a .volume .now) (a .medium) (a .store) (a .appender) (c .before .before .before .before .write .ensures) (c .enum-told .given .1)
+returns-2 c =
+    let at-write = c .before .before .before .before in
+    let a = at-write .before .before .before .args in
+    flush-done (a .volume .now) (a .medium) (a .store) (a .appender) (at-write .write .ensures) (c .enum-told .given .1)
 
 pub flush-spec : {M : Type 1} → statement M
 flush-spec =

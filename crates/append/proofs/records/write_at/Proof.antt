@@ -9,7 +9,9 @@ use Rattle.append.proofs.records.write_at.Statement.{statement}
 use Rattle.append.proofs.records.write_at.Tie as tie
 
 number-at-requires : tie.Need-number-at-requires
-number-at-requires c κs = let h = store-facts _ _ (c .before .pre .0) .head in (c .before .pre .1 .position, h .size-most, omega (arith, c .before .pre .2, h .size-most))
+number-at-requires c κs =
+    let h = store-facts _ _ (c .before .pre .0) .head in
+    (c .before .pre .1 .position, h .size-most, omega (arith, c .before .pre .2, h .size-most))
 
 sub-write-record : tie.Need-sub-write-record
 sub-write-record c = search needs
@@ -21,7 +23,11 @@ part-write-record-end : tie.Need-part-write-record-end
 part-write-record-end c = search (needs, c .before .before .before .before .before .pre .1 .fill, c .before .before .before .before .before .pre .1 .full)
 
 write-record-requires : tie.Need-write-record-requires
-write-record-requires c κs = let h = store-facts _ _ (c .before .before .before .before .before .before .pre .0) .head in let a = c .before .before .before .before .before .before .args in (data-inside (a .store) (a .appender .chunk) (a .index) _ (c .before .before .before .before .before .before .pre .1 .chunk) (c .before .before .before .before .before .before .pre .2) (h .room), fill-short (a .appender) (c .before .before .before .before .before .before .pre .1 .fill))
+write-record-requires c κs =
+    let start = c .before .before .before .before .before .before in
+    let h = store-facts _ _ (start .pre .0) .head in
+    let a = start .args in
+    (data-inside (a .store) (a .appender .chunk) (a .index) _ (start .pre .1 .chunk) (start .pre .2) (h .room), fill-short (a .appender) (start .pre .1 .fill))
 
 enum-known-o : tie.Need-enum-known-o
 enum-known-o c = search needs
@@ -33,13 +39,23 @@ same-length : tie.Need-same-length
 same-length c = search needs
 
 returns : tie.Need-returns
-returns c = let a = c .before .before .before .before .before .before .before .before .before .before .before .before .before .before .args in made-of (c .stopped .ensures) (record-refused (a .volume .now) (a .medium) (a .store) (a .appender) (a .index) (c .before .before .before .before .before .before .before .before .before .before .before .before .number-at .ensures) (fill-slice (a .appender)) (c .before .before .before .before .before .before .before .write-record .ensures) (c .before .before .o .given .1))
+returns c =
+    let at-write-record = c .before .before .before .before .before .before .before in
+    let at-number-at = at-write-record .before .before .before .before .before in
+    let a = at-number-at .before .before .args in
+    made-of (c .stopped .ensures) (record-refused (a .volume .now) (a .medium) (a .store) (a .appender) (a .index) (at-number-at .number-at .ensures)
+    (fill-slice (a .appender)) (at-write-record .write-record .ensures) (c .before .before .o .given .1))
 
 enum-told : tie.Need-enum-told
 enum-told c = search needs
 
 filed-requires : tie.Need-filed-requires
-filed-requires c κs = omega (arith, c .before .before .before .before .before .before .before .before .before .before .before .before .pre .2, store-facts _ _ (c .before .before .before .before .before .before .before .before .before .before .before .before .pre .0) .head .size-most)
+filed-requires c κs =
+    omega (
+      arith,
+      c .before .before .before .before .before .before .before .before .before .before .before .before .pre .2,
+      store-facts _ _ (c .before .before .before .before .before .before .before .before .before .before .before .before .pre .0) .head .size-most,
+    )
 
 finished-requires : tie.Need-finished-requires
 finished-requires c κs = search needs
@@ -48,7 +64,12 @@ same-length-2 : tie.Need-same-length-2
 same-length-2 c = search needs
 
 returns-2 : tie.Need-returns-2
-returns-2 c = let a = c .before .before .before .before .before .before .before .before .before .before .before .before .before .before .args in made-of (c .finished .ensures) (record-done (a .volume .now) (a .medium) (a .store) (a .appender) (a .index) (c .before .before .before .before .before .before .before .before .before .before .before .before .number-at .ensures) (fill-slice (a .appender)) (c .before .before .before .before .before .before .before .write-record .ensures) (c .before .before .enum-told .given .1) (c .before .filed .ensures))
+returns-2 c =
+    let at-write-record = c .before .before .before .before .before .before .before in
+    let at-number-at = at-write-record .before .before .before .before .before in
+    let a = at-number-at .before .before .args in
+    made-of (c .finished .ensures) (record-done (a .volume .now) (a .medium) (a .store) (a .appender) (a .index) (at-number-at .number-at .ensures)
+    (fill-slice (a .appender)) (at-write-record .write-record .ensures) (c .before .before .enum-told .given .1) (c .before .filed .ensures))
 
 pub write-at-spec : {M : Type 1} → statement M
 write-at-spec =

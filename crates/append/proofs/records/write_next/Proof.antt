@@ -17,22 +17,35 @@ same-length : tie.Need-same-length
 same-length c = search needs
 
 returns : tie.Need-returns
-returns c = let a = c .before .before .before .before .before .before .before .before .before .before .args in next-refused (a .volume .now) (a .medium) (a .store) (a .appender) (a .partial) (a .records) (c .before .before .before .before .before .before .before .extend .ensures) (c .enum-told .given .1)
+returns c =
+    let at-extend = c .before .before .before .before .before .before .before in
+    let a = at-extend .before .before .before .args in
+    next-refused (a .volume .now) (a .medium) (a .store) (a .appender) (a .partial) (a .records) (at-extend .extend .ensures) (c .enum-told .given .1)
 
 enum-told-2 : tie.Need-enum-told-2
 enum-told-2 c = search needs
 
 write-at-requires : tie.Need-write-at-requires
-write-at-requires c κs = let a = c .before .before .before .before .before .before .before .before .before .before .before .args in
-    let n : length (a .store .head .crcs) ≡ 24 = search (needs, c .before .before .before .before .before .before .before .before .before .before .before .good .1 .1 .0) in
-    let k = extended-after (a .volume .now) (a .medium) (a .store) (a .appender) (c .before .before .before .before .before .before .before .before .before .before .before .pre .0) n (c .before .before .before .before .before .before .before .before .before .before .before .pre .1) (a .partial) (a .records) (c .before .before .before .before .before .before .before .before .extend .ensures) in
+write-at-requires c κs =
+    let a = c .before .before .before .before .before .before .before .before .before .before .before .args in
+    let n : length (a .store .head .crcs) ≡ 24 =
+    search (needs, c .before .before .before .before .before .before .before .before .before .before .before .good .1 .1 .0) in
+    let at-extend = c .before .before .before .before .before .before .before .before in
+    let start = at-extend .before .before .before in
+    let k = extended-after (a .volume .now) (a .medium) (a .store) (a .appender) (start .pre .0) n (start .pre .1) (a .partial) (a .records)
+    (at-extend .extend .ensures) in
     (k .ok, k .fit, store-facts _ _ (k .ok) .head .size-least)
 
 same-length-2 : tie.Need-same-length-2
 same-length-2 c = search needs
 
 returns-2 : tie.Need-returns-2
-returns-2 c = let a = c .before .before .before .before .before .before .before .before .before .before .before .before .before .before .args in next-written (a .volume .now) (a .medium) (a .store) (a .appender) (a .partial) (a .records) (c .before .before .before .before .before .before .before .before .before .before .before .extend .ensures) (c .before .before .before .before .enum-told2 .given .1) (c .before .before .write-at .ensures)
+returns-2 c =
+    let at-enum-told2 = c .before .before .before .before in
+    let at-extend = at-enum-told2 .before .before .before .before .before .before .before in
+    let a = at-extend .before .before .before .args in
+    next-written (a .volume .now) (a .medium) (a .store) (a .appender) (a .partial) (a .records) (at-extend .extend .ensures)
+    (at-enum-told2 .enum-told2 .given .1) (c .before .before .write-at .ensures)
 
 pub write-next-spec : {M : Type 1} → statement M
 write-next-spec =

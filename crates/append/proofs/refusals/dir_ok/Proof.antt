@@ -23,7 +23,9 @@ dir-ok-requires : tie.Need-dir-ok-requires
 dir-ok-requires c κs = search needs
 
 returns-2 : tie.Need-returns-2
-returns-2 c = rw (le-leb _ _ (c .before .before .before .before .if1 .left)) (c .dir-ok .ensures ∙ ap dirOk (dir-slice (c .before .before .before .before .before .args .dir)))
+returns-2 c =
+    let at-if1 = c .before .before .before .before in
+    rw (le-leb _ _ (at-if1 .if1 .left)) (c .dir-ok .ensures ∙ ap dirOk (dir-slice (at-if1 .before .args .dir)))
 
 pub dir-ok-spec : {M : Type 1} → statement M
 dir-ok-spec =

@@ -53,7 +53,16 @@ narrow-requires-5 c κs = search needs
 
 returns : tie.Need-returns
 unfolding readerOf
-returns c = rw (c .before .before .before .before .before .end-in .ensures, c .before .before .before .before .narrow .ensures, c .before .before .before .narrow2 .ensures, c .before .before .narrow3 .ensures, c .before .narrow4 .ensures, c .narrow5 .ensures)
+returns c =
+    let at-narrow2 = c .before .before .before in
+    rw (
+      at-narrow2 .before .before .end-in .ensures,
+      at-narrow2 .before .narrow .ensures,
+      at-narrow2 .narrow2 .ensures,
+      c .before .before .narrow3 .ensures,
+      c .before .narrow4 .ensures,
+      c .narrow5 .ensures,
+    )
 
 pub reader-in-spec : {M : Type 1} → statement M
 reader-in-spec =

@@ -51,7 +51,15 @@ array-read-t23 c = search needs
 
 returns : tie.Need-returns
 unfolding storeOf
-returns c = rw (c .before .before .before .before .narrow .ensures, c .before .before .before .narrow2 .ensures, c .before .before .narrow3 .ensures, c .before .narrow4 .ensures, c .writer-in .ensures)
+returns c =
+    let at-narrow2 = c .before .before .before in
+    rw (
+      at-narrow2 .before .narrow .ensures,
+      at-narrow2 .narrow2 .ensures,
+      c .before .before .narrow3 .ensures,
+      c .before .narrow4 .ensures,
+      c .writer-in .ensures,
+    )
 
 pub store-in-spec : {M : Type 1} → statement M
 store-in-spec =

@@ -50,7 +50,9 @@ array-read-t39 c = search needs
 
 returns : tie.Need-returns
 unfolding appenderOf
-returns c = rw (c .before .before .before .before .tail-in .ensures, c .before .before .before .narrow .ensures, c .before .before .narrow2 .ensures, c .before .narrow3 .ensures, c .narrow4 .ensures)
+returns c =
+    let at-narrow = c .before .before .before in
+    rw (at-narrow .before .tail-in .ensures, at-narrow .narrow .ensures, c .before .before .narrow2 .ensures, c .before .narrow3 .ensures, c .narrow4 .ensures)
 
 pub appender-in-spec : {M : Type 1} → statement M
 appender-in-spec =

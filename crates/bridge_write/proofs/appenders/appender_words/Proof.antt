@@ -26,7 +26,9 @@ cast-t11 c = search needs
 
 returns : tie.Need-returns
 unfolding appenderWords
-returns c = rw (c .before .before .before .before .before .before .tail-kind .ensures, c .before .before .before .before .before .tail-count .ensures, c .before .before .before .before .flag .ensures)
+returns c =
+    let at-flag = c .before .before .before .before in
+    rw (at-flag .before .before .tail-kind .ensures, at-flag .before .tail-count .ensures, at-flag .flag .ensures)
 
 pub appender-words-spec : {M : Type 1} → statement M
 appender-words-spec =

@@ -17,10 +17,14 @@ returns-2 : tie.Need-returns-2
 returns-2 c = name-none _ (c .before .before .enum-told2 .given .1) (not-true _ (c .if1 .taken))
 
 returns-3 : tie.Need-returns-3
-returns-3 c = name-short _ (c .before .before .before .before .enum-told2 .given .1) (not-false _ (c .before .before .if1 .left)) (search (needs, c .before .before .before .before .before .before .good)) (c .if2 .taken)
+returns-3 c =
+    name-short _ (c .before .before .before .before .enum-told2 .given .1) (not-false _ (c .before .before .if1 .left))
+    (search (needs, c .before .before .before .before .before .before .good)) (c .if2 .taken)
 
 returns-4 : tie.Need-returns-4
-returns-4 c = name-long _ (c .before .before .before .before .enum-told2 .given .1) (not-false _ (c .before .before .if1 .left)) (search (needs, c .before .before .before .before .before .before .good)) (c .if2 .left)
+returns-4 c =
+    name-long _ (c .before .before .before .before .enum-told2 .given .1) (not-false _ (c .before .before .if1 .left))
+    (search (needs, c .before .before .before .before .before .before .good)) (c .if2 .left)
 
 pub gone-length-spec : {M : Type 1} → statement M
 gone-length-spec =

@@ -21,13 +21,18 @@ part-put-bytes-start : tie.Need-part-put-bytes-start
 part-put-bytes-start c = search needs
 
 part-put-bytes-end : tie.Need-part-put-bytes-end
-part-put-bytes-end c = let n : length (c .before .before .before .before .args .g .name) ≡ 40 = search (needs, c .before .before .before .before .good) in search (needs, n)
+part-put-bytes-end c =
+    let n : length (c .before .before .before .before .args .g .name) ≡ 40 = search (needs, c .before .before .before .before .good) in
+    search (needs, n)
 
 put-bytes-requires : tie.Need-put-bytes-requires
 put-bytes-requires c κs = search needs
 
 returns : tie.Need-returns
-returns c = (c .before .put-bytes .ensures) ∙ ap (λ (s : List ℕ). over 0 s (c .before .before .before .before .before .before .before .args .lent)) (from-start _ _ ∙ (c .before .before .before .before .before .before .gone-length .ensures .0))
+returns c =
+    let at-gone-length = c .before .before .before .before .before .before in
+    (c .before .put-bytes .ensures) ∙ ap (λ (s : List ℕ). over 0 s (at-gone-length .before .args .lent))
+    (from-start _ _ ∙ (at-gone-length .gone-length .ensures .0))
 
 pub gone-name-spec : {M : Type 1} → statement M
 gone-name-spec =

@@ -28,7 +28,9 @@ enum-known-o c = search needs
 
 returns : tie.Need-returns
 unfolding checkOf onDone
-returns c = rw (← c .before .before .before .before .base .ensures .0, told (c .before .before .before .readable .ensures) (c .before .o .given .1))
+returns c =
+    let at-readable = c .before .before .before in
+    rw (← at-readable .before .base .ensures .0, told (at-readable .readable .ensures) (c .before .o .given .1))
 
 enum-told : tie.Need-enum-told
 enum-told c = search needs
@@ -59,11 +61,25 @@ element-copy-out-if1 c = search needs
 
 returns-2 : tie.Need-returns-2
 unfolding checkOf onDone sectorAt part pick
-returns-2 c = rw (← c .before .before .before .before .before .before .before .before .base .ensures .0, told (c .before .before .before .before .before .before .before .readable .ensures) (c .before .before .before .before .before .enum-told .given .1), ← (simp add-sub-cancel-left at (c .before .before .crc32 .ensures)), eq-eqb _ _ (c .if1 .taken))
+returns-2 c =
+    let at-enum-told = c .before .before .before .before .before in
+    rw (
+      ← at-enum-told .before .before .before .base .ensures .0,
+      told (at-enum-told .before .before .readable .ensures) (at-enum-told .enum-told .given .1),
+      ← (simp add-sub-cancel-left at (c .before .before .crc32 .ensures)),
+      eq-eqb _ _ (c .if1 .taken),
+    )
 
 returns-3 : tie.Need-returns-3
 unfolding checkOf onDone sectorAt part pick
-returns-3 c = rw (← c .before .before .before .before .before .before .before .before .base .ensures .0, told (c .before .before .before .before .before .before .before .readable .ensures) (c .before .before .before .before .before .enum-told .given .1), ← (simp add-sub-cancel-left at (c .before .before .crc32 .ensures)), ne-eqb _ _ (c .if1 .left))
+returns-3 c =
+    let at-enum-told = c .before .before .before .before .before in
+    rw (
+      ← at-enum-told .before .before .before .base .ensures .0,
+      told (at-enum-told .before .before .readable .ensures) (at-enum-told .enum-told .given .1),
+      ← (simp add-sub-cancel-left at (c .before .before .crc32 .ensures)),
+      ne-eqb _ _ (c .if1 .left),
+    )
 
 pub body-spec : {M : Type 1} → statement M
 body-spec =

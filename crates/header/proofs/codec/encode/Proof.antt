@@ -19,7 +19,11 @@ same-length : tie.Need-same-length
 same-length c = search needs
 
 returns : tie.Need-returns
-returns c = encode-chain (c .before .before .before .before .before .before .before .before .before .before .before .before .before .before .args .head) (c .before .before .before .before .before .before .before .before .before .before .before .fields .ensures) (c .before .before .before .before .before .before .before .before .body .ensures) (c .before .before .before .before .before .before .put-crcs .ensures) (c .before .before .seal .ensures)
+returns c =
+    let at-put-crcs = c .before .before .before .before .before .before in
+    let at-fields = at-put-crcs .before .before .before .before .before in
+    encode-chain (at-fields .before .before .before .args .head) (at-fields .fields .ensures) (at-put-crcs .before .before .body .ensures)
+    (at-put-crcs .put-crcs .ensures) (c .before .before .seal .ensures)
 
 pub encode-spec : {M : Type 1} → statement M
 encode-spec =

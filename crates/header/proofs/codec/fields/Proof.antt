@@ -34,7 +34,16 @@ same-length : tie.Need-same-length
 same-length c = search needs
 
 returns : tie.Need-returns
-returns c = let a = c .before .before .before .before .before .before .before .before .before .before .before .before .before .before .before .before .before .before .before .before .before .before .before .before .before .before .before .before .before .before .args .head in fields-chain a (c .before .before .before .before .before .before .before .before .before .before .before .before .before .before .before .before .before .before .before .before .before .before .before .before .before .before .before .before .table .ensures) (c .before .before .before .before .before .before .before .before .before .before .before .before .before .before .before .before .before .before .before .before .before .before .before .before .before .before .start .ensures) (c .before .before .before .before .before .before .before .before .before .before .before .before .before .before .before .before .before .before .before .before .before .before .put-u64 .ensures) (c .before .before .before .before .before .before .before .before .before .before .before .before .before .before .before .before .before .before .put-u642 .ensures) (c .before .before .before .before .before .before .before .before .before .before .before .before .before .before .put-u32 .ensures) (c .before .before .before .before .before .before .before .before .before .before .put-u322 .ensures) (c .before .before .before .before .before .before .put-u323 .ensures) (c .before .before .put-u324 .ensures)
+returns c =
+    let at-put-u323 = c .before .before .before .before .before .before in
+    let at-put-u322 = at-put-u323 .before .before .before .before in
+    let at-put-u32 = at-put-u322 .before .before .before .before in
+    let at-put-u642 = at-put-u32 .before .before .before .before in
+    let at-put-u64 = at-put-u642 .before .before .before .before in
+    let at-start = at-put-u64 .before .before .before .before in
+    let a = at-start .before .before .before .before .args .head in
+    fields-chain a (at-start .before .before .table .ensures) (at-start .start .ensures) (at-put-u64 .put-u64 .ensures) (at-put-u642 .put-u642 .ensures)
+    (at-put-u32 .put-u32 .ensures) (at-put-u322 .put-u322 .ensures) (at-put-u323 .put-u323 .ensures) (c .before .before .put-u324 .ensures)
 
 pub fields-spec : {M : Type 1} → statement M
 fields-spec =

@@ -40,9 +40,15 @@ loop-less : tie.Need-loop-less Inv-loop μ-loop
 loop-less c = search needs
 
 loop-again : tie.Need-loop-again Inv-loop μ-loop
-loop-again c = let l = c .before .before .before .before .before .before .loop in let a = c .before .before .before .before .before .before .before .before in let p = c .before .before .put-u32 in
-    let n : length (a .args .t1 .crcs) ≡ 24 = search (needs, a .good .0) in
-    (omega arith, words-more (a .args .t1 .crcs) (a .args .sector .now) (l .sector) (p .last .0) (l .k) (omega arith) (omega arith) (l .inv .1) (p .ensures), p .kept .0 ∙ l .inv .2)
+loop-again c =
+    let l = c .before .before .before .before .before .before .loop in
+    let a = c .before .before .before .before .before .before .before .before in
+    let p = c .before .before .put-u32 in
+    let n : length (a .args .t1 .crcs) ≡ 24 = search (needs, a .good .0) in (
+      omega arith,
+      words-more (a .args .t1 .crcs) (a .args .sector .now) (l .sector) (p .last .0) (l .k) (omega arith) (omega arith) (l .inv .1) (p .ensures),
+      p .kept .0 ∙ l .inv .2,
+    )
 
 same-length : tie.Need-same-length Inv-loop μ-loop
 same-length c = search needs

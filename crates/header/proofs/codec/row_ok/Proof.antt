@@ -66,7 +66,20 @@ table-requires c κs = search needs
 
 returns : tie.Need-returns
 unfolding rowOk zeroFrom part
-returns c = rw (c .table .ensures, c .before .all-zero3 .ensures, c .before .before .before .body .ensures, c .before .before .before .before .all-zero2 .ensures, c .before .before .before .before .before .before .all-zero .ensures, c .before .before .before .before .before .before .before .before .get-u163 .ensures, c .before .before .before .before .before .before .before .before .before .get-u162 .ensures, c .before .before .before .before .before .before .before .before .before .before .get-u16 .ensures)
+returns c =
+    let at-body = c .before .before .before in
+    let at-all-zero = at-body .before .before .before in
+    let at-get-u162 = at-all-zero .before .before .before in
+    rw (
+      c .table .ensures,
+      c .before .all-zero3 .ensures,
+      at-body .body .ensures,
+      at-body .before .all-zero2 .ensures,
+      at-all-zero .all-zero .ensures,
+      at-all-zero .before .before .get-u163 .ensures,
+      at-get-u162 .get-u162 .ensures,
+      at-get-u162 .before .get-u16 .ensures,
+    )
 
 pub row-ok-spec : {M : Type 1} → statement M
 row-ok-spec =

@@ -27,7 +27,14 @@ same-length c = search needs
 
 returns : tie.Need-returns
 unfolding magic
-returns c = let a = c .before .before .before .before .before .before .before .before .before .before .before .before .before .before .before .before .before .before .before .before .before .before in start-chain (a .args .tables) (a .args .sector .now) (a .pre) (c .before .before .before .before .before .before .before .before .before .before .before .before .before .before .before .before .before .before .before .put-zeros .ensures) (c .before .before .before .before .before .before .before .before .before .before .before .before .before .before .put-bytes .ensures) (c .before .before .before .before .before .before .before .before .before .before .put-u16 .ensures) (c .before .before .before .before .before .before .put-u162 .ensures) (c .before .before .put-u163 .ensures)
+returns c =
+    let at-put-u162 = c .before .before .before .before .before .before in
+    let at-put-u16 = at-put-u162 .before .before .before .before in
+    let at-put-bytes = at-put-u16 .before .before .before .before in
+    let at-put-zeros = at-put-bytes .before .before .before .before .before in
+    let start-2 = at-put-zeros .before .before .before in
+    start-chain (start-2 .args .tables) (start-2 .args .sector .now) (start-2 .pre) (at-put-zeros .put-zeros .ensures) (at-put-bytes .put-bytes .ensures)
+    (at-put-u16 .put-u16 .ensures) (at-put-u162 .put-u162 .ensures) (c .before .before .put-u163 .ensures)
 
 pub start-spec : {M : Type 1} → statement M
 start-spec =

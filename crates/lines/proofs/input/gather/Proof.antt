@@ -11,7 +11,9 @@ use Rattle.lines.proofs.input.gather.Statement.{statement}
 use Rattle.lines.proofs.input.gather.Tie as tie
 
 abbrev Inv-loop : tie.InvT-loop
-Inv-loop bytes from line₀ fill fill₀ i₀ i-end line fill' i = (from ≤ i) × (i ≤ length bytes) × (i-end ≡ length bytes) × (fill' ≤ 601) × (length line ≡ length line₀) × (gatherOf (take fill' line) (drop i bytes) ≡ gatherOf (take fill line₀) (drop from bytes))
+Inv-loop bytes from line₀ fill fill₀ i₀ i-end line fill' i =
+    (from ≤ i) × (i ≤ length bytes) × (i-end ≡ length bytes) × (fill' ≤ 601) × (length line ≡ length line₀)
+    × (gatherOf (take fill' line) (drop i bytes) ≡ gatherOf (take fill line₀) (drop from bytes))
 
 abbrev μ-loop : tie.MeasureT-loop
 μ-loop bytes from line₀ fill fill₀ i₀ i-end line fill' i = i-end - i
@@ -29,7 +31,13 @@ same-length : tie.Need-same-length Inv-loop μ-loop
 same-length c = search needs
 
 returns : tie.Need-returns Inv-loop μ-loop
-returns c = let l = c .before .before .before .loop in let a = c .before .before .before .before .before .before .args in (gathered (a .bytes .now) (l .line) _ (sym (l .inv .5) ∙ gather-end (take (l .fill) (l .line)) (a .bytes .now) (l .i) (omega arith) (c .if1 .taken)) (omega arith) (omega arith), λ h. omega arith)
+returns c =
+    let l = c .before .before .before .loop in
+    let a = c .before .before .before .before .before .before .args in (
+      gathered (a .bytes .now) (l .line) _ (sym (l .inv .5) ∙ gather-end (take (l .fill) (l .line)) (a .bytes .now) (l .i) (omega arith) (c .if1 .taken))
+          (omega arith) (omega arith),
+      λ h. omega arith,
+    )
 
 keep-requires : tie.Need-keep-requires Inv-loop μ-loop
 keep-requires c κs = search needs
@@ -41,13 +49,30 @@ loop-less : tie.Need-loop-less Inv-loop μ-loop
 loop-less c = search needs
 
 loop-again : tie.Need-loop-again Inv-loop μ-loop
-loop-again c = let l = c .before .before .before .before .before .before .before .loop in let a = c .before .before .before .before .before .before .before .before .before .before .args in let k = c .before .before .keep .ensures in (omega arith, omega arith, omega arith, k .1, search needs, ap (λ (x : List ℕ). gatherOf x (drop (l .i + 1) (a .bytes .now))) (k .0) ∙ sym (gather-more (take (l .fill) (l .line)) (a .bytes .now) (l .i) (omega arith) (c .before .before .before .before .if1 .left)) ∙ l .inv .5)
+loop-again c =
+    let l = c .before .before .before .before .before .before .before .loop in
+    let a = c .before .before .before .before .before .before .before .before .before .before .args in
+    let k = c .before .before .keep .ensures in (
+      omega arith,
+      omega arith,
+      omega arith,
+      k .1,
+      search needs,
+      ap (λ (x : List ℕ). gatherOf x (drop (l .i + 1) (a .bytes .now))) (k .0) ∙ sym
+          (gather-more (take (l .fill) (l .line)) (a .bytes .now) (l .i) (omega arith) (c .before .before .before .before .if1 .left)) ∙ l .inv .5,
+    )
 
 same-length-2 : tie.Need-same-length-2 Inv-loop μ-loop
 same-length-2 c = search needs
 
 returns-2 : tie.Need-returns-2 Inv-loop μ-loop
-returns-2 c = let l = c .before .loop in let a = c .before .before .before .before .args in (gathered (a .bytes .now) (l .line) _ (sym (l .inv .5) ∙ gather-none (take (l .fill) (l .line)) (a .bytes .now) (l .i) (omega arith)) (omega arith) (omega arith), λ h. omega arith)
+returns-2 c =
+    let l = c .before .loop in
+    let a = c .before .before .before .before .args in (
+      gathered (a .bytes .now) (l .line) _ (sym (l .inv .5) ∙ gather-none (take (l .fill) (l .line)) (a .bytes .now) (l .i) (omega arith)) (omega arith)
+          (omega arith),
+      λ h. omega arith,
+    )
 
 pub gather-spec : {M : Type 1} → statement M
 gather-spec =

@@ -23,13 +23,31 @@ slice-aggregate-put-2 : tie.Need-slice-aggregate-put-2
 slice-aggregate-put-2 c = search needs
 
 put-requires-2 : tie.Need-put-requires-2
-put-requires-2 c κs = field-room (c .before .before .before .before .before .before .before .before .before .before .args .at) _ (c .before .before .before .before .before .before .before .before .before .before .args .out .now) _ (c .before .before .before .before .before .before .before .before .before .before .pre) (few-digits _ (c .before .before .before .before .before .before .before .before .before .before .args .n) (omega (arith, c .before .before .before .before .before .before .before .before .before .before .fits .n)) (c .before .before .before .before .before .before .before .decimal .ensures .1 .0)) (sym (c .before .before .before .before .before .before .before .decimal .ensures .0 .1)) (c .before .before .before .before .put .ensures)
+put-requires-2 c κs =
+    field-room (c .before .before .before .before .before .before .before .before .before .before .args .at) _
+    (c .before .before .before .before .before .before .before .before .before .before .args .out .now) _
+    (c .before .before .before .before .before .before .before .before .before .before .pre) (few-digits _
+    (c .before .before .before .before .before .before .before .before .before .before .args .n)
+    (omega (arith, c .before .before .before .before .before .before .before .before .before .before .fits .n))
+    (c .before .before .before .before .before .before .before .decimal .ensures .1 .0))
+    (sym (c .before .before .before .before .before .before .before .decimal .ensures .0 .1)) (c .before .before .before .before .put .ensures)
 
 same-length : tie.Need-same-length
 same-length c = search needs
 
 returns : tie.Need-returns
-returns c = field-put (c .before .before .before .before .before .before .before .before .before .before .before .before .before .args .at) (c .before .before .before .before .before .before .before .before .before .before .before .before .before .args .n) _ (c .before .before .before .before .before .before .before .before .before .before .before .before .before .args .out .now) _ (c .before .before .before .before .before .before .before .before .before .before .before .before .before .pre) (few-digits _ (c .before .before .before .before .before .before .before .before .before .before .before .before .before .args .n) (omega (arith, c .before .before .before .before .before .before .before .before .before .before .before .before .before .fits .n)) (c .before .before .before .before .before .before .before .before .before .before .decimal .ensures .1 .0)) (c .before .before .before .before .before .before .before .before .before .before .decimal .ensures .1 .0) (c .before .before .before .before .before .before .before .before .before .before .decimal .ensures .1 .1) (sym (c .before .before .before .before .before .before .before .before .before .before .decimal .ensures .0 .1)) (c .before .before .before .before .before .before .before .put .ensures) (c .before .before .put2 .ensures)
+returns c =
+    field-put (c .before .before .before .before .before .before .before .before .before .before .before .before .before .args .at)
+    (c .before .before .before .before .before .before .before .before .before .before .before .before .before .args .n) _
+    (c .before .before .before .before .before .before .before .before .before .before .before .before .before .args .out .now) _
+    (c .before .before .before .before .before .before .before .before .before .before .before .before .before .pre) (few-digits _
+    (c .before .before .before .before .before .before .before .before .before .before .before .before .before .args .n)
+    (omega (arith, c .before .before .before .before .before .before .before .before .before .before .before .before .before .fits .n))
+    (c .before .before .before .before .before .before .before .before .before .before .decimal .ensures .1 .0))
+    (c .before .before .before .before .before .before .before .before .before .before .decimal .ensures .1 .0)
+    (c .before .before .before .before .before .before .before .before .before .before .decimal .ensures .1 .1)
+    (sym (c .before .before .before .before .before .before .before .before .before .before .decimal .ensures .0 .1))
+    (c .before .before .before .before .before .before .before .put .ensures) (c .before .before .put2 .ensures)
 
 pub put-field-spec : {M : Type 1} → statement M
 put-field-spec =

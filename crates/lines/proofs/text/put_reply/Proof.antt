@@ -23,7 +23,10 @@ put-word-requires-2 : tie.Need-put-word-requires-2
 put-word-requires-2 c κs = search needs
 
 put-rows-requires : tie.Need-put-rows-requires
-put-rows-requires c κs = let n = rows-few (c .before .before .before .before .before .before .before .before .before .before .before .pre .2) (c .before .before .before .before .before .before .before .reply2 .given .1) in (omega (arith, n, c .before .before .before .put-word2 .ensures .1), omega (arith, n))
+put-rows-requires c κs =
+    let n = (let at-reply2 = c .before .before .before .before .before .before .before in
+    rows-few (at-reply2 .before .before .before .before .pre .2) (at-reply2 .reply2 .given .1)) in
+    (omega (arith, n, c .before .before .before .put-word2 .ensures .1), omega (arith, n))
 
 enum-known-reply-3 : tie.Need-enum-known-reply-3
 enum-known-reply-3 c = search needs
@@ -44,19 +47,32 @@ same-length : tie.Need-same-length
 same-length c = search needs
 
 returns : tie.Need-returns
-returns c = number-put (c .before .before .before .before .before .before .before .before .before .before .args .out .now) (c .before .before .before .before .before .before .before .before .before .before .args .rows .now) (c .before .before .before .before .before .before .before .before .before .before .args .reply) (c .before .before .before .before .before .before .reply .given .1) (c .before .before .put-word .ensures)
+returns c =
+    let at-reply = c .before .before .before .before .before .before in
+    let args = at-reply .before .before .before .before .args in
+    number-put (args .out .now) (args .rows .now) (args .reply) (at-reply .reply .given .1) (c .before .before .put-word .ensures)
 
 same-length-2 : tie.Need-same-length-2
 same-length-2 c = search needs
 
 returns-2 : tie.Need-returns-2
-returns-2 c = rows-put (c .before .before .before .before .before .before .before .before .before .before .before .before .before .before .args .out .now) (c .before .before .before .before .before .before .before .before .before .before .before .before .before .before .args .rows .now) (c .before .before .before .before .before .before .before .before .before .before .before .before .before .before .args .reply) (c .before .before .before .before .before .before .before .before .before .before .before .before .before .before .pre .0) (c .before .before .before .before .before .before .before .before .before .before .before .before .before .before .pre .2) (c .before .before .before .before .before .before .before .before .before .before .reply2 .given .1) (c .before .before .before .before .before .before .put-word2 .ensures) (c .before .before .put-rows .ensures)
+returns-2 c =
+    let at-put-word2 = c .before .before .before .before .before .before in
+    let at-reply2 = at-put-word2 .before .before .before .before in
+    let start = at-reply2 .before .before .before .before in
+    rows-put (start .args .out .now) (start .args .rows .now) (start .args .reply) (start .pre .0) (start .pre .2) (at-reply2 .reply2 .given .1)
+    (at-put-word2 .put-word2 .ensures) (c .before .before .put-rows .ensures)
 
 same-length-3 : tie.Need-same-length-3
 same-length-3 c = search needs
 
 returns-3 : tie.Need-returns-3
-returns-3 c = refusal-put (c .before .before .before .before .before .before .before .before .before .before .before .args .out .now) (c .before .before .before .before .before .before .before .before .before .before .before .args .rows .now) (c .before .before .before .before .before .before .before .before .before .before .before .args .reply) (c .before .before .before .before .before .before .before .reply3 .given .1) (c .before .before .before .number .ensures) (c .before .before .put-word3 .ensures)
+returns-3 c =
+    let at-number = c .before .before .before in
+    let at-reply3 = at-number .before .before .before .before in
+    let args = at-reply3 .before .before .before .before .args in
+    refusal-put (args .out .now) (args .rows .now) (args .reply) (at-reply3 .reply3 .given .1) (at-number .number .ensures)
+    (c .before .before .put-word3 .ensures)
 
 pub put-reply-spec : {M : Type 1} → statement M
 put-reply-spec =

@@ -57,7 +57,15 @@ same-length c = search needs
 
 returns : tie.Need-returns
 unfolding part
-returns c = row-put (c .before .before .before .before .before .before .before .before .before .before .before .before .before .before .before .before .before .before .before .before .before .before .before .before .args .out .now) (c .before .before .before .before .before .before .before .before .before .before .before .before .before .before .before .before .before .before .before .before .before .before .before .before .args .at) (c .before .before .before .before .before .before .before .before .before .before .before .before .before .before .before .before .before .before .before .before .before .before .before .before .args .row .now) _ _ _ (c .before .before .before .before .before .before .before .before .before .before .before .before .before .before .before .before .before .before .before .before .before .before .before .before .pre .0) (c .before .before .before .before .before .before .before .before .before .before .before .before .before .before .before .before .before .before .before .before .before .before .before .before .pre .1) (c .before .before .before .before .before .before .before .before .before .before .before .before .before .before .before .before .before .before .before .before .text-len .ensures) (c .before .before .before .before .before .before .before .before .before .before .before .before .before .before .before .before .before .before .before .get-u32 .ensures) (c .before .before .before .before .before .before .before .before .before .before .before .before .before .before .before .before .before .before .get-u322 .ensures) (c .before .before .before .before .before .before .before .before .before .before .before .before .before .before .before .put .ensures) (c .before .before .before .before .before .before .before .before .before .before .before .put-field .ensures) (c .before .before .before .before .before .before .before .put-field2 .ensures) (c .before .before .put2 .ensures)
+returns c =
+    let at-put-field2 = c .before .before .before .before .before .before .before in
+    let at-put-field = at-put-field2 .before .before .before .before in
+    let at-put = at-put-field .before .before .before .before in
+    let at-get-u322 = at-put .before .before .before in
+    let start = at-get-u322 .before .before .before .before .before .before in
+    row-put (start .args .out .now) (start .args .at) (start .args .row .now) _ _ _ (start .pre .0) (start .pre .1)
+    (at-get-u322 .before .before .text-len .ensures) (at-get-u322 .before .get-u32 .ensures) (at-get-u322 .get-u322 .ensures) (at-put .put .ensures)
+    (at-put-field .put-field .ensures) (at-put-field2 .put-field2 .ensures) (c .before .before .put2 .ensures)
 
 pub put-row-spec : {M : Type 1} → statement M
 put-row-spec =

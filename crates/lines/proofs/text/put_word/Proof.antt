@@ -19,7 +19,12 @@ same-length : tie.Need-same-length
 same-length c = search needs
 
 returns : tie.Need-returns
-returns c = word-put (c .before .before .before .before .before .before .before .before .before .before .before .before .before .before .before .args .out .now) (c .before .before .before .before .before .before .before .before .before .before .before .before .before .before .before .args .word .now) _ (c .before .before .before .before .before .before .before .before .before .before .before .before .before .before .before .pre .0) (c .before .before .before .before .before .before .before .before .before .before .before .before .before .before .before .pre .1) (c .before .before .before .before .before .before .before .before .before .before .before .put .ensures) (c .before .before .before .before .before .before .before .put-field .ensures) (c .before .before .put2 .ensures)
+returns c =
+    let at-put-field = c .before .before .before .before .before .before .before in
+    let at-put = at-put-field .before .before .before .before in
+    let start = at-put .before .before .before .before in
+    word-put (start .args .out .now) (start .args .word .now) _ (start .pre .0) (start .pre .1) (at-put .put .ensures) (at-put-field .put-field .ensures)
+    (c .before .before .put2 .ensures)
 
 pub put-word-spec : {M : Type 1} → statement M
 put-word-spec =

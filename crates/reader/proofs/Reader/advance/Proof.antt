@@ -17,30 +17,38 @@ enum-known-o c = search needs
 
 returns : tie.Need-returns
 returns c =
-    let a = c .before .before .before .before .before .before .before .args in
-    next-refused (a .volume .now) (a .medium) (a .store) (a .self) (a .out .now) (c .before .before .before .before .arrive .ensures) (c .before .o .given .1)
+    let at-arrive = c .before .before .before .before in
+    let a = at-arrive .before .before .before .args in
+    next-refused (a .volume .now) (a .medium) (a .store) (a .self) (a .out .now) (at-arrive .arrive .ensures) (c .before .o .given .1)
 
 enum-told : tie.Need-enum-told
 enum-told c = search needs
 
 returns-2 : tie.Need-returns-2
 returns-2 c =
-    let a = c .before .before .before .before .before .before .before .before .args in
-    next-end (a .volume .now) (a .medium) (a .store) (a .self) (a .out .now) (c .before .before .before .before .before .arrive .ensures) (c .before .before .enum-told .given .1) (not-true _ (c .if1 .taken))
+    let at-arrive = c .before .before .before .before .before in
+    let a = at-arrive .before .before .before .args in
+    next-end (a .volume .now) (a .medium) (a .store) (a .self) (a .out .now) (at-arrive .arrive .ensures) (c .before .before .enum-told .given .1)
+    (not-true _ (c .if1 .taken))
 
 take-requires : tie.Need-take-requires
 take-requires c κs =
-    let s = c .before .before .before .before .before .before .before .before .before in
-    let r = rw (← c .before .before .before .before .before .before .arrive .ensures) at (arrive-reads (s .args .volume .now) (s .args .medium) (s .args .store) (s .args .self) (reader-facts _ _ (s .pre .1))) in
-    (s .pre .0, reader-ok _ _ (r .reads), r .below (not-false _ (c .before .if1 .left)), s .pre .2)
+    let at-arrive = c .before .before .before .before .before .before in
+    let start = at-arrive .before .before .before in
+    let r = rw (← at-arrive .arrive .ensures) at
+    (arrive-reads (start .args .volume .now) (start .args .medium) (start .args .store) (start .args .self) (reader-facts _ _ (start .pre .1))) in
+    (start .pre .0, reader-ok _ _ (r .reads), r .below (not-false _ (c .before .if1 .left)), start .pre .2)
 
 same-length : tie.Need-same-length
 same-length c = search needs
 
 returns-3 : tie.Need-returns-3
 returns-3 c =
-    let a = c .before .before .before .before .before .before .before .before .before .before .before .before .args in
-    next-taken (a .volume .now) (a .medium) (a .store) (a .self) (a .out .now) (c .before .before .before .before .before .before .before .before .before .arrive .ensures) (c .before .before .before .before .before .before .enum-told .given .1) (not-false _ (c .before .before .before .before .if1 .left)) (c .before .before .take .ensures .0) (c .before .before .take .ensures .1)
+    let at-if1 = c .before .before .before .before in
+    let at-arrive = at-if1 .before .before .before .before .before in
+    let a = at-arrive .before .before .before .args in
+    next-taken (a .volume .now) (a .medium) (a .store) (a .self) (a .out .now) (at-arrive .arrive .ensures) (at-if1 .before .before .enum-told .given .1)
+    (not-false _ (at-if1 .if1 .left)) (c .before .before .take .ensures .0) (c .before .before .take .ensures .1)
 
 pub advance-spec : {M : Type 1} → statement M
 advance-spec =

@@ -23,8 +23,10 @@ passed-end-requires c κs = search needs
 
 returns : tie.Need-returns Inv-loop μ-loop
 returns c =
-    let a = c .before .before .before .before .before .before .before .args in
-    sym (arrive-here (a .volume .now) (a .medium) (a .store) (c .before .before .before .before .before .loop .r) (c .before .before .before .if1 .taken) (told (c .before .before .passed-end .ensures) (not-true _ (c .before .if2 .taken)))) ∙ c .before .before .before .before .before .loop .inv
+    let at-if1 = c .before .before .before in
+    let a = at-if1 .before .before .before .before .args in
+    sym (arrive-here (a .volume .now) (a .medium) (a .store) (at-if1 .before .before .loop .r) (at-if1 .if1 .taken)
+    (told (c .before .before .passed-end .ensures) (not-true _ (c .before .if2 .taken)))) ∙ at-if1 .before .before .loop .inv
 
 add-enter : tie.Need-add-enter Inv-loop μ-loop
 add-enter c = search needs
@@ -37,8 +39,13 @@ enum-known-o c = search needs
 
 returns-2 : tie.Need-returns-2 Inv-loop μ-loop
 returns-2 c =
-    let a = c .before .before .before .before .before .before .before .before .before .before .before .before .args in
-    sym (arrive-refused (a .volume .now) (a .medium) (a .store) (c .before .before .before .before .before .before .before .before .before .before .loop .r) (c .before .before .before .before .before .before .before .before .if1 .taken) (told (c .before .before .before .before .before .before .before .passed-end .ensures) (not-false _ (c .before .before .before .before .before .before .if2 .left))) (c .before .before .before .before .enter .ensures) (c .before .o .given .1)) ∙ c .before .before .before .before .before .before .before .before .before .before .loop .inv
+    let at-enter = c .before .before .before .before in
+    let at-passed-end = at-enter .before .before .before in
+    let at-loop = at-passed-end .before .before .before in
+    let a = at-loop .before .before .args in
+    sym (arrive-refused (a .volume .now) (a .medium) (a .store) (at-loop .loop .r) (at-passed-end .before .if1 .taken)
+    (told (at-passed-end .passed-end .ensures) (not-false _ (at-enter .before .before .if2 .left))) (at-enter .enter .ensures) (c .before .o .given .1))
+    ∙ at-loop .loop .inv
 
 enum-told : tie.Need-enum-told Inv-loop μ-loop
 enum-told c = search needs
@@ -46,13 +53,21 @@ enum-told c = search needs
 loop-less : tie.Need-loop-less Inv-loop μ-loop
 loop-less c =
     let a = c .before .before .before .before .before .before .before .before .before .before .before .args in
-    let m = arrive-moved (a .volume .now) (a .medium) (a .store) (c .before .before .before .before .before .before .before .before .before .loop .r) (c .before .before .before .before .before .before .before .if1 .taken) (told (c .before .before .before .before .before .before .passed-end .ensures) (not-false _ (c .before .before .before .before .before .if2 .left))) (c .before .before .before .enter .ensures) (c .enum-told .given .1) in
+    let m = (let at-enter = c .before .before .before in
+    let at-passed-end = at-enter .before .before .before in
+    arrive-moved (a .volume .now) (a .medium) (a .store) (at-passed-end .before .before .before .loop .r) (at-passed-end .before .if1 .taken)
+    (told (at-passed-end .passed-end .ensures) (not-false _ (at-enter .before .before .if2 .left))) (at-enter .enter .ensures) (c .enum-told .given .1)) in
     omega (arith, m .0, m .1)
 
 loop-again : tie.Need-loop-again Inv-loop μ-loop
 loop-again c =
-    let a = c .before .before .before .before .before .before .before .before .before .before .before .args in
-    sym (arrive-on (a .volume .now) (a .medium) (a .store) (c .before .before .before .before .before .before .before .before .before .loop .r) (c .before .before .before .before .before .before .before .if1 .taken) (told (c .before .before .before .before .before .before .passed-end .ensures) (not-false _ (c .before .before .before .before .before .if2 .left))) (c .before .before .before .enter .ensures) (c .enum-told .given .1)) ∙ c .before .before .before .before .before .before .before .before .before .loop .inv
+    let at-enter = c .before .before .before in
+    let at-passed-end = at-enter .before .before .before in
+    let at-loop = at-passed-end .before .before .before in
+    let a = at-loop .before .before .args in
+    sym (arrive-on (a .volume .now) (a .medium) (a .store) (at-loop .loop .r) (at-passed-end .before .if1 .taken)
+    (told (at-passed-end .passed-end .ensures) (not-false _ (at-enter .before .before .if2 .left))) (at-enter .enter .ensures) (c .enum-told .given .1))
+    ∙ at-loop .loop .inv
 
 returns-3 : tie.Need-returns-3 Inv-loop μ-loop
 returns-3 c =

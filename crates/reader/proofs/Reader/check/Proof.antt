@@ -17,15 +17,37 @@ handle-ok-requires-2 c κs = search needs
 
 returns : tie.Need-returns
 unfolding usableOf pick
-returns c = rw (← c .before .before .before .before .sectors .ensures, ← c .before .before .handle-ok .ensures, ← c .before .handle-ok2 .ensures, not-true (c .before .before .handle-ok .result && c .before .handle-ok2 .result) (c .if1 .taken))
+returns c =
+    rw (
+      ← c .before .before .before .before .sectors .ensures,
+      ← c .before .before .handle-ok .ensures,
+      ← c .before .handle-ok2 .ensures,
+      not-true (c .before .before .handle-ok .result && c .before .handle-ok2 .result) (c .if1 .taken),
+    )
 
 returns-2 : tie.Need-returns-2
 unfolding usableOf pick
-returns-2 c = rw (← c .before .before .before .before .before .before .before .before .before .sectors .ensures, ← c .before .before .before .before .before .before .before .handle-ok .ensures, ← c .before .before .before .before .before .before .handle-ok2 .ensures, not-false (c .before .before .before .before .before .before .before .handle-ok .result && c .before .before .before .before .before .before .handle-ok2 .result) (c .before .before .before .before .before .if1 .left), c .if2 .taken)
+returns-2 c =
+    let at-if1 = c .before .before .before .before .before in
+    rw (
+      ← at-if1 .before .before .before .before .sectors .ensures,
+      ← at-if1 .before .before .handle-ok .ensures,
+      ← at-if1 .before .handle-ok2 .ensures,
+      not-false (at-if1 .before .before .handle-ok .result && at-if1 .before .handle-ok2 .result) (at-if1 .if1 .left),
+      c .if2 .taken,
+    )
 
 returns-3 : tie.Need-returns-3
 unfolding usableOf pick
-returns-3 c = rw (← c .before .before .before .before .before .before .before .before .before .sectors .ensures, ← c .before .before .before .before .before .before .before .handle-ok .ensures, ← c .before .before .before .before .before .before .handle-ok2 .ensures, not-false (c .before .before .before .before .before .before .before .handle-ok .result && c .before .before .before .before .before .before .handle-ok2 .result) (c .before .before .before .before .before .if1 .left), c .if2 .left)
+returns-3 c =
+    let at-if1 = c .before .before .before .before .before in
+    rw (
+      ← at-if1 .before .before .before .before .sectors .ensures,
+      ← at-if1 .before .before .handle-ok .ensures,
+      ← at-if1 .before .handle-ok2 .ensures,
+      not-false (at-if1 .before .before .handle-ok .result && at-if1 .before .handle-ok2 .result) (at-if1 .if1 .left),
+      c .if2 .left,
+    )
 
 pub check-spec : {M : Type 1} → statement M
 check-spec =

@@ -8,7 +8,9 @@ use Rattle.reader.proofs.Reader.hole.Tie as tie
 
 -- the limit is within the chunk
 most : (c : tie.After-limit-of) → c .limit-of .result ≤ c .before .before .args .store .head .chunk
-most c = let s = c .before .before in rw (c .limit-of .ensures) (limit-most (s .args .self .end) (s .args .store .head .chunk) (reader-facts _ _ (s .pre .1) .end))
+most c =
+    let start = c .before .before in
+    rw (c .limit-of .ensures) (limit-most (start .args .self .end) (start .args .store .head .chunk) (reader-facts _ _ (start .pre .1) .end))
 
 limit-of-requires : tie.Need-limit-of-requires
 limit-of-requires c κs = search needs
@@ -33,33 +35,45 @@ is-last-requires c κs = search needs
 
 returns : tie.Need-returns
 returns c =
-    let a = c .before .before .before .before .before .before .before .before .before .args in
-    hole-end (a .volume .now) (a .medium) (a .store) (a .self) (c .before .before .before .before .before .before .before .limit-of .ensures) (c .before .before .before .before .before .search .ensures) (c .before .before .before .s2 .given .1) (c .before .is-last .ensures) (c .if1 .taken)
+    let at-s2 = c .before .before .before in
+    let at-limit-of = at-s2 .before .before .before .before in
+    let a = at-limit-of .before .before .args in
+    hole-end (a .volume .now) (a .medium) (a .store) (a .self) (at-limit-of .limit-of .ensures) (at-s2 .before .before .search .ensures) (at-s2 .s2 .given .1)
+    (c .before .is-last .ensures) (c .if1 .taken)
 
 number-at-requires : tie.Need-number-at-requires
 number-at-requires c κs =
-    let s = c .before .before .before .before .before .before .before .before .before in
-    let r = reader-facts _ _ (s .pre .1) in
-    number-needs (s .args .store) (s .args .self) _ (s .args .self .index) (s .pre .0) r (r .index)
+    let start = c .before .before .before .before .before .before .before .before .before in
+    let r = reader-facts _ _ (start .pre .1) in
+    number-needs (start .args .store) (start .args .self) _ (start .args .self .index) (start .pre .0) r (r .index)
 
 number-at-requires-2 : tie.Need-number-at-requires-2
 number-at-requires-2 c κs =
-    let s = c .before .before .before .before .before .before .before .before .before .before in
-    let r = reader-facts _ _ (s .pre .1) in
-    number-needs (s .args .store) (s .args .self) _ _ (s .pre .0) r (hole-within (s .args .volume .now) (s .args .medium) (s .args .store) (s .args .self) (c .before .before .before .before .before .before .before .before .limit-of .ensures) (c .before .before .before .before .before .before .search .ensures) r (s .pre .2) (c .before .before .before .before .s2 .given .1))
+    let at-s2 = c .before .before .before .before in
+    let at-limit-of = at-s2 .before .before .before .before in
+    let start = at-limit-of .before .before in
+    let r = reader-facts _ _ (start .pre .1) in
+    number-needs (start .args .store) (start .args .self) _ _ (start .pre .0) r (hole-within (start .args .volume .now) (start .args .medium)
+    (start .args .store) (start .args .self) (at-limit-of .limit-of .ensures) (at-s2 .before .before .search .ensures) r (start .pre .2) (at-s2 .s2 .given .1))
 
 moved-to-requires : tie.Need-moved-to-requires
 moved-to-requires c κs = search needs
 
 returns-2 : tie.Need-returns-2
 returns-2 c =
-    let a = c .before .before .before .before .before .before .before .args in
-    hole-refused (a .volume .now) (a .medium) (a .store) (a .self) (c .before .before .before .before .before .limit-of .ensures) (c .before .before .before .search .ensures) (c .before .s .given .1)
+    let at-search = c .before .before .before in
+    let a = at-search .before .before .before .before .args in
+    hole-refused (a .volume .now) (a .medium) (a .store) (a .self) (at-search .before .before .limit-of .ensures) (at-search .search .ensures)
+    (c .before .s .given .1)
 
 returns-3 : tie.Need-returns-3
 returns-3 c =
-    let a = c .before .before .before .before .before .before .before .before .before .before .before .before .args in
-    hole-found (a .volume .now) (a .medium) (a .store) (a .self) (c .before .before .before .before .before .before .before .before .before .before .limit-of .ensures) (c .before .before .before .before .before .before .before .before .search .ensures) (c .before .before .before .before .before .before .s2 .given .1) (c .before .before .before .before .is-last .ensures) (c .before .before .before .if1 .left) (c .before .before .number-at .ensures) (c .before .number-at2 .ensures) (c .moved-to .ensures)
+    let at-if1 = c .before .before .before in
+    let at-s2 = at-if1 .before .before .before in
+    let at-limit-of = at-s2 .before .before .before .before in
+    let a = at-limit-of .before .before .args in
+    hole-found (a .volume .now) (a .medium) (a .store) (a .self) (at-limit-of .limit-of .ensures) (at-s2 .before .before .search .ensures) (at-s2 .s2 .given .1)
+    (at-if1 .before .is-last .ensures) (at-if1 .if1 .left) (c .before .before .number-at .ensures) (c .before .number-at2 .ensures) (c .moved-to .ensures)
 
 pub hole-spec : {M : Type 1} → statement M
 hole-spec =

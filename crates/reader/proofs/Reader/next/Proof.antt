@@ -17,24 +17,29 @@ enum-known-o c = search needs
 
 returns-2 : tie.Need-returns-2
 returns-2 c =
-    let a = c .before .before .before .before .before .before .before .args in
-    next-no (a .volume .now) (a .medium) (a .store) (a .self) (a .out .now) (c .before .before .before .before .if1 .left) (c .before .before .before .check .ensures) (c .before .o .given .1)
+    let at-check = c .before .before .before in
+    let a = at-check .before .before .before .before .args in
+    next-no (a .volume .now) (a .medium) (a .store) (a .self) (a .out .now) (at-check .before .if1 .left) (at-check .check .ensures) (c .before .o .given .1)
 
 enum-told : tie.Need-enum-told
 enum-told c = search needs
 
 advance-requires : tie.Need-advance-requires
 advance-requires c κs =
-    let u = usable-facts _ _ _ (c .before .before .before .check .ensures) (c .before .enum-told .given .1) in
-    (u .0, u .1, c .before .before .before .before .if1 .left)
+    let at-check = c .before .before .before in
+    let u = usable-facts _ _ _ (at-check .check .ensures) (c .before .enum-told .given .1) in
+    (u .0, u .1, at-check .before .if1 .left)
 
 same-length : tie.Need-same-length
 same-length c = search needs
 
 returns-3 : tie.Need-returns-3
 returns-3 c =
-    let a = c .before .before .before .before .before .before .before .before .before .before .before .args in
-    next-done (a .volume .now) (a .medium) (a .store) (a .self) (a .out .now) (c .before .before .before .before .before .before .before .before .if1 .left) (c .before .before .before .before .before .before .before .check .ensures) (c .before .before .before .before .before .enum-told .given .1) (c .before .before .before .advance .ensures .0) (c .before .before .before .advance .ensures .1)
+    let at-advance = c .before .before .before in
+    let at-check = at-advance .before .before .before .before in
+    let a = at-check .before .before .before .before .args in
+    next-done (a .volume .now) (a .medium) (a .store) (a .self) (a .out .now) (at-check .before .if1 .left) (at-check .check .ensures)
+    (at-advance .before .before .enum-told .given .1) (at-advance .advance .ensures .0) (at-advance .advance .ensures .1)
 
 pub next-spec : {M : Type 1} → statement M
 next-spec =

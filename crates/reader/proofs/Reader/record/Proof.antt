@@ -22,7 +22,12 @@ cast-n-3 : tie.Need-cast-n-3
 cast-n-3 c = search needs
 
 add-n : tie.Need-add-n
-add-n c = omega (arith, data-fits (c .before .before .before .args .self .position) (c .before .before .before .args .store .head .chunk) (c .before .before .before .args .self .index) (search needs) (search needs) (search needs))
+add-n c =
+    omega (
+      arith,
+      data-fits (c .before .before .before .args .self .position) (c .before .before .before .args .store .head .chunk)
+          (c .before .before .before .args .self .index) (search needs) (search needs) (search needs),
+    )
 
 cast-t9 : tie.Need-cast-t9
 cast-t9 c = search needs

@@ -12,8 +12,9 @@ enum-known-o c = search needs
 
 returns : tie.Need-returns
 returns c =
-    let a = c .before .before .before .before .before .args in
-    seek-refused (a .volume .now) (a .medium) (a .store) (a .self) (a .«record») (c .before .before .before .check .ensures) (c .before .o .given .1)
+    let at-check = c .before .before .before in
+    let a = at-check .before .before .args in
+    seek-refused (a .volume .now) (a .medium) (a .store) (a .self) (a .«record») (at-check .check .ensures) (c .before .o .given .1)
 
 enum-told : tie.Need-enum-told
 enum-told c = search needs
@@ -23,8 +24,10 @@ go-to-requires c κs = usable-facts _ _ _ (c .before .before .check .ensures) (c
 
 returns-2 : tie.Need-returns-2
 returns-2 c =
-    let a = c .before .before .before .before .before .before .args in
-    seek-done (a .volume .now) (a .medium) (a .store) (a .self) (a .«record») (c .before .before .before .before .check .ensures) (c .before .before .enum-told .given .1) (c .before .go-to .ensures)
+    let at-check = c .before .before .before .before in
+    let a = at-check .before .before .args in
+    seek-done (a .volume .now) (a .medium) (a .store) (a .self) (a .«record») (at-check .check .ensures) (c .before .before .enum-told .given .1)
+    (c .before .go-to .ensures)
 
 pub seek-spec : {M : Type 1} → statement M
 seek-spec =

@@ -15,26 +15,28 @@ below s = let l = limit-most (s .args .self .end) (s .args .store .head .chunk) 
 
 placed : (c : tie.After-data) → c .«data» .result < sectorsOf (c .before .before .before .before .before .before .before .before .args .volume .now)
 placed c =
-    let s = c .before .before .before .before .before .before .before .before in
-    rw (c .«data» .ensures) (record-inside (s .args .volume .now) (s .args .medium) (s .args .store) (s .args .self) (s .args .self .index) (s .pre .0) (reader-facts _ _ (s .pre .1)) (below s))
+    let start = c .before .before .before .before .before .before .before .before in
+    rw (c .«data» .ensures) (record-inside (start .args .volume .now) (start .args .medium) (start .args .store) (start .args .self) (start .args .self .index)
+    (start .pre .0) (reader-facts _ _ (start .pre .1)) (below start))
 
 short : (c : tie.After-data) → c .before .before .j2 .given .0 .0 ≤ 486
 short c =
-    let s = c .before .before .before .before .before .before .before .before in
-    take-length (s .args .volume .now) (s .args .medium) (s .args .store) (s .args .self) (s .args .out .now)
-    (record-read (s .args .volume .now) (s .args .medium) (s .args .store) (s .args .self) (s .args .self .index) (c .before .before .before .before .before .number-at .ensures) (c .before .before .before .before .«record» .ensures))
-    (c .before .before .j2 .given .1) .1
+    let at-record = c .before .before .before .before in
+    let args = at-record .before .before .before .before .args in
+    take-length (args .volume .now) (args .medium) (args .store) (args .self) (args .out .now) (record-read (args .volume .now) (args .medium) (args .store)
+    (args .self) (args .self .index) (at-record .before .number-at .ensures) (at-record .«record» .ensures)) (c .before .before .j2 .given .1) .1
 
 number-at-requires : tie.Need-number-at-requires
 number-at-requires c κs =
-    let s = c .before .before in
-    let r = reader-facts _ _ (s .pre .1) in
-    number-needs (s .args .store) (s .args .self) _ (s .args .self .index) (s .pre .0) r (r .index)
+    let start = c .before .before in
+    let r = reader-facts _ _ (start .pre .1) in
+    number-needs (start .args .store) (start .args .self) _ (start .args .self .index) (start .pre .0) r (r .index)
 
 record-requires : tie.Need-record-requires
 record-requires c κs =
-    let s = c .before .before .before in
-    record-inside (s .args .volume .now) (s .args .medium) (s .args .store) (s .args .self) (s .args .self .index) (s .pre .0) (reader-facts _ _ (s .pre .1)) (below s)
+    let start = c .before .before .before in
+    record-inside (start .args .volume .now) (start .args .medium) (start .args .store) (start .args .self) (start .args .self .index) (start .pre .0)
+    (reader-facts _ _ (start .pre .1)) (below start)
 
 enum-known-j : tie.Need-enum-known-j
 enum-known-j c = search needs
@@ -82,21 +84,32 @@ hole-requires c κs = search needs
 
 returns : tie.Need-returns
 returns c =
-    let a = c .before .before .before .before .before .before .before .args in
-    take-refused (a .volume .now) (a .medium) (a .store) (a .self) (a .out .now) (record-read (a .volume .now) (a .medium) (a .store) (a .self) (a .self .index) (c .before .before .before .before .number-at .ensures) (c .before .before .before .«record» .ensures)) (c .before .j .given .1)
+    let at-record = c .before .before .before in
+    let a = at-record .before .before .before .before .args in
+    take-refused (a .volume .now) (a .medium) (a .store) (a .self) (a .out .now)
+    (record-read (a .volume .now) (a .medium) (a .store) (a .self) (a .self .index) (at-record .before .number-at .ensures) (at-record .«record» .ensures))
+    (c .before .j .given .1)
 
 same-length : tie.Need-same-length
 same-length c = search needs
 
 returns-2 : tie.Need-returns-2
 returns-2 c =
-    let a = c .before .before .before .before .before .before .before .before .before .before .before .before .before .before .before .args in
-    take-payload (a .volume .now) (a .medium) (a .store) (a .self) (a .out .now) (record-read (a .volume .now) (a .medium) (a .store) (a .self) (a .self .index) (c .before .before .before .before .before .before .before .before .before .before .before .before .number-at .ensures) (c .before .before .before .before .before .before .before .before .before .before .before .«record» .ensures)) (c .before .before .before .before .before .before .before .before .before .j2 .given .1) (c .before .before .before .before .before .before .before .«data» .ensures) refl (c .before .before .before .before .put-bytes .ensures) (c .moved-to .ensures)
+    let at-put-bytes = c .before .before .before .before in
+    let at-data = at-put-bytes .before .before .before in
+    let at-record = at-data .before .before .before .before in
+    let a = at-record .before .before .before .before .args in
+    take-payload (a .volume .now) (a .medium) (a .store) (a .self) (a .out .now)
+    (record-read (a .volume .now) (a .medium) (a .store) (a .self) (a .self .index) (at-record .before .number-at .ensures) (at-record .«record» .ensures))
+    (at-data .before .before .j2 .given .1) (at-data .«data» .ensures) refl (at-put-bytes .put-bytes .ensures) (c .moved-to .ensures)
 
 returns-3 : tie.Need-returns-3
 returns-3 c =
-    let a = c .before .before .before .before .before .before .before .args in
-    take-hole (a .volume .now) (a .medium) (a .store) (a .self) (a .out .now) (record-read (a .volume .now) (a .medium) (a .store) (a .self) (a .self .index) (c .before .before .before .before .number-at .ensures) (c .before .before .before .«record» .ensures)) (c .before .enum-told .given .1) (c .hole .ensures)
+    let at-record = c .before .before .before in
+    let a = at-record .before .before .before .before .args in
+    take-hole (a .volume .now) (a .medium) (a .store) (a .self) (a .out .now)
+    (record-read (a .volume .now) (a .medium) (a .store) (a .self) (a .self .index) (at-record .before .number-at .ensures) (at-record .«record» .ensures))
+    (c .before .enum-told .given .1) (c .hole .ensures)
 
 pub take-spec : {M : Type 1} → statement M
 take-spec =

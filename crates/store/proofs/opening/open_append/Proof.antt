@@ -16,19 +16,35 @@ refused-requires : tie.Need-refused-requires
 refused-requires c κs = search needs
 
 returns : tie.Need-returns
-returns c = let a = c .before .before .before .before .before .before .before .before .before .args in open-refused (a .volume .now) (a .medium) (a .store) (a .name .now) (a .rolls) (a .dir .now) (c .before .before .before .before .before .open-fine .ensures) (c .before .before .before .before .asked .ensures) (c .before .before .o .given .1) (c .refused .ensures)
+returns c =
+    let at-asked = c .before .before .before .before in
+    let a = at-asked .before .before .before .before .before .args in
+    open-refused (a .volume .now) (a .medium) (a .store) (a .name .now) (a .rolls) (a .dir .now) (at-asked .before .open-fine .ensures)
+    (at-asked .asked .ensures) (c .before .before .o .given .1) (c .refused .ensures)
 
 enum-told : tie.Need-enum-told
 enum-told c = search needs
 
 rollover-of-requires : tie.Need-rollover-of-requires
-rollover-of-requires c κs = let a = c .before .before .before .before .before .before .before .args in input-fits (a .volume .now) (a .store) (a .name .now) (a .rolls) (a .dir .now) (c .before .before .before .open-fine .ensures) (c .before .before .asked .ensures) (c .enum-told .given .1) .near
+rollover-of-requires c κs =
+    let at-open-fine = c .before .before .before in
+    let a = at-open-fine .before .before .before .before .args in
+    input-fits (a .volume .now) (a .store) (a .name .now) (a .rolls) (a .dir .now) (at-open-fine .open-fine .ensures) (c .before .before .asked .ensures)
+    (c .enum-told .given .1) .near
 
 open-append-requires : tie.Need-open-append-requires
-open-append-requires c κs = let a = c .before .before .before .before .before .before .before .before .args in input-fits (a .volume .now) (a .store) (a .name .now) (a .rolls) (a .dir .now) (c .before .before .before .before .open-fine .ensures) (c .before .before .before .asked .ensures) (c .before .enum-told .given .1) .ok
+open-append-requires c κs =
+    let at-asked = c .before .before .before in
+    let a = at-asked .before .before .before .before .before .args in
+    input-fits (a .volume .now) (a .store) (a .name .now) (a .rolls) (a .dir .now) (at-asked .before .open-fine .ensures) (at-asked .asked .ensures)
+    (c .before .enum-told .given .1) .ok
 
 returns-2 : tie.Need-returns-2
-returns-2 c = let a = c .before .before .before .before .before .before .before .before .before .args in open-told (a .volume .now) (a .medium) (a .store) (a .name .now) (a .rolls) (a .dir .now) (c .before .before .before .before .before .open-fine .ensures) (c .before .before .before .before .asked .ensures) (c .before .before .enum-told .given .1) (c .before .rollover-of .ensures) (c .open-append .ensures)
+returns-2 c =
+    let at-asked = c .before .before .before .before in
+    let a = at-asked .before .before .before .before .before .args in
+    open-told (a .volume .now) (a .medium) (a .store) (a .name .now) (a .rolls) (a .dir .now) (at-asked .before .open-fine .ensures) (at-asked .asked .ensures)
+    (c .before .before .enum-told .given .1) (c .before .rollover-of .ensures) (c .open-append .ensures)
 
 pub open-append-spec : {M : Type 1} → statement M
 open-append-spec =

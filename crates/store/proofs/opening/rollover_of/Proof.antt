@@ -18,7 +18,10 @@ put-bytes-requires c κs = omega (arith, c .before .before .before .pre (not-fal
 
 returns-2 : tie.Need-returns-2
 unfolding zeros
-returns-2 c = rollover-set (c .before .before .before .before .before .args .rolls) (c .before .before .before .before .before .args .dir .now) (not-false _ (c .before .before .before .if1 .left)) (c .before .put-bytes .ensures)
+returns-2 c =
+    let at-if1 = c .before .before .before in
+    rollover-set (at-if1 .before .before .args .rolls) (at-if1 .before .before .args .dir .now) (not-false _ (at-if1 .if1 .left))
+    (c .before .put-bytes .ensures)
 
 pub rollover-of-spec : {M : Type 1} → statement M
 rollover-of-spec =

@@ -33,7 +33,7 @@ FAULTS = [
     ("plan", "links_left", "a removed file keeps its links", "Edit::Remove { slot } => (k == slot / 8) | (8 <= k),", "Edit::Remove { slot } => (k == slot / 8) | (9 <= k),"),
     ("format", "over_newest", "format writes over the newest copy", "make(volume, medium, copy_for(c), head)", "make(volume, medium, 1 - copy_for(c), head)"),
     ("header", "mark_kept", "format's first header keeps the last letter of its magic", "    runs::put_zeros(sector, 0, 16);", "    runs::put_zeros(sector, 0, 12);"),
-    ("format", "id_taken_again", "format may take an id that a copy has", "let bad = (id == 0) | taken(c, id);", "let bad = id == 0;"),
+    ("format", "id_taken_again", "format may take an id that a copy has", "let bad = (id == 0) | has_id(c, id);", "let bad = id == 0;"),
     ("remove", "writer_left_open", "a removed file stays open", "            if open == id {", "            if open != id {"),
     ("files", "spares_the_first", "create's rollover spares the file with id 1", "&bytes[0..n], false, 0);", "&bytes[0..n], true, 1);"),
     ("directory", "name_unseen", "create's look does not see the file of the name", "            exists: true,", "            exists: s.exists,"),

@@ -86,7 +86,8 @@ module _ (vol : List ℕ) (m : Medium) (st : Store) (a : Appender) (partial : Bo
       onDone-keeps (Goes vol m st) (g .ans .outcome) _ _
       (λ _. pick-keeps (Goes vol m st) (g .ans .any) _ _
       (onPick-keeps (Goes vol m st) (freeOf (g .vol) (g .ans .medium) (g .ans .store)) _ _ _ no (no Corrupt)
-      (λ c q. goes-more (linkOut (g .vol) (g .ans .medium) (g .ans .store) a partial records c) k (link-goes (g .vol) (g .ans .medium) (g .ans .store) a partial records (k .good) f near c (free-range (g .vol) (g .ans .medium) (g .ans .store) q))))
+      (λ c q. goes-more (linkOut (g .vol) (g .ans .medium) (g .ans .store) a partial records c) k
+      (link-goes (g .vol) (g .ans .medium) (g .ans .store) a partial records (k .good) f near c (free-range (g .vol) (g .ans .medium) (g .ans .store) q))))
       (no Full))
       (λ e _. no e)
 

@@ -18,7 +18,7 @@ use Rattle.handles.specs.declared.Store.{Store}
 use Rattle.handles.specs.Handles.{storeOk}
 use Rattle.remove.proofs.Keeps.{Good, Stands}
 use Rattle.append.specs.declared.Appender.{Appender}
-use Rattle.append.specs.declared.Flushed.{Flushed}
+use Rattle.append.specs.declared.Handed.{Handed}
 use Rattle.append.specs.Flush.{AppOut, stopped, appendOf, flushOf, syncOf}
 use Rattle.append.specs.Calls.{mayWrite, appAnswer, AppCall, callOf, offered, appendCall, syncCall}
 use Rattle.append.proofs.Then.{GivesA, along}
@@ -27,29 +27,29 @@ use Rattle.append.proofs.Runs.{Puts, append-puts, sync-puts}
 use Rattle.append.proofs.Owns.{Bound, bound, Owned, append-owned, sync-owned}
 
 -- a call's volume and what it tells are what a definition gives
-abbrev pub Offers : List ℕ → Flushed → AppCall → Type 0
+abbrev pub Offers : List ℕ → Handed → AppCall → Type 0
 Offers v r c = (v ≡ c .vol) × (appAnswer r ≡ c .call)
 
-pub offers-of : {v : List ℕ} {r : Flushed} {o : AppOut} {c : AppCall} → GivesA v r o → callOf o ≡ c → Offers v r c
+pub offers-of : {v : List ℕ} {r : Handed} {o : AppOut} {c : AppCall} → GivesA v r o → callOf o ≡ c → Offers v r c
 offers-of g e = (g .0 ∙ ap (λ (x : AppCall). x .vol) e, ap appAnswer (g .1) ∙ ap (λ (x : AppCall). x .call) e)
 
 module _ (vol : List ℕ) (m : Medium) (st : Store) (a : Appender) (o : AppOut) {c : Outcome} (asked : c ≡ mayWrite vol st a) where
-  pub offer-refused : {e : Error} {r : Flushed} → c ≡ No e → r ≡ record { outcome = No e; medium = m; store = st; appender = a } → Offers vol r (offered vol m st a o)
+  pub offer-refused : {e : Error} {r : Handed} → c ≡ No e → r ≡ record { outcome = No e; medium = m; store = st; appender = a } → Offers vol r (offered vol m st a o)
   unfolding offered
   offer-refused {e} d h = offers-of {o = stopped vol m st a e} (refl, h) (sym (onDone-no _ _ (sym asked ∙ d)))
 
-  pub offer-done : {v : List ℕ} {r : Flushed} → c ≡ Done → GivesA v r o → Offers v r (offered vol m st a o)
+  pub offer-done : {v : List ℕ} {r : Handed} → c ≡ Done → GivesA v r o → Offers v r (offered vol m st a o)
   unfolding offered
   offer-done d g = offers-of {o = o} g (sym (onDone-done _ _ (sym asked ∙ d)))
 
 -- ---- sync
 
 module _ (vol : List ℕ) (m : Medium) (st : Store) (a : Appender) where
-  pub sync-nothing : {r : Flushed} → a .fill ≡ 0 → r ≡ record { outcome = Done; medium = m; store = st; appender = a } → GivesA vol r (syncOf vol m st a)
+  pub sync-nothing : {r : Handed} → a .fill ≡ 0 → r ≡ record { outcome = Done; medium = m; store = st; appender = a } → GivesA vol r (syncOf vol m st a)
   unfolding syncOf
   sync-nothing h g = along (refl, g) (sym (pick-true _ _ (eq-eqb _ _ h)))
 
-  pub sync-flushed : {v : List ℕ} {r : Flushed} → (a .fill ≡ 0 → ⊥) → GivesA v r (flushOf vol m st a) → GivesA v r (syncOf vol m st a)
+  pub sync-flushed : {v : List ℕ} {r : Handed} → (a .fill ≡ 0 → ⊥) → GivesA v r (flushOf vol m st a) → GivesA v r (syncOf vol m st a)
   unfolding syncOf
   sync-flushed h g = along g (sym (pick-false _ _ (ne-eqb _ _ h)))
 

@@ -20,7 +20,7 @@ use Rattle.remove.proofs.Ways.{GivesG}
 use Rattle.remove.proofs.Keeps.{GoneStands, oldest-stands}
 use Rattle.append.specs.declared.Appender.{Appender}
 use Rattle.append.specs.declared.Dir.{Dir}
-use Rattle.append.specs.declared.Flushed.{Flushed}
+use Rattle.append.specs.declared.Handed.{Handed}
 use Rattle.append.specs.declared.Tail.{Tail}
 use Rattle.append.specs.declared.Tail.the-variants.{Reopened}
 use Rattle.append.specs.Appender.{dirBytes, tailOk, Fit}
@@ -62,7 +62,7 @@ module _ (vol : List ℕ) (m : Medium) (st : Store) (a : Appender) (ok : storeOk
       let k : GoneStands vol m st (removeOldestOf vol m st dir keeping keep) = oldest-stands vol m st dir keeping keep (record { ok = ok; count = count }) in
       rw (h .0, h .1) (record { ok = k .good .ok; fit = fit-still (k .chunks) (k .chunk) fit })
 
-  pub extended-after : (partial : Bool) (records : ℕ) {v : List ℕ} {x : Flushed} → GivesA v x (extendOf vol m st a partial records) → After v (x .store) (x .appender)
+  pub extended-after : (partial : Bool) (records : ℕ) {v : List ℕ} {x : Handed} → GivesA v x (extendOf vol m st a partial records) → After v (x .store) (x .appender)
   extended-after partial records h =
       let k : Goes vol m st (extendOf vol m st a partial records) = extend-goes vol m st a partial records (record { ok = ok; count = count }) fit in
       rw (h .0, h .1) (record { ok = k .0 .good .ok; fit = k .1 })

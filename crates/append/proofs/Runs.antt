@@ -19,7 +19,7 @@ use Rattle.medium.proofs.Laws.{onDone-keeps}
 use Rattle.handles.specs.declared.Store.{Store}
 use Rattle.remove.proofs.Keeps.{Good, stands-none}
 use Rattle.append.specs.declared.Appender.{Appender}
-use Rattle.append.specs.declared.Flushed.{Flushed}
+use Rattle.append.specs.declared.Handed.{Handed}
 use Rattle.append.specs.Appender.{Fit}
 use Rattle.append.specs.Flush.{AppOut, done, after, andThen, flushOf, holding, pushed, putByte, appendOf, syncOf, withRun, runOf}
 use Rattle.append.proofs.Then.{GivesA, Same, along, then-done, then-no, then-nothing, append-parts}
@@ -92,7 +92,7 @@ run-fills (b ∷ bs) vol m st a l one h = run-full b bs vol m st a l h
 -- ---- the ways out of a run
 
 module _ (bs vol : List ℕ) (m : Medium) (st : Store) (a : Appender) (l : length (a .buffer) ≡ 486) {x : Appender} (hx : x ≡ withRun bs a) where
-  pub put-full : {v : List ℕ} {r : Flushed} → 1 ≤ length bs → x .fill ≡ 486 → GivesA v r (flushOf vol m st x) → GivesA v r (appendOf bs vol m st a)
+  pub put-full : {v : List ℕ} {r : Handed} → 1 ≤ length bs → x .fill ≡ 486 → GivesA v r (flushOf vol m st x) → GivesA v r (appendOf bs vol m st a)
   put-full one f g =
       let n : a .fill + length bs ≡ 486 = sym (ap (λ (y : Appender). y .fill) hx) ∙ f in
       along g (ap (flushOf vol m st) hx ∙ sym (run-fills bs vol m st a l one n))
@@ -186,7 +186,7 @@ module _ (bytes : List ℕ) (i : ℕ) (vol : List ℕ) (m : Medium) (st : Store)
   unfolding appendOf
   put-end h = rw (drop-of-length-le bytes h) (refl, refl)
 
-  module _ (n : ℕ) {v : List ℕ} {r : Flushed} (g : GivesA v r (appendOf (take (i + n - i) (drop i bytes)) vol m st a)) where
+  module _ (n : ℕ) {v : List ℕ} {r : Handed} (g : GivesA v r (appendOf (take (i + n - i) (drop i bytes)) vol m st a)) where
     parts : appendOf (drop i bytes) vol m st a ≡ andThen (appendOf (take (i + n - i) (drop i bytes)) vol m st a) (appendOf (drop (i + n) bytes))
     parts =
         let k : i + n - i ≡ n = omega arith in
@@ -194,16 +194,16 @@ module _ (bytes : List ℕ) (i : ℕ) (vol : List ℕ) (m : Medium) (st : Store)
         ap (λ (l : List ℕ). appendOf l vol m st a) (sym e) ∙ append-parts (take (i + n - i) (drop i bytes)) (drop (i + n) bytes) vol m st a
 
     pub put-stopped : {e : Error} → r .outcome ≡ No e → GivesA v r (appendOf (drop i bytes) vol m st a)
-    put-stopped d = along g (sym (parts ∙ then-no _ _ (ap (λ (f : Flushed). f .outcome) (sym (g .1)) ∙ d)))
+    put-stopped d = along g (sym (parts ∙ then-no _ _ (ap (λ (f : Handed). f .outcome) (sym (g .1)) ∙ d)))
 
     pub put-turn : r .outcome ≡ Done → Same (appendOf (drop (i + n) bytes) v (r .medium) (r .store) (r .appender)) (appendOf (drop i bytes) vol m st a)
     put-turn d =
         let o : AppOut = appendOf (take (i + n - i) (drop i bytes)) vol m st a in
         let rest : List ℕ = drop (i + n) bytes in
-        let q : o .ans .outcome ≡ Done = ap (λ (f : Flushed). f .outcome) (sym (g .1)) ∙ d in
+        let q : o .ans .outcome ≡ Done = ap (λ (f : Handed). f .outcome) (sym (g .1)) ∙ d in
         let e : appendOf (drop i bytes) vol m st a ≡ after (o .steps) (appendOf rest (o .vol) (o .ans .medium) (o .ans .store) (o .ans .appender)) = parts ∙ then-done o (appendOf rest) q in
         let f : appendOf rest v (r .medium) (r .store) (r .appender) ≡ appendOf rest (o .vol) (o .ans .medium) (o .ans .store) (o .ans .appender) =
-        ap₂ (λ (w : List ℕ) (x : Flushed). appendOf rest w (x .medium) (x .store) (x .appender)) (g .0) (g .1) in
+        ap₂ (λ (w : List ℕ) (x : Handed). appendOf rest w (x .medium) (x .store) (x .appender)) (g .0) (g .1) in
         (ap (λ (x : AppOut). x .vol) f ∙ sym (ap (λ (x : AppOut). x .vol) e), ap (λ (x : AppOut). x .ans) f ∙ sym (ap (λ (x : AppOut). x .ans) e))
 
 -- what the loop keeps: from here the definition gives what it gives from the start
@@ -225,14 +225,14 @@ turn-fits bytes i fill {n} e h k =
     let size : length (take (i + n - i) (drop i bytes)) ≡ n = simp (length-take, length-drop) (omega arith) in
     (low, t .0, rw size (t .0), rw size (t .2))
 
-pub again : (bytes vol₀ : List ℕ) (m₀ : Medium) (s₀ : Store) (a₀ : Appender) (vol : List ℕ) (m : Medium) (s : Store) (a : Appender) (i n : ℕ) {v : List ℕ} {r : Flushed}
+pub again : (bytes vol₀ : List ℕ) (m₀ : Medium) (s₀ : Store) (a₀ : Appender) (vol : List ℕ) (m : Medium) (s : Store) (a : Appender) (i n : ℕ) {v : List ℕ} {r : Handed}
     → Going bytes vol₀ m₀ s₀ a₀ vol m s a i → n ≡ runOf (a .fill) (length bytes - i) → i < length bytes
     → GivesA v r (appendOf (take (i + n - i) (drop i bytes)) vol m s a) → r .outcome ≡ Done → Going bytes vol₀ m₀ s₀ a₀ v (r .medium) (r .store) (r .appender) (i + n)
 again bytes vol₀ m₀ s₀ a₀ vol m s a i n {v} {r} w e k g d =
     let bs : List ℕ = take (i + n - i) (drop i bytes) in
     let t = turn-fits bytes i (a .fill) e (w .room) k in
     let p : Puts vol m s (appendOf bs vol m s a) = run-puts bs vol m s a (w .good) (w .fit) (t .2) (t .3) in
-    let q : appendOf bs vol m s a .ans .outcome ≡ Done = ap (λ (f : Flushed). f .outcome) (sym (g .1)) ∙ d in
+    let q : appendOf bs vol m s a .ans .outcome ≡ Done = ap (λ (f : Handed). f .outcome) (sym (g .1)) ∙ d in
     let x : Same (appendOf (drop (i + n) bytes) v (r .medium) (r .store) (r .appender)) (appendOf (drop i bytes) vol m s a) = put-turn bytes i vol m s a n g d in
     record {
       low = t .0;

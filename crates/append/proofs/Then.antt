@@ -10,20 +10,20 @@ use Rattle.medium.proofs.Laws.{onDone-no, onDone-done}
 use Rattle.handles.specs.declared.Store.{Store}
 use Rattle.plan.specs.Copy.{Step}
 use Rattle.append.specs.declared.Appender.{Appender}
-use Rattle.append.specs.declared.Flushed.{Flushed}
+use Rattle.append.specs.declared.Handed.{Handed}
 use Rattle.append.specs.Flush.{AppOut, after, andThen, done, putByte, appendOf}
 
-abbrev pub GivesA : List ℕ → Flushed → AppOut → Type 0
+abbrev pub GivesA : List ℕ → Handed → AppOut → Type 0
 GivesA vol a o = (vol ≡ o .vol) × (a ≡ o .ans)
 
 -- the same volume and answer, whatever the steps
 abbrev pub Same : AppOut → AppOut → Type 0
 Same x y = (x .vol ≡ y .vol) × (x .ans ≡ y .ans)
 
-pub along : {v : List ℕ} {r : Flushed} {x y : AppOut} → GivesA v r x → x ≡ y → GivesA v r y
+pub along : {v : List ℕ} {r : Handed} {x y : AppOut} → GivesA v r x → x ≡ y → GivesA v r y
 along g e = (g .0 ∙ ap (λ (o : AppOut). o .vol) e, g .1 ∙ ap (λ (o : AppOut). o .ans) e)
 
-pub along-same : {v : List ℕ} {r : Flushed} (x y : AppOut) → GivesA v r x → Same x y → GivesA v r y
+pub along-same : {v : List ℕ} {r : Handed} (x y : AppOut) → GivesA v r x → Same x y → GivesA v r y
 along-same x y g e = (g .0 ∙ e .0, g .1 ∙ e .1)
 
 abbrev pub Next : Type 0

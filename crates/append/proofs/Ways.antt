@@ -29,17 +29,17 @@ use Rattle.remove.specs.declared.Gone.{Gone}
 use Rattle.remove.specs.Remove.{removeOldestOf}
 use Rattle.remove.proofs.Ways.{GivesG}
 use Rattle.append.specs.declared.Appender.{Appender}
-use Rattle.append.specs.declared.Flushed.{Flushed}
+use Rattle.append.specs.declared.Handed.{Handed}
 use Rattle.append.specs.declared.Tail.{Tail}
 use Rattle.append.specs.declared.Tail.the-variants.{At, Reopened, Closed}
 use Rattle.append.specs.Appender.{dirBytes}
 use Rattle.append.specs.Flush.{AppOut, andThen, movedTo, linkOut, rolledOut, extendOf, filed, recordOut, onTail, writeOut, closedOf, flushOf}
 use Rattle.append.proofs.Then.{GivesA, along, then-done, then-no}
 
-abbrev pub refusal : Error → Medium → Store → Appender → Flushed
+abbrev pub refusal : Error → Medium → Store → Appender → Handed
 refusal e m st a = record { outcome = No e; medium = m; store = st; appender = a }
 
-abbrev pub success : Medium → Store → Appender → Flushed
+abbrev pub success : Medium → Store → Appender → Handed
 success m st a = record { outcome = Done; medium = m; store = st; appender = a }
 
 onPick-nothing : {A : Type 0} {p : Pick} (f : Error → A) (a : A) (g : ℕ → A) → p ≡ free.Nothing → onPick p f a g ≡ a
@@ -91,7 +91,7 @@ module _ (vol : List ℕ) (m : Medium) (st : Store) (a : Appender) (partial : Bo
         unfolding rolledOut onDone pick onPick
         rolled-corrupt q = rw (← (gone .0), ← (gone .1), d, t, ← hp, q) (refl, refl)
 
-        pub rolled-linked : {c : ℕ} {w : List ℕ} {r : Flushed} → p ≡ free.At c → GivesA w r (linkOut v (g .medium) (g .store) a partial records c)
+        pub rolled-linked : {c : ℕ} {w : List ℕ} {r : Handed} → p ≡ free.At c → GivesA w r (linkOut v (g .medium) (g .store) a partial records c)
             → GivesA w r (rolledOut vol m st a partial records)
         unfolding rolledOut onDone pick onPick
         rolled-linked q l = rw (← (gone .0), ← (gone .1), d, t, ← hp, q) l
@@ -111,25 +111,25 @@ module _ (vol : List ℕ) (m : Medium) (st : Store) (a : Appender) (partial : Bo
     unfolding extendOf pick onPick
     extend-full q t = rw (lt-leb _ _ near, ← hp, q, t) (refl, refl)
 
-    pub extend-rolled : {v : List ℕ} {r : Flushed} → p ≡ free.Nothing → a .rolls ≡ true → GivesA v r (rolledOut vol m st a partial records) → GivesA v r (extendOf vol m st a partial records)
+    pub extend-rolled : {v : List ℕ} {r : Handed} → p ≡ free.Nothing → a .rolls ≡ true → GivesA v r (rolledOut vol m st a partial records) → GivesA v r (extendOf vol m st a partial records)
     unfolding extendOf
     extend-rolled q t g = along g (sym (pick-false _ _ (lt-leb _ _ near) ∙ onPick-nothing _ _ _ (sym hp ∙ q) ∙ pick-true _ _ t))
 
-    pub extend-linked : {c : ℕ} {v : List ℕ} {r : Flushed} → p ≡ free.At c → GivesA v r (linkOut vol m st a partial records c) → GivesA v r (extendOf vol m st a partial records)
+    pub extend-linked : {c : ℕ} {v : List ℕ} {r : Handed} → p ≡ free.At c → GivesA v r (linkOut vol m st a partial records c) → GivesA v r (extendOf vol m st a partial records)
     unfolding extendOf pick onPick
     extend-linked q g = rw (lt-leb _ _ near, ← hp, q) g
 
   -- ---- and its first record
 
-  module _ {v : List ℕ} {x : Flushed} (g : GivesA v x (extendOf vol m st a partial records)) where
+  module _ {v : List ℕ} {x : Handed} (g : GivesA v x (extendOf vol m st a partial records)) where
     pub next-refused : {e : Error} → x .outcome ≡ No e → GivesA v x (andThen (extendOf vol m st a partial records) (recordOut 0))
-    next-refused d = along g (sym (then-no _ (recordOut 0) (ap (λ (f : Flushed). f .outcome) (sym (g .1)) ∙ d)))
+    next-refused d = along g (sym (then-no _ (recordOut 0) (ap (λ (f : Handed). f .outcome) (sym (g .1)) ∙ d)))
 
-    pub next-written : {w : List ℕ} {r : Flushed} → x .outcome ≡ Done → GivesA w r (recordOut 0 v (x .medium) (x .store) (x .appender))
+    pub next-written : {w : List ℕ} {r : Handed} → x .outcome ≡ Done → GivesA w r (recordOut 0 v (x .medium) (x .store) (x .appender))
         → GivesA w r (andThen (extendOf vol m st a partial records) (recordOut 0))
     next-written {w} {r} d l =
         let o : AppOut = extendOf vol m st a partial records in
-        let q : o .ans .outcome ≡ Done = ap (λ (f : Flushed). f .outcome) (sym (g .1)) ∙ d in
+        let q : o .ans .outcome ≡ Done = ap (λ (f : Handed). f .outcome) (sym (g .1)) ∙ d in
         let l′ : GivesA w r (recordOut 0 (o .vol) (o .ans .medium) (o .ans .store) (o .ans .appender)) = (rw (g .0, g .1) at l) in
         (l′ .0 ∙ ap (λ (y : AppOut). y .vol) (sym (then-done o (recordOut 0) q)), l′ .1 ∙ ap (λ (y : AppOut). y .ans) (sym (then-done o (recordOut 0) q)))
 
@@ -151,7 +151,7 @@ module _ (vol : List ℕ) (m : Medium) (st : Store) (a : Appender) where
 
   -- ---- by the tail
 
-  module _ {v : List ℕ} {r : Flushed} where
+  module _ {v : List ℕ} {r : Handed} where
     pub write-here : {i : ℕ} → a .tail ≡ At i → i < st .head .chunk → GivesA v r (recordOut i vol m st a) → GivesA v r (writeOut vol m st a)
     unfolding writeOut
     write-here q h g = along g (sym (onTail-at _ _ _ q ∙ pick-true _ _ (lt-ltb _ _ h)))
@@ -168,11 +168,11 @@ module _ (vol : List ℕ) (m : Medium) (st : Store) (a : Appender) where
   unfolding writeOut onTail
   write-closed q = rw q (refl, refl)
 
-  module _ {v : List ℕ} {x : Flushed} (g : GivesA v x (writeOut vol m st a)) where
+  module _ {v : List ℕ} {x : Handed} (g : GivesA v x (writeOut vol m st a)) where
     pub flush-refused : {e : Error} {s : Appender} → x .outcome ≡ No e → s ≡ closedOf (x .appender) → GivesA v (refusal e (x .medium) (x .store) s) (flushOf vol m st a)
     unfolding flushOf onDone
     flush-refused d h = rw (← (g .0), ← (g .1), d, h) (refl, refl)
 
     pub flush-done : x .outcome ≡ Done → GivesA v x (flushOf vol m st a)
     unfolding flushOf
-    flush-done d = along g (sym (onDone-done _ _ (ap (λ (f : Flushed). f .outcome) (sym (g .1)) ∙ d)))
+    flush-done d = along g (sym (onDone-done _ _ (ap (λ (f : Handed). f .outcome) (sym (g .1)) ∙ d)))

@@ -15,7 +15,7 @@ use Rattle.handles.specs.declared.Store.{Store}
 use Rattle.handles.specs.Handles.{storeOk}
 use Rattle.plan.specs.Copy.{Step}
 use Rattle.append.specs.declared.Appender.{Appender}
-use Rattle.append.specs.declared.Flushed.{Flushed}
+use Rattle.append.specs.declared.Handed.{Handed}
 use Rattle.append.specs.declared.Room.{Room}
 use Rattle.append.specs.declared.Room.the-variants as room
 use Rattle.append.specs.Appender.{appenderOk, live}
@@ -32,7 +32,7 @@ pub record AppTold : Type 0 where
   pub store : Store
   pub appender : Appender
 
-abbrev pub appAnswer : Flushed → AppTold
+abbrev pub appAnswer : Handed → AppTold
 appAnswer r = record { answer = outcomeOf (r .outcome); medium = r .medium; store = r .store; appender = r .appender }
 
 -- what it gives: the volume, what it tells, and the steps that it made

@@ -21,14 +21,14 @@ use Rattle.plan.specs.Copy.{Skipped, Step, rolledOver, extended, recorded, Out,
 use Rattle.commit.specs.Commit.{commitOf}
 use Rattle.remove.specs.Remove.{GoneOut, removeOldestOf}
 use Rattle.append.specs.declared.Appender.{Appender}
-use Rattle.append.specs.declared.Flushed.{Flushed}
+use Rattle.append.specs.declared.Handed.{Handed}
 use Rattle.append.specs.declared.Tail.{Tail}
 use Rattle.append.specs.declared.Tail.the-variants.{At, Reopened, Closed}
 use Rattle.append.specs.Appender.{dirBytes}
 
 pub record AppOut : Type 0 where
   pub vol : List ℕ
-  pub ans : Flushed
+  pub ans : Handed
   pub steps : List Step
 
 abbrev pub done : List ℕ → Medium → Store → Appender → AppOut
@@ -92,7 +92,8 @@ rolling skipped = (record { kind = rolledOver; skipped = skipped }) ∷ []
 abbrev pub afterGone : GoneOut → Appender → (List ℕ → Medium → Store → AppOut) → AppOut
 afterGone g ap next =
     onDone (g .ans .outcome)
-    (pick (g .ans .any) (after (rolling (g .skipped)) (next (g .vol) (g .ans .medium) (g .ans .store))) (stopped (g .vol) (g .ans .medium) (g .ans .store) ap Full))
+    (pick (g .ans .any) (after (rolling (g .skipped)) (next (g .vol) (g .ans .medium) (g .ans .store)))
+    (stopped (g .vol) (g .ans .medium) (g .ans .store) ap Full))
     (stopped (g .vol) (g .ans .medium) (g .ans .store) ap)
 
 -- no chunk is free: the open file is spared, and extending once more must find one

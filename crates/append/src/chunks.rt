@@ -1,6 +1,6 @@
 // Another chunk for a file.
 use super::Appender;
-use super::Flushed;
+use super::Handed;
 use super::finished;
 use super::stopped;
 use handles::Store;
@@ -26,9 +26,11 @@ fn link(
     partial: bool,
     records: u32,
     next: u32,
-) -> Flushed
-    requires { ⌜ (storeOk store (sectorsOf (now volume)) ≡ true) × (Fit appender store) × (appender .position < 32767) × (records < 512) × (next < store .head .chunks) ⌝ }
-    ensures { λ r. ⌜ (now (volume .exit) ≡ linkOut (now (volume .entry)) medium store appender partial records next .vol) × (r ≡ linkOut (now (volume .entry)) medium store appender partial records next .ans) ⌝ }
+) -> Handed
+    requires { ⌜ (storeOk store (sectorsOf (now volume)) ≡ true) × (Fit appender store) × (appender .position < 32767) × (records < 512)
+        × (next < store .head .chunks) ⌝ }
+    ensures { λ r. ⌜ (now (volume .exit) ≡ linkOut (now (volume .entry)) medium store appender partial records next .vol)
+        × (r ≡ linkOut (now (volume .entry)) medium store appender partial records next .ans) ⌝ }
 {
     let none = [0u8; 1];
     let edit = Edit::Extend {
@@ -58,9 +60,11 @@ fn rolled(
     appender: Appender,
     partial: bool,
     records: u32,
-) -> Flushed
-    requires { ⌜ (storeOk store (sectorsOf (now volume)) ≡ true) × (Fit appender store) × (appender .position < 32767) × (records < 512) × (appender .rolls ≡ true) ⌝ }
-    ensures { λ r. ⌜ (now (volume .exit) ≡ rolledOut (now (volume .entry)) medium store appender partial records .vol) × (r ≡ rolledOut (now (volume .entry)) medium store appender partial records .ans) ⌝ }
+) -> Handed
+    requires { ⌜ (storeOk store (sectorsOf (now volume)) ≡ true) × (Fit appender store) × (appender .position < 32767) × (records < 512)
+        × (appender .rolls ≡ true) ⌝ }
+    ensures { λ r. ⌜ (now (volume .exit) ≡ rolledOut (now (volume .entry)) medium store appender partial records .vol)
+        × (r ≡ rolledOut (now (volume .entry)) medium store appender partial records .ans) ⌝ }
 {
     let writer = store.writer;
     let keeping = handles::is_open(writer);
@@ -94,9 +98,10 @@ pub(crate) fn extend(
     appender: Appender,
     partial: bool,
     records: u32,
-) -> Flushed
+) -> Handed
     requires { ⌜ (storeOk store (sectorsOf (now volume)) ≡ true) × (Fit appender store) × (records < 512) ⌝ }
-    ensures { λ r. ⌜ (now (volume .exit) ≡ extendOf (now (volume .entry)) medium store appender partial records .vol) × (r ≡ extendOf (now (volume .entry)) medium store appender partial records .ans) ⌝ }
+    ensures { λ r. ⌜ (now (volume .exit) ≡ extendOf (now (volume .entry)) medium store appender partial records .vol)
+        × (r ≡ extendOf (now (volume .entry)) medium store appender partial records .ans) ⌝ }
 {
     if 32767 <= appender.position {
         return stopped(Error::Corrupt, medium, store, appender);

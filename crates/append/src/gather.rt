@@ -1,6 +1,6 @@
 // Bytes to append, in runs: each goes into the buffer at once.
 use super::Appender;
-use super::Flushed;
+use super::Handed;
 use super::finished;
 use super::records::flush;
 use handles::Store;
@@ -33,9 +33,11 @@ fn put_run(
     store: Store,
     appender: Appender,
     bytes: &[u8],
-) -> Flushed
-    requires { ⌜ (storeOk store (sectorsOf (now volume)) ≡ true) × (Fit appender store) × (1 ≤ length (now bytes)) × (appender .fill + length (now bytes) ≤ 486) ⌝ }
-    ensures { λ r. ⌜ (now (volume .exit) ≡ appendOf (now (bytes .entry)) (now (volume .entry)) medium store appender .vol) × (r ≡ appendOf (now (bytes .entry)) (now (volume .entry)) medium store appender .ans) ⌝ }
+) -> Handed
+    requires { ⌜ (storeOk store (sectorsOf (now volume)) ≡ true) × (Fit appender store) × (1 ≤ length (now bytes))
+        × (appender .fill + length (now bytes) ≤ 486) ⌝ }
+    ensures { λ r. ⌜ (now (volume .exit) ≡ appendOf (now (bytes .entry)) (now (volume .entry)) medium store appender .vol)
+        × (r ≡ appendOf (now (bytes .entry)) (now (volume .entry)) medium store appender .ans) ⌝ }
 {
     let next = appender.with_run(bytes);
     if next.fill == 486 {
@@ -50,9 +52,10 @@ fn put_all(
     store: Store,
     appender: Appender,
     bytes: &[u8],
-) -> Flushed
+) -> Handed
     requires { ⌜ (storeOk store (sectorsOf (now volume)) ≡ true) × (Fit appender store) × (appender .fill < 486) ⌝ }
-    ensures { λ r. ⌜ (now (volume .exit) ≡ appendOf (now (bytes .entry)) (now (volume .entry)) medium store appender .vol) × (r ≡ appendOf (now (bytes .entry)) (now (volume .entry)) medium store appender .ans) ⌝ }
+    ensures { λ r. ⌜ (now (volume .exit) ≡ appendOf (now (bytes .entry)) (now (volume .entry)) medium store appender .vol)
+        × (r ≡ appendOf (now (bytes .entry)) (now (volume .entry)) medium store appender .ans) ⌝ }
 {
     let mut m = medium;
     let mut s = store;
@@ -81,9 +84,10 @@ pub(crate) fn put(
     store: Store,
     appender: Appender,
     bytes: &[u8],
-) -> Flushed
+) -> Handed
     requires { ⌜ (storeOk store (sectorsOf (now volume)) ≡ true) × (Fit appender store) × (appender .fill < 486) ⌝ }
-    ensures { λ r. ⌜ (now (volume .exit) ≡ appendOf (now (bytes .entry)) (now (volume .entry)) medium store appender .vol) × (r ≡ appendOf (now (bytes .entry)) (now (volume .entry)) medium store appender .ans) ⌝ }
+    ensures { λ r. ⌜ (now (volume .exit) ≡ appendOf (now (bytes .entry)) (now (volume .entry)) medium store appender .vol)
+        × (r ≡ appendOf (now (bytes .entry)) (now (volume .entry)) medium store appender .ans) ⌝ }
 {
     if bytes.len() == 0 {
         return put_all(volume, medium, store, appender, bytes);

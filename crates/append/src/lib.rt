@@ -40,8 +40,8 @@ pub struct Appender {
     pub dir: Dir,
 }
 
-// What stands after an append or a sync, refused or not.
-pub struct Flushed {
+// What a call of an appender hands back, refused or not: append, sync, create and open_append.
+pub struct Handed {
     pub outcome: Outcome,
     pub medium: Medium,
     pub store: Store,
@@ -75,10 +75,10 @@ pub fn no_appender() -> Appender
     }
 }
 
-fn stopped(e: Error, medium: Medium, store: Store, appender: Appender) -> Flushed
+fn stopped(e: Error, medium: Medium, store: Store, appender: Appender) -> Handed
     ensures { λ r. ⌜ r ≡ record { outcome = No e; medium = medium; store = store; appender = appender } ⌝ }
 {
-    Flushed {
+    Handed {
         outcome: Outcome::No(e),
         medium,
         store,
@@ -86,10 +86,10 @@ fn stopped(e: Error, medium: Medium, store: Store, appender: Appender) -> Flushe
     }
 }
 
-fn finished(medium: Medium, store: Store, appender: Appender) -> Flushed
+fn finished(medium: Medium, store: Store, appender: Appender) -> Handed
     ensures { λ r. ⌜ r ≡ record { outcome = Done; medium = medium; store = store; appender = appender } ⌝ }
 {
-    Flushed {
+    Handed {
         outcome: Outcome::Done,
         medium,
         store,
@@ -110,8 +110,9 @@ impl Appender {
     }
 
     // Append `bytes`; each 486 of them write a record. An error in writing closes the appender.
-    pub fn append(self, volume: &mut [u8], medium: Medium, store: Store, bytes: &[u8]) -> Flushed
-        ensures { λ r. ⌜ (now (volume .exit) ≡ appendCall (now (volume .entry)) medium store self (now (bytes .entry)) .vol) × (appAnswer r ≡ appendCall (now (volume .entry)) medium store self (now (bytes .entry)) .call) ⌝ }
+    pub fn append(self, volume: &mut [u8], medium: Medium, store: Store, bytes: &[u8]) -> Handed
+        ensures { λ r. ⌜ (now (volume .exit) ≡ appendCall (now (volume .entry)) medium store self (now (bytes .entry)) .vol)
+            × (appAnswer r ≡ appendCall (now (volume .entry)) medium store self (now (bytes .entry)) .call) ⌝ }
     {
         let o = self.check(&volume[..], store);
         if let Outcome::No(e) = o {
@@ -121,8 +122,9 @@ impl Appender {
     }
 
     // Make every appended byte durable.
-    pub fn sync(self, volume: &mut [u8], medium: Medium, store: Store) -> Flushed
-        ensures { λ r. ⌜ (now (volume .exit) ≡ syncCall (now (volume .entry)) medium store self .vol) × (appAnswer r ≡ syncCall (now (volume .entry)) medium store self .call) ⌝ }
+    pub fn sync(self, volume: &mut [u8], medium: Medium, store: Store) -> Handed
+        ensures { λ r. ⌜ (now (volume .exit) ≡ syncCall (now (volume .entry)) medium store self .vol)
+            × (appAnswer r ≡ syncCall (now (volume .entry)) medium store self .call) ⌝ }
     {
         let o = self.check(&volume[..], store);
         if let Outcome::No(e) = o {

@@ -1,6 +1,6 @@
 // The gathered bytes as a record, in the chunk or in another.
 use super::Appender;
-use super::Flushed;
+use super::Handed;
 use super::Tail;
 use super::chunks::extend;
 use super::finished;
@@ -24,9 +24,10 @@ fn write_at(
     store: Store,
     appender: Appender,
     index: u32,
-) -> Flushed
+) -> Handed
     requires { ⌜ (storeOk store (sectorsOf (now volume)) ≡ true) × (Fit appender store) × (index < store .head .chunk) ⌝ }
-    ensures { λ r. ⌜ (now (volume .exit) ≡ recordOut index (now (volume .entry)) medium store appender .vol) × (r ≡ recordOut index (now (volume .entry)) medium store appender .ans) ⌝ }
+    ensures { λ r. ⌜ (now (volume .exit) ≡ recordOut index (now (volume .entry)) medium store appender .vol)
+        × (r ≡ recordOut index (now (volume .entry)) medium store appender .ans) ⌝ }
 {
     let number = record::number_at(appender.position, store.head.chunk, index);
     let buffer = appender.buffer;
@@ -58,9 +59,10 @@ fn write_next(
     appender: Appender,
     partial: bool,
     records: u32,
-) -> Flushed
+) -> Handed
     requires { ⌜ (storeOk store (sectorsOf (now volume)) ≡ true) × (Fit appender store) × (records < 512) ⌝ }
-    ensures { λ r. ⌜ (now (volume .exit) ≡ andThen (extendOf (now (volume .entry)) medium store appender partial records) (recordOut 0) .vol) × (r ≡ andThen (extendOf (now (volume .entry)) medium store appender partial records) (recordOut 0) .ans) ⌝ }
+    ensures { λ r. ⌜ (now (volume .exit) ≡ andThen (extendOf (now (volume .entry)) medium store appender partial records) (recordOut 0) .vol)
+        × (r ≡ andThen (extendOf (now (volume .entry)) medium store appender partial records) (recordOut 0) .ans) ⌝ }
 {
     let x = extend(&mut *volume, medium, store, appender, partial, records);
     let o = x.outcome;
@@ -73,9 +75,10 @@ fn write_next(
     write_at(volume, m, s, a, 0)
 }
 
-fn write(volume: &mut [u8], medium: Medium, store: Store, appender: Appender) -> Flushed
+fn write(volume: &mut [u8], medium: Medium, store: Store, appender: Appender) -> Handed
     requires { ⌜ (storeOk store (sectorsOf (now volume)) ≡ true) × (Fit appender store) ⌝ }
-    ensures { λ r. ⌜ (now (volume .exit) ≡ writeOut (now (volume .entry)) medium store appender .vol) × (r ≡ writeOut (now (volume .entry)) medium store appender .ans) ⌝ }
+    ensures { λ r. ⌜ (now (volume .exit) ≡ writeOut (now (volume .entry)) medium store appender .vol)
+        × (r ≡ writeOut (now (volume .entry)) medium store appender .ans) ⌝ }
 {
     let tail = appender.tail;
     match tail {
@@ -91,9 +94,10 @@ fn write(volume: &mut [u8], medium: Medium, store: Store, appender: Appender) ->
 }
 
 // An error closes the appender: what of the record is written is not known.
-pub(crate) fn flush(volume: &mut [u8], medium: Medium, store: Store, appender: Appender) -> Flushed
+pub(crate) fn flush(volume: &mut [u8], medium: Medium, store: Store, appender: Appender) -> Handed
     requires { ⌜ (storeOk store (sectorsOf (now volume)) ≡ true) × (Fit appender store) ⌝ }
-    ensures { λ r. ⌜ (now (volume .exit) ≡ flushOf (now (volume .entry)) medium store appender .vol) × (r ≡ flushOf (now (volume .entry)) medium store appender .ans) ⌝ }
+    ensures { λ r. ⌜ (now (volume .exit) ≡ flushOf (now (volume .entry)) medium store appender .vol)
+        × (r ≡ flushOf (now (volume .entry)) medium store appender .ans) ⌝ }
 {
     let x = write(volume, medium, store, appender);
     let o = x.outcome;

@@ -40,7 +40,8 @@ pub extern "C" fn port_find(
     name: &[u8],
     answer: &mut [u64; 3],
 ) -> u32
-    ensures { λ r. ⌜ (r, now (answer .exit), now (medium .exit)) ≡ findAt (now (volume .entry)) (now (medium .entry)) (now (store .entry)) (now (crcs .entry)) (now (name .entry)) ⌝ }
+    ensures { λ r. ⌜ (r, now (answer .exit), now (medium .exit))
+        ≡ findAt (now (volume .entry)) (now (medium .entry)) (now (store .entry)) (now (crcs .entry)) (now (name .entry)) ⌝ }
 {
     let m = *medium;
     let w = *store;
@@ -64,7 +65,9 @@ pub extern "C" fn port_list(
     rows: &mut [u8],
     answer: &mut [u64; 3],
 ) -> u32
-    ensures { λ r. ⌜ (r, now (answer .exit), now (counts .exit), now (rows .exit), now (medium .exit)) ≡ listAt (now (volume .entry)) (now (medium .entry)) (now (store .entry)) (now (crcs .entry)) (now (dir .entry)) (now (counts .entry)) (now (rows .entry)) ⌝ }
+    ensures { λ r. ⌜ (r, now (answer .exit), now (counts .exit), now (rows .exit), now (medium .exit))
+        ≡ listAt (now (volume .entry)) (now (medium .entry)) (now (store .entry)) (now (crcs .entry)) (now (dir .entry))
+        (now (counts .entry)) (now (rows .entry)) ⌝ }
 {
     let m = *medium;
     let w = *store;
@@ -93,7 +96,8 @@ pub extern "C" fn port_reader(
     name: &[u8],
     reader: &mut [u64; 10],
 ) -> u32
-    ensures { λ r. ⌜ (r, now (reader .exit), now (medium .exit)) ≡ readerAt (now (volume .entry)) (now (medium .entry)) (now (store .entry)) (now (crcs .entry)) (now (name .entry)) ⌝ }
+    ensures { λ r. ⌜ (r, now (reader .exit), now (medium .exit))
+        ≡ readerAt (now (volume .entry)) (now (medium .entry)) (now (store .entry)) (now (crcs .entry)) (now (name .entry)) ⌝ }
 {
     let m = *medium;
     let w = *store;
@@ -116,7 +120,8 @@ pub extern "C" fn port_next(
     out: &mut [u8],
     answer: &mut [u64; 3],
 ) -> u32
-    ensures { λ r. ⌜ (r, now (answer .exit), now (reader .exit), now (out .exit), now (medium .exit)) ≡ nextAt (now (volume .entry)) (now (medium .entry)) (now (store .entry)) (now (crcs .entry)) (now (reader .entry)) (now (out .entry)) ⌝ }
+    ensures { λ r. ⌜ (r, now (answer .exit), now (reader .exit), now (out .exit), now (medium .exit))
+        ≡ nextAt (now (volume .entry)) (now (medium .entry)) (now (store .entry)) (now (crcs .entry)) (now (reader .entry)) (now (out .entry)) ⌝ }
 {
     let m = *medium;
     let w = *store;
@@ -140,7 +145,8 @@ pub extern "C" fn port_seek(
     reader: &mut [u64; 10],
     record: u32,
 ) -> u32
-    ensures { λ r. ⌜ (r, now (reader .exit), now (medium .exit)) ≡ seekAt (now (volume .entry)) (now (medium .entry)) (now (store .entry)) (now (crcs .entry)) (now (reader .entry)) «record» ⌝ }
+    ensures { λ r. ⌜ (r, now (reader .exit), now (medium .exit))
+        ≡ seekAt (now (volume .entry)) (now (medium .entry)) (now (store .entry)) (now (crcs .entry)) (now (reader .entry)) «record» ⌝ }
 {
     let m = *medium;
     let w = *store;

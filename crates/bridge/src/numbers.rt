@@ -13,7 +13,8 @@ ghost use mathlib.Core.Path.{_≡_};
 ghost use Rattle.medium.specs.Refusal.{outcomeOf};
 ghost use Rattle.store.specs.Reading.{foundAnswer};
 ghost use Rattle.reader.specs.Calls.{nextAnswer, numberedAnswer};
-ghost use Rattle.bridge.specs.Numbers.{codeOf, narrowOf, mediumOf, mediumWords, writerOf, storeOf, storeWords, endAt, readerOf, readerWords, foundWords, itemWords, numberWords};
+ghost use Rattle.bridge.specs.Numbers.{codeOf, narrowOf, mediumOf, mediumWords, writerOf, storeOf, storeWords, endAt, readerOf};
+ghost use Rattle.bridge.specs.Numbers.{readerWords, foundWords, itemWords, numberWords};
 
 // The low 32 bits.
 pub fn narrow(x: u64) -> u32

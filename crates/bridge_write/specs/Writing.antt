@@ -111,7 +111,8 @@ appWords r = (
   mediumWords (r .call .medium),
 )
 
-unfoldable pub appendAt : List ℕ → List ℕ → List ℕ → List ℕ → List ℕ → List ℕ → List ℕ → List ℕ → List ℕ × ℕ × List ℕ × List ℕ × List ℕ × List ℕ × List ℕ × List ℕ
+unfoldable pub appendAt : List ℕ → List ℕ → List ℕ → List ℕ → List ℕ → List ℕ → List ℕ → List ℕ
+    → List ℕ × ℕ × List ℕ × List ℕ × List ℕ × List ℕ × List ℕ × List ℕ
 appendAt vol m st crcs ap buffer dir bytes =
     appWords (appendCall vol (mediumOf m) (storeOf st crcs) (appenderOf ap buffer dir) bytes)
 

@@ -18,7 +18,8 @@ pub extern "C" fn port_format(
     store: &mut [u64; 10],
     crcs: &mut [u32; 24],
 ) -> u32
-    ensures { λ r. ⌜ (now (volume .exit), r, now (store .exit), now (crcs .exit), now (medium .exit)) ≡ formatAt (now (volume .entry)) (now (medium .entry)) «size» seed ⌝ }
+    ensures { λ r. ⌜ (now (volume .exit), r, now (store .exit), now (crcs .exit), now (medium .exit))
+        ≡ formatAt (now (volume .entry)) (now (medium .entry)) «size» seed ⌝ }
 {
     let m = *medium;
     let r = store::format(volume, numbers::medium_in(m), size, seed);
@@ -36,7 +37,8 @@ pub extern "C" fn port_delete(
     crcs: &mut [u32; 24],
     name: &[u8],
 ) -> u32
-    ensures { λ r. ⌜ (now (volume .exit), r, now (store .exit), now (crcs .exit), now (medium .exit)) ≡ deleteAt (now (volume .entry)) (now (medium .entry)) (now (store .entry)) (now (crcs .entry)) (now (name .entry)) ⌝ }
+    ensures { λ r. ⌜ (now (volume .exit), r, now (store .exit), now (crcs .exit), now (medium .exit))
+        ≡ deleteAt (now (volume .entry)) (now (medium .entry)) (now (store .entry)) (now (crcs .entry)) (now (name .entry)) ⌝ }
 {
     let m = *medium;
     let w = *store;
@@ -59,7 +61,8 @@ pub extern "C" fn port_delete_oldest(
     answer: &mut [u64; 3],
     gone: &mut [u8; 40],
 ) -> u32
-    ensures { λ r. ⌜ (now (volume .exit), r, now (answer .exit), now (gone .exit), now (store .exit), now (crcs .exit), now (medium .exit)) ≡ oldestAt (now (volume .entry)) (now (medium .entry)) (now (store .entry)) (now (crcs .entry)) (now (dir .entry)) (now (gone .entry)) ⌝ }
+    ensures { λ r. ⌜ (now (volume .exit), r, now (answer .exit), now (gone .exit), now (store .exit), now (crcs .exit), now (medium .exit))
+        ≡ oldestAt (now (volume .entry)) (now (medium .entry)) (now (store .entry)) (now (crcs .entry)) (now (dir .entry)) (now (gone .entry)) ⌝ }
 {
     let m = *medium;
     let w = *store;
@@ -84,7 +87,9 @@ pub extern "C" fn port_append(
     dir: &mut [u8; 40],
     bytes: &[u8],
 ) -> u32
-    ensures { λ r. ⌜ (now (volume .exit), r, now (store .exit), now (crcs .exit), now (appender .exit), now (buffer .exit), now (dir .exit), now (medium .exit)) ≡ appendAt (now (volume .entry)) (now (medium .entry)) (now (store .entry)) (now (crcs .entry)) (now (appender .entry)) (now (buffer .entry)) (now (dir .entry)) (now (bytes .entry)) ⌝ }
+    ensures { λ r. ⌜ (now (volume .exit), r, now (store .exit), now (crcs .exit), now (appender .exit), now (buffer .exit), now (dir .exit), now (medium .exit))
+        ≡ appendAt (now (volume .entry)) (now (medium .entry)) (now (store .entry)) (now (crcs .entry)) (now (appender .entry))
+        (now (buffer .entry)) (now (dir .entry)) (now (bytes .entry)) ⌝ }
 {
     let m = *medium;
     let w = *store;
@@ -116,7 +121,9 @@ pub extern "C" fn port_sync(
     buffer: &mut [u8; 486],
     dir: &mut [u8; 40],
 ) -> u32
-    ensures { λ r. ⌜ (now (volume .exit), r, now (store .exit), now (crcs .exit), now (appender .exit), now (buffer .exit), now (dir .exit), now (medium .exit)) ≡ syncAt (now (volume .entry)) (now (medium .entry)) (now (store .entry)) (now (crcs .entry)) (now (appender .entry)) (now (buffer .entry)) (now (dir .entry)) ⌝ }
+    ensures { λ r. ⌜ (now (volume .exit), r, now (store .exit), now (crcs .exit), now (appender .exit), now (buffer .exit), now (dir .exit), now (medium .exit))
+        ≡ syncAt (now (volume .entry)) (now (medium .entry)) (now (store .entry)) (now (crcs .entry)) (now (appender .entry))
+        (now (buffer .entry)) (now (dir .entry)) ⌝ }
 {
     let m = *medium;
     let w = *store;
@@ -141,7 +148,8 @@ pub extern "C" fn port_room(
     dir: &[u8; 40],
     answer: &mut [u64; 3],
 ) -> u32
-    ensures { λ r. ⌜ (r, now (answer .exit)) ≡ roomAt (now (appender .entry)) (now (buffer .entry)) (now (dir .entry)) ⌝ }
+    ensures { λ r. ⌜ (r, now (answer .exit)) ≡ roomAt (now (appender .entry))
+        (now (buffer .entry)) (now (dir .entry)) ⌝ }
 {
     let v = *appender;
     let b = *buffer;

@@ -18,7 +18,17 @@ pub extern "C" fn port_create(
     buffer: &mut [u8; 486],
     over: &mut [u8; 40],
 ) -> u32
-    ensures { λ r. ⌜ (now (volume .exit), r, now (store .exit), now (crcs .exit), now (appender .exit), now (buffer .exit), now (over .exit), now (medium .exit)) ≡ createAt (now (volume .entry)) (now (medium .entry)) (now (store .entry)) (now (crcs .entry)) (now (name .entry)) rolls (now (dir .entry)) ⌝ }
+    ensures { λ r. ⌜ (
+      now (volume .exit),
+      r,
+      now (store .exit),
+      now (crcs .exit),
+      now (appender .exit),
+      now (buffer .exit),
+      now (over .exit),
+      now (medium .exit),
+    )
+        ≡ createAt (now (volume .entry)) (now (medium .entry)) (now (store .entry)) (now (crcs .entry)) (now (name .entry)) rolls (now (dir .entry)) ⌝ }
 {
     let m = *medium;
     let w = *store;
@@ -51,7 +61,8 @@ pub extern "C" fn port_open_append(
     buffer: &mut [u8; 486],
     over: &mut [u8; 40],
 ) -> u32
-    ensures { λ r. ⌜ (r, now (store .exit), now (crcs .exit), now (appender .exit), now (buffer .exit), now (over .exit), now (medium .exit)) ≡ openAt (now (volume .entry)) (now (medium .entry)) (now (store .entry)) (now (crcs .entry)) (now (name .entry)) rolls (now (dir .entry)) ⌝ }
+    ensures { λ r. ⌜ (r, now (store .exit), now (crcs .exit), now (appender .exit), now (buffer .exit), now (over .exit), now (medium .exit))
+        ≡ openAt (now (volume .entry)) (now (medium .entry)) (now (store .entry)) (now (crcs .entry)) (now (name .entry)) rolls (now (dir .entry)) ⌝ }
 {
     let m = *medium;
     let w = *store;

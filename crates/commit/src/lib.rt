@@ -78,7 +78,8 @@ fn read_body(
     sector: &mut [u8; 512],
 ) -> Outcome
     requires { ⌜ (64 ≤ sectorsOf (now volume)) × (k < 24) ⌝ }
-    ensures { λ r. ⌜ (r ≡ checkOf (now (volume .entry)) medium store k) × (now (sector .exit) ≡ onDone (readOf medium (bodyAt store k)) (sectorAt (now (volume .entry)) (bodyAt store k)) (λ _. now (sector .entry))) ⌝ }
+    ensures { λ r. ⌜ (r ≡ checkOf (now (volume .entry)) medium store k)
+        × (now (sector .exit) ≡ onDone (readOf medium (bodyAt store k)) (sectorAt (now (volume .entry)) (bodyAt store k)) (λ _. now (sector .entry))) ⌝ }
 {
     let at = handles::base(store.copy) + 1 + (k as u64);
     let o = medium::read_sector(volume, medium, at, sector);
@@ -125,8 +126,10 @@ fn write_body_sector(
     name: &[u8],
     k: usize,
 ) -> BodyWritten
-    requires { ⌜ (store .copy < 2) × (64 ≤ sectorsOf (now volume)) × (k < 24) × (Fits edit (store .head .chunks)) × (isFormat edit ≡ false) × (length (now name) ≤ 40) ⌝ }
-    ensures { λ r. ⌜ (now (volume .exit) ≡ bodySectorOf (commitPlan found edit (now (name .entry)) store) (now (volume .entry)) medium head k .vol) × (r ≡ bodySectorOf (commitPlan found edit (now (name .entry)) store) (now (volume .entry)) medium head k .ans) ⌝ }
+    requires { ⌜ (store .copy < 2) × (64 ≤ sectorsOf (now volume)) × (k < 24) × (Fits edit (store .head .chunks)) × (isFormat edit ≡ false)
+        × (length (now name) ≤ 40) ⌝ }
+    ensures { λ r. ⌜ (now (volume .exit) ≡ bodySectorOf (commitPlan found edit (now (name .entry)) store) (now (volume .entry)) medium head k .vol)
+        × (r ≡ bodySectorOf (commitPlan found edit (now (name .entry)) store) (now (volume .entry)) medium head k .ans) ⌝ }
 {
     let own = store.head;
     let changing = plan::changes(edit, k);
@@ -163,8 +166,14 @@ fn write_body(
     edit: Edit,
     name: &[u8],
 ) -> BodyWritten
-    requires { ⌜ (storeOk store (sectorsOf (now volume)) ≡ true) × (store .head .generation + 1 < 2 ^ 64) × (Fits edit (store .head .chunks)) × (isFormat edit ≡ false) × (length (now name) ≤ 40) ⌝ }
-    ensures { λ r. ⌜ (now (volume .exit) ≡ bodyFrom (commitPlan found edit (now (name .entry)) store) (bodyOf (store .head .chunks)) 0 (now (volume .entry)) medium (headAfter edit (store .head)) .vol) × (r ≡ bodyFrom (commitPlan found edit (now (name .entry)) store) (bodyOf (store .head .chunks)) 0 (now (volume .entry)) medium (headAfter edit (store .head)) .ans) ⌝ }
+    requires { ⌜ (storeOk store (sectorsOf (now volume)) ≡ true) × (store .head .generation + 1 < 2 ^ 64) × (Fits edit (store .head .chunks))
+        × (isFormat edit ≡ false) × (length (now name) ≤ 40) ⌝ }
+    ensures { λ r. ⌜ (now (volume .exit)
+        ≡ bodyFrom (commitPlan found edit (now (name .entry)) store) (bodyOf (store .head .chunks)) 0 (now (volume .entry)) medium
+        (headAfter edit (store .head)) .vol)
+        × (r
+        ≡ bodyFrom (commitPlan found edit (now (name .entry)) store) (bodyOf (store .head .chunks)) 0 (now (volume .entry)) medium
+        (headAfter edit (store .head)) .ans) ⌝ }
 {
     let own = store.head;
     let n = handles::body(own.chunks);
@@ -193,8 +202,10 @@ fn rewrite(
     edit: Edit,
     name: &[u8],
 ) -> Committed
-    requires { ⌜ (storeOk store (sectorsOf (now volume)) ≡ true) × (store .head .generation + 1 < 2 ^ 64) × (Fits edit (store .head .chunks)) × (isFormat edit ≡ false) × (length (now name) ≤ 40) ⌝ }
-    ensures { λ r. ⌜ (now (volume .exit) ≡ copyOut (commitPlan found edit (now (name .entry)) store) (now (volume .entry)) medium .vol) × (r ≡ copyOut (commitPlan found edit (now (name .entry)) store) (now (volume .entry)) medium .ans) ⌝ }
+    requires { ⌜ (storeOk store (sectorsOf (now volume)) ≡ true) × (store .head .generation + 1 < 2 ^ 64) × (Fits edit (store .head .chunks))
+        × (isFormat edit ≡ false) × (length (now name) ≤ 40) ⌝ }
+    ensures { λ r. ⌜ (now (volume .exit) ≡ copyOut (commitPlan found edit (now (name .entry)) store) (now (volume .entry)) medium .vol)
+        × (r ≡ copyOut (commitPlan found edit (now (name .entry)) store) (now (volume .entry)) medium .ans) ⌝ }
 {
     let copy = 1 - store.copy;
     let zero = [0u8; 512];
@@ -228,7 +239,8 @@ fn rewrite(
 // Makes the edit in the metadata, where the store value is the current one.
 pub fn commit(volume: &mut [u8], medium: Medium, store: Store, edit: Edit, name: &[u8]) -> Committed
     requires { ⌜ (storeOk store (sectorsOf (now volume)) ≡ true) × (Fits edit (store .head .chunks)) × (isFormat edit ≡ false) × (length (now name) ≤ 40) ⌝ }
-    ensures { λ r. ⌜ (now (volume .exit) ≡ commitOf edit (now (name .entry)) (now (volume .entry)) medium store .vol) × (r ≡ commitOf edit (now (name .entry)) (now (volume .entry)) medium store .ans) ⌝ }
+    ensures { λ r. ⌜ (now (volume .exit) ≡ commitOf edit (now (name .entry)) (now (volume .entry)) medium store .vol)
+        × (r ≡ commitOf edit (now (name .entry)) (now (volume .entry)) medium store .ans) ⌝ }
 {
     let found = header::current(&volume[..], medium);
     let o = found.outcome;

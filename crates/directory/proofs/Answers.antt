@@ -30,10 +30,10 @@ module _ (e : List ℕ) {zero : Bool} (all : zero ≡ allZero e) where
   unfolding entryOf
   entry-free t = sym (pick-true _ _ (told all t))
 
-  module _ (taken : zero ≡ false) where
+  module _ (used : zero ≡ false) where
     corrupt : entryOk e ≡ false → Refused Corrupt ≡ entryOf e
     unfolding entryOf
-    corrupt t = sym (pick-false _ _ (told all taken) ∙ pick-false _ _ t)
+    corrupt t = sym (pick-false _ _ (told all used) ∙ pick-false _ _ t)
 
     module _ {len : ℕ} (text : len ≡ textLen (take 40 e)) {name : Bool} (tested : name ≡ nameOk (take (len - 0) e)) where
       fine : name ≡ nameOk (part 0 (lenOf e) e)
@@ -78,7 +78,7 @@ module _ (e : List ℕ) {zero : Bool} (all : zero ≡ allZero e) where
 
             pub entry-file : not last ≡ false → File id len ≡ entryOf e
             unfolding entryOf
-            entry-file t = rw (number, len-read) (sym (pick-false _ _ (told all taken) ∙ pick-true _ _ (ok t)))
+            entry-file t = rw (number, len-read) (sym (pick-false _ _ (told all used) ∙ pick-true _ _ (ok t)))
 
 module _ (vol : List ℕ) (m : Medium) (st : Store) (i : ℕ) {o : Outcome} (due : o ≡ dueOf vol m st (eqb (i % 8) 0) (i / 8)) where
   pub sector-fails : {e : Error} → o ≡ No e → Refused e ≡ slotAt vol m st i

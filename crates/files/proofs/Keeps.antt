@@ -28,7 +28,7 @@ use Rattle.plan.specs.Copy.{Out}
 use Rattle.commit.specs.Commit.{commitOf}
 use Rattle.remove.specs.Remove.{GoneOut, removeOldestOf}
 use Rattle.remove.proofs.Keeps.{Good, Stands, stands-none, stands-more, commit-stands, OutStands, GoneStands, oldest-stands}
-use Rattle.append.specs.declared.Flushed.{Flushed}
+use Rattle.append.specs.declared.Handed.{Handed}
 use Rattle.append.specs.declared.Tail.the-variants.{At}
 use Rattle.append.specs.Appender.{dirBytes, tailOk, isClosed, noAppender}
 use Rattle.append.specs.Flush.{AppOut}
@@ -41,12 +41,12 @@ use Rattle.files.specs.Create.{Next, makeOut, overOut, roundOut, createF
 use Rattle.files.proofs.Opens.{overOk, opened-may}
 
 -- what holds of every refusal after some commits, and of every new file's appender, holds of what create gives
-pub record Holds (vol : List ℕ) (m : Medium) (st : Store) (rollover : Rollover) (P : List ℕ → Flushed → Type 0) : Type 0 where
+pub record Holds (vol : List ℕ) (m : Medium) (st : Store) (rollover : Rollover) (P : List ℕ → Handed → Type 0) : Type 0 where
   pub no : (v : List ℕ) (n : Medium) (s : Store) (e : Error) → Stands vol m st v n s → P v (refusal e n s noAppender)
   pub yes : (v : List ℕ) (n : Medium) (s : Store) (slot id chunk : ℕ) → Stands vol m st v n s → slot < 64 → (id ≡ 0 → ⊥) → chunk < s .head .chunks
       → P v (openedOut v n s slot id chunk 0 (At 0) rollover .ans)
 
-module _ (vol₀ : List ℕ) (m₀ : Medium) (st₀ : Store) (rollover : Rollover) (P : List ℕ → Flushed → Type 0) (p : Holds vol₀ m₀ st₀ rollover P) (name : List ℕ) (short : length name ≤ 40) where
+module _ (vol₀ : List ℕ) (m₀ : Medium) (st₀ : Store) (rollover : Rollover) (P : List ℕ → Handed → Type 0) (p : Holds vol₀ m₀ st₀ rollover P) (name : List ℕ) (short : length name ≤ 40) where
   abbrev Out-holds : AppOut → Type 0
   Out-holds o = P (o .vol) (o .ans)
 
@@ -99,7 +99,7 @@ opened-good vol st token id g = record { ok = g .ok; count = g .count }
 
 -- a volume of the same length, the medium record but for writes left and the token, and a store value of the same sizes that passes refusal 3. Accepted,
 -- the next token is taken, and the appender with it is the store's, with the call's rollover, and may write; refused, none is taken
-pub record Created (vol : List ℕ) (m : Medium) (st : Store) (rollover : Rollover) (v : List ℕ) (x : Flushed) : Type 0 where
+pub record Created (vol : List ℕ) (m : Medium) (st : Store) (rollover : Rollover) (v : List ℕ) (x : Handed) : Type 0 where
   pub size : length v ≡ length vol
   pub left : x .medium .left ≤ m .left
   pub unreadable : x .medium .unreadable ≡ m .unreadable

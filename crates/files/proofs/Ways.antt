@@ -27,7 +27,7 @@ use Rattle.commit.proofs.Commits.{GivesC}
 use Rattle.remove.specs.declared.Gone.{Gone}
 use Rattle.remove.specs.Remove.{removeOldestOf}
 use Rattle.remove.proofs.Ways.{GivesG}
-use Rattle.append.specs.declared.Flushed.{Flushed}
+use Rattle.append.specs.declared.Handed.{Handed}
 use Rattle.append.specs.declared.Tail.the-variants.{At}
 use Rattle.append.specs.Appender.{dirBytes, noAppender}
 use Rattle.append.specs.Flush.{AppOut, after, rolling}
@@ -40,7 +40,7 @@ use Rattle.files.specs.Create.{Next, makeOut, overOut, roundOut, createF
 
 -- ---- what a round says
 
-pub ended-with : {v : List ℕ} {r : Turn} {x : Flushed} {o : Next → AppOut} → r ≡ record { again = false; answer = x } → ((next : Next) → GivesA v x (o next)) → Turned v r o
+pub ended-with : {v : List ℕ} {r : Turn} {x : Handed} {o : Next → AppOut} → r ≡ record { again = false; answer = x } → ((next : Next) → GivesA v x (o next)) → Turned v r o
 ended-with k g = rw k (record { ended = λ _. g; again = λ a. absurd (false≢true a) })
 
 pub again-with : {v : List ℕ} {r : Turn} {m : Medium} {st : Store} {o : Next → AppOut} → r ≡ record { again = true; answer = success m st noAppender }
@@ -50,22 +50,22 @@ again-with k skipped g = rw k (record { ended = λ a. absurd (false≢true (sym 
 pub turned-as : {v : List ℕ} {r : Turn} {o p : Next → AppOut} → Turned v r o → ((next : Next) → p next ≡ o next) → Turned v r p
 turned-as {v} {r} {o} {p} t e = let q : p ≡ o = λ i next. e next i in rw q t
 
-pub settled-by : {v : List ℕ} {x : Flushed} {o : Next → AppOut} {y : AppOut} → GivesA v x y → ((next : Next) → o next ≡ y) → (next : Next) → GivesA v x (o next)
+pub settled-by : {v : List ℕ} {x : Handed} {o : Next → AppOut} {y : AppOut} → GivesA v x y → ((next : Next) → o next ≡ y) → (next : Next) → GivesA v x (o next)
 settled-by g e next = along g (sym (e next))
 
 -- ---- the commit
 
 module _ (name : List ℕ) (rollover : Rollover) (vol : List ℕ) (m : Medium) (st : Store) (slot chunk : ℕ) where
-  pub make-spent : {x : Flushed} → st .head .«next_id» ≡ 2 ^ 32 - 1 → x ≡ refusal Spent m st noAppender → GivesA vol x (makeOut name rollover vol m st slot chunk)
+  pub make-spent : {x : Handed} → st .head .«next_id» ≡ 2 ^ 32 - 1 → x ≡ refusal Spent m st noAppender → GivesA vol x (makeOut name rollover vol m st slot chunk)
   unfolding makeOut
   make-spent q h = along (refl, h) (sym (pick-true _ _ (eq-eqb _ _ q)))
 
   module _ (q : st .head .«next_id» ≡ 2 ^ 32 - 1 → ⊥) {v : List ℕ} {c : Committed} (g : GivesC v c (commitOf (Create slot (st .head .«next_id») chunk) name vol m st)) where
-    pub make-refused : {e : Error} {x : Flushed} → c .outcome ≡ No e → x ≡ refusal e (c .medium) (c .store) noAppender → GivesA v x (makeOut name rollover vol m st slot chunk)
+    pub make-refused : {e : Error} {x : Handed} → c .outcome ≡ No e → x ≡ refusal e (c .medium) (c .store) noAppender → GivesA v x (makeOut name rollover vol m st slot chunk)
     unfolding makeOut pick onDone
     make-refused d h = rw (ne-eqb _ _ q, ← (g .0), ← (g .1), d, h) (refl, refl)
 
-    pub make-done : {x : Flushed} → c .outcome ≡ Done → x ≡ openedOut [] (c .medium) (c .store) slot (st .head .«next_id») chunk 0 (At 0) rollover .ans
+    pub make-done : {x : Handed} → c .outcome ≡ Done → x ≡ openedOut [] (c .medium) (c .store) slot (st .head .«next_id») chunk 0 (At 0) rollover .ans
         → GivesA v x (makeOut name rollover vol m st slot chunk)
     unfolding makeOut pick onDone openedOut
     make-done d h = rw (ne-eqb _ _ q, ← (g .0), ← (g .1), d, h) (refl, refl)
@@ -73,7 +73,7 @@ module _ (name : List ℕ) (rollover : Rollover) (vol : List ℕ) (m : Medium) (
 -- ---- the rollover
 
 module _ (rollover : Rollover) (vol : List ℕ) (m : Medium) (st : Store) where
-  pub roll-none : {x : Flushed} → rollover .rolls ≡ false → x ≡ refusal Full m st noAppender → (next : Next) → GivesA vol x (overOut rollover next vol m st)
+  pub roll-none : {x : Handed} → rollover .rolls ≡ false → x ≡ refusal Full m st noAppender → (next : Next) → GivesA vol x (overOut rollover next vol m st)
   unfolding overOut
   roll-none t h next = along (refl, h) (sym (pick-false _ _ t))
 
@@ -81,11 +81,11 @@ module _ (rollover : Rollover) (vol : List ℕ) (m : Medium) (st : Store) where
     gone : GivesG v g (removeOldestOf vol m st (dirBytes (rollover .dir)) false 0)
     gone = rw (← hd) h
 
-    pub roll-refused : {e : Error} {x : Flushed} → g .outcome ≡ No e → x ≡ refusal e (g .medium) (g .store) noAppender → (next : Next) → GivesA v x (overOut rollover next vol m st)
+    pub roll-refused : {e : Error} {x : Handed} → g .outcome ≡ No e → x ≡ refusal e (g .medium) (g .store) noAppender → (next : Next) → GivesA v x (overOut rollover next vol m st)
     unfolding overOut pick onDone
     roll-refused d e next = rw (t, ← (gone .0), ← (gone .1), d, e) (refl, refl)
 
-    pub roll-full : {x : Flushed} → g .outcome ≡ Done → g .any ≡ false → x ≡ refusal Full (g .medium) (g .store) noAppender → (next : Next) → GivesA v x (overOut rollover next vol m st)
+    pub roll-full : {x : Handed} → g .outcome ≡ Done → g .any ≡ false → x ≡ refusal Full (g .medium) (g .store) noAppender → (next : Next) → GivesA v x (overOut rollover next vol m st)
     unfolding overOut pick onDone
     roll-full d a e next = rw (t, ← (gone .0), ← (gone .1), d, a, e) (refl, refl)
 
@@ -150,6 +150,6 @@ module _ (name : List ℕ) (rollover : Rollover) (vol : List ℕ) (m : Medium) (
     unfolding createFrom
     create-second b = along (h .ended b (createFrom 0 name rollover)) (sym once)
 
-    pub create-corrupt : {x : Flushed} → s .again ≡ true → x ≡ refusal Corrupt (s .answer .medium) (s .answer .store) noAppender → GivesA w x (createOf name rollover vol m st)
+    pub create-corrupt : {x : Handed} → s .again ≡ true → x ≡ refusal Corrupt (s .answer .medium) (s .answer .store) noAppender → GivesA w x (createOf name rollover vol m st)
     unfolding createFrom
     create-corrupt b e = along (refl, e) (sym (once ∙ ap (after (rolling (g .again a .0))) (h .again b .1 (createFrom 0 name rollover))))

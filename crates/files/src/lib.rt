@@ -1,7 +1,7 @@
 // Create: a new file, and its appender. What the Rust has as `Store::create`.
 use append::Appender;
 use append::Dir;
-use append::Flushed;
+use append::Handed;
 use append::Tail;
 use directory::Looked;
 use handles::Store;
@@ -30,11 +30,11 @@ pub struct Rollover {
 }
 
 // A refused call hands back an appender that no call accepts.
-pub fn refused(e: Error, medium: Medium, store: Store) -> Flushed
+pub fn refused(e: Error, medium: Medium, store: Store) -> Handed
     ensures { λ r. ⌜ r ≡ refusedAt [] medium store e .ans ⌝ }
 {
     let appender = append::no_appender();
-    Flushed {
+    Handed {
         outcome: Outcome::No(e),
         medium,
         store,
@@ -75,7 +75,7 @@ pub fn opened(
     position: u32,
     tail: Tail,
     rollover: Rollover,
-) -> Flushed
+) -> Handed
     ensures { λ r. ⌜ r ≡ openedOut [] medium store slot id chunk position tail rollover .ans ⌝ }
 {
     let m = with_token(medium);
@@ -94,7 +94,7 @@ pub fn opened(
         rolls: rollover.rolls,
         dir,
     };
-    Flushed {
+    Handed {
         outcome: Outcome::Done,
         medium: m,
         store: s,
@@ -113,9 +113,10 @@ fn make(
     rollover: Rollover,
     slot: usize,
     chunk: u32,
-) -> Flushed
+) -> Handed
     requires { ⌜ (storeOk store (sectorsOf (now volume)) ≡ true) × (length (now name) ≤ 40) × (slot < 64) × (chunk < store .head .chunks) ⌝ }
-    ensures { λ r. ⌜ (now (volume .exit) ≡ makeOut (now (name .entry)) rollover (now (volume .entry)) medium store slot chunk .vol) × (r ≡ makeOut (now (name .entry)) rollover (now (volume .entry)) medium store slot chunk .ans) ⌝ }
+    ensures { λ r. ⌜ (now (volume .exit) ≡ makeOut (now (name .entry)) rollover (now (volume .entry)) medium store slot chunk .vol)
+        × (r ≡ makeOut (now (name .entry)) rollover (now (volume .entry)) medium store slot chunk .ans) ⌝ }
 {
     let id = store.head.next_id;
     if id == 0xffff_ffff {
@@ -135,10 +136,10 @@ fn make(
 // What a round comes to: the answer, or what stands for another round after the oldest file went.
 struct Turn {
     pub again: bool,
-    pub answer: Flushed,
+    pub answer: Handed,
 }
 
-fn ended(answer: Flushed) -> Turn
+fn ended(answer: Handed) -> Turn
     ensures { λ r. ⌜ r ≡ record { again = false; answer = answer } ⌝ }
 {
     Turn {
@@ -153,7 +154,7 @@ fn rolled_over(medium: Medium, store: Store) -> Turn
     let appender = append::no_appender();
     Turn {
         again: true,
-        answer: Flushed {
+        answer: Handed {
             outcome: Outcome::Done,
             medium,
             store,
@@ -221,9 +222,10 @@ pub fn create(
     store: Store,
     name: &[u8],
     rollover: Rollover,
-) -> Flushed
+) -> Handed
     requires { ⌜ (storeOk store (sectorsOf (now volume)) ≡ true) × (length (now name) ≤ 40) × (rollover .rolls ≡ true → rollover .dir .length ≤ 40) ⌝ }
-    ensures { λ r. ⌜ (now (volume .exit) ≡ createOf (now (name .entry)) rollover (now (volume .entry)) medium store .vol) × (r ≡ createOf (now (name .entry)) rollover (now (volume .entry)) medium store .ans) ⌝ }
+    ensures { λ r. ⌜ (now (volume .exit) ≡ createOf (now (name .entry)) rollover (now (volume .entry)) medium store .vol)
+        × (r ≡ createOf (now (name .entry)) rollover (now (volume .entry)) medium store .ans) ⌝ }
 {
     let first = round(&mut *volume, medium, store, name, rollover);
     let x = first.answer;

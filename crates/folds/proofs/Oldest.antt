@@ -66,8 +66,8 @@ module _ (vol : List ℕ) (st : Store) (dir : List ℕ) (keeping : Bool) (keep :
     goes-test n′ i′ v g = rw (same-name q v, same-id q v, g .inside, g .unspared)
 
     -- it is picked
-    taken : test n i ≡ true → (old .any ≡ true → i < old .id) → Olds (k + 1) (record { any = true; slot = k; id = i; len = length n })
-    taken t first =
+    picked : test n i ≡ true → (old .any ≡ true → i < old .id) → Olds (k + 1) (record { any = true; slot = k; id = i; len = length n })
+    picked t first =
         let a = and-true (inDir dir n) (not (keeping && eqb i keep)) t in
         record {
           none = λ e. absurd (false≢true (sym e));
@@ -87,7 +87,7 @@ module _ (vol : List ℕ) (st : Store) (dir : List ℕ) (keeping : Bool) (keep :
         pick-keeps-by (Olds (k + 1)) (test n i && (not (old .any) || ltb i (old .id))) _ _
         (λ t.
         let a = and-true (test n i) (not (old .any) || ltb i (old .id)) t in
-        taken (a .0) (λ e. ltb-true i (old .id) (rw e at (a .1))))
+        picked (a .0) (λ e. ltb-true i (old .id) (rw e at (a .1))))
         (λ t.
         passed k old p
         (λ e n′ i′ v g. true≢false (rw e refl) (or-false (not (old .any)) (ltb i (old .id)) (both-false (test n i) _ t (goes-test n′ i′ v g)) .0))

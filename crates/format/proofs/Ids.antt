@@ -19,11 +19,11 @@ use Rattle.header.specs.declared.answers.Copies.{Copies}
 use Rattle.header.specs.declared.codec.Decoded.{Decoded}
 use Rattle.header.specs.Header.{ours}
 use Rattle.header.specs.Copies.{isOurs, headA, headB, bothOf}
-use Rattle.format.specs.Format.{taken, spareOf, idFrom, idFor}
+use Rattle.format.specs.Format.{hasId, spareOf, idFrom, idFor}
 
--- ---- the turns of the search: t says whether x is taken, and r is what the search gives
+-- ---- the turns of the search: t says whether a copy has x, and r is what the search gives
 
-module _ (c : Copies) (x k : ℕ) {t : Bool} {r : ℕ} (asked : t ≡ taken c x) (h : k < 4) (inv : idFrom c (4 - k) x ≡ r) where
+module _ (c : Copies) (x k : ℕ) {t : Bool} {r : ℕ} (asked : t ≡ hasId c x) (h : k < 4) (inv : idFrom c (4 - k) x ≡ r) where
   turn : pick (eqb x 0 || t) (idFrom c (4 - (k + 1)) (splitMix x)) x ≡ r
   unfolding idFrom
   turn = let n : 4 - k ≡ suc (4 - (k + 1)) = omega arith in rw asked (rw n at inv)
@@ -67,33 +67,33 @@ module _ (a b : Bool) (x y : ℕ) where
 
 -- not 0, and no valid copy has it
 abbrev pub Free : Copies → ℕ → Type 0
-Free c x = (x ≡ 0 → ⊥) × (taken c x ≡ false)
+Free c x = (x ≡ 0 → ⊥) × (hasId c x ≡ false)
 
 spare-free : (c : Copies) → Free c (spareOf c)
-unfolding spareOf taken
+unfolding spareOf hasId
 spare-free c =
-    pick-keeps-by (Free c) (taken c 1) _ _
-    (λ one. pick-keeps-by (Free c) (taken c 2) _ _ (λ two. (λ e. omega arith, three one two)) (λ two. (λ e. omega arith, two)))
+    pick-keeps-by (Free c) (hasId c 1) _ _
+    (λ one. pick-keeps-by (Free c) (hasId c 2) _ _ (λ two. (λ e. omega arith, three one two)) (λ two. (λ e. omega arith, two)))
     (λ one. (λ e. omega arith, one))
   where
-    three : taken c 1 ≡ true → taken c 2 ≡ true → taken c 3 ≡ false
+    three : hasId c 1 ≡ true → hasId c 2 ≡ true → hasId c 3 ≡ false
     three = third (isOurs (c .a)) (isOurs (c .b)) (headA c .id) (headB c .id)
 
 from-free : (c : Copies) (n x : ℕ) → Free c (idFrom c n x)
 unfolding idFrom
 from-free c zero x = spare-free c
 from-free c (suc n) x =
-    pick-keeps-by (Free c) (eqb x 0 || taken c x) _ _ (λ _. from-free c n (splitMix x))
-    (λ t. let f = or-false (eqb x 0) (taken c x) t in (eqb-false x 0 (f .0), f .1))
+    pick-keeps-by (Free c) (eqb x 0 || hasId c x) _ _ (λ _. from-free c n (splitMix x))
+    (λ t. let f = or-false (eqb x 0) (hasId c x) t in (eqb-false x 0 (f .0), f .1))
 
 pub id-fresh : (c : Copies) (m : Medium) (seed : ℕ) → Free c (idFor c m seed)
 unfolding idFor
 id-fresh c m seed = from-free c 4 (splitMix (bitXor seed (m .entropy)))
 
 -- so neither valid copy has it
-pub not-taken : (a b : Decoded) (x : ℕ) → taken (bothOf a b) x ≡ false → ((h : Header) → a ≡ ours h → h .id ≡ x → ⊥) × ((h : Header) → b ≡ ours h → h .id ≡ x → ⊥)
-unfolding taken
-not-taken a b x e =
+pub neither-has : (a b : Decoded) (x : ℕ) → hasId (bothOf a b) x ≡ false → ((h : Header) → a ≡ ours h → h .id ≡ x → ⊥) × ((h : Header) → b ≡ ours h → h .id ≡ x → ⊥)
+unfolding hasId
+neither-has a b x e =
     let f = or-false (isOurs (a .kind) && eqb (a .head .id) x) (isOurs (b .kind) && eqb (b .head .id) x) e in
     (λ h p. eqb-false (h .id) x (rw p at (f .0)), λ h p. eqb-false (h .id) x (rw p at (f .1)))
 
@@ -109,8 +109,8 @@ mix-lt x = folded-lt 31 _ (mod-lt _ (pow-pos 64))
 
 from-lt : (c : Copies) (n x : ℕ) → x < 2 ^ 64 → idFrom c n x < 2 ^ 64
 unfolding idFrom spareOf
-from-lt c zero x h = pick-keeps (λ (k : ℕ). k < 2 ^ 64) (taken c 1) _ _ (pick-keeps (λ (k : ℕ). k < 2 ^ 64) (taken c 2) _ _ (lit< tt) (lit< tt)) (lit< tt)
-from-lt c (suc n) x h = pick-keeps (λ (k : ℕ). k < 2 ^ 64) (eqb x 0 || taken c x) _ _ (from-lt c n (splitMix x) (mix-lt x)) h
+from-lt c zero x h = pick-keeps (λ (k : ℕ). k < 2 ^ 64) (hasId c 1) _ _ (pick-keeps (λ (k : ℕ). k < 2 ^ 64) (hasId c 2) _ _ (lit< tt) (lit< tt)) (lit< tt)
+from-lt c (suc n) x h = pick-keeps (λ (k : ℕ). k < 2 ^ 64) (eqb x 0 || hasId c x) _ _ (from-lt c n (splitMix x) (mix-lt x)) h
 
 pub id-lt : (c : Copies) (m : Medium) (seed : ℕ) → idFor c m seed < 2 ^ 64
 unfolding idFor

@@ -39,17 +39,17 @@ unfoldable pub newestOf : Copies → ℕ
 newestOf c = pick (newestB c) (headB c .generation) (pick (isOurs (c .a)) (headA c .generation) 0)
 
 -- a valid copy has this id
-unfoldable pub taken : Copies → ℕ → Bool
-taken c id = (isOurs (c .a) && eqb (headA c .id) id) || (isOurs (c .b) && eqb (headB c .id) id)
+unfoldable pub hasId : Copies → ℕ → Bool
+hasId c id = (isOurs (c .a) && eqb (headA c .id) id) || (isOurs (c .b) && eqb (headB c .id) id)
 
 -- the smallest of 1, 2, 3 that no valid copy has
 unfoldable pub spareOf : Copies → ℕ
-spareOf c = pick (taken c 1) (pick (taken c 2) 3 2) 1
+spareOf c = pick (hasId c 1) (pick (hasId c 2) 3 2) 1
 
--- x, mixed again while it is 0 or taken; after n bad values the spare one
+-- x, mixed again while it is 0 or a copy has it; after n bad values the spare one
 unfoldable pub idFrom : Copies → ℕ → ℕ → ℕ
 idFrom c zero x = spareOf c
-idFrom c (suc n) x = pick (eqb x 0 || taken c x) (idFrom c n (splitMix x)) x
+idFrom c (suc n) x = pick (eqb x 0 || hasId c x) (idFrom c n (splitMix x)) x
 
 -- mixed from seed XOR entropy; four values are tried
 unfoldable pub idFor : Copies → Medium → ℕ → ℕ

@@ -14,7 +14,8 @@ ghost use Prim.Native.Nat.{_+_, _^_, _<_, _≤_};
 ghost use Rattle.medium.specs.Sector.{sectorsOf};
 ghost use Rattle.handles.specs.Handles.{bodyOf, noStore};
 ghost use Rattle.plan.specs.Copy.{refusedOut, bodyFrom};
-ghost use Rattle.format.specs.Format.{chunksOf, newestB, copyFor, newestOf, taken, spareOf, idFrom, zeroCrcs, formatHead, Zeroed, formatPlan, madeOf, formatOver, formatOf};
+ghost use Rattle.format.specs.Format.{chunksOf, newestB, copyFor, newestOf, hasId, spareOf, idFrom, zeroCrcs, formatHead, Zeroed};
+ghost use Rattle.format.specs.Format.{formatPlan, madeOf, formatOver, formatOf};
 
 // Chunks on a volume of so many sectors.
 fn chunks_for(sectors: u64, size: u32) -> u32
@@ -70,8 +71,8 @@ fn newest(c: Copies) -> u64
 }
 
 // Whether a valid copy has this id.
-fn taken(c: Copies, id: u64) -> bool
-    ensures { λ r. ⌜ r ≡ taken c id ⌝ }
+fn has_id(c: Copies, id: u64) -> bool
+    ensures { λ r. ⌜ r ≡ hasId c id ⌝ }
 {
     let ka = c.a;
     let kb = c.b;
@@ -84,10 +85,10 @@ fn taken(c: Copies, id: u64) -> bool
 fn spare(c: Copies) -> u64
     ensures { λ r. ⌜ r ≡ spareOf c ⌝ }
 {
-    if !taken(c, 1) {
+    if !has_id(c, 1) {
         return 1;
     }
-    if !taken(c, 2) {
+    if !has_id(c, 2) {
         return 2;
     }
     3
@@ -99,7 +100,7 @@ fn id_from(c: Copies, start: u64) -> u64
 {
     let mut id = start;
     for tried in 0u32..4 {
-        let bad = (id == 0) | taken(c, id);
+        let bad = (id == 0) | has_id(c, id);
         if !bad {
             return id;
         }
@@ -144,7 +145,8 @@ fn format_head(c: Copies, medium: Medium, chunks: u32, size: u32, seed: u64) -> 
 // Zeros in every body sector. The header lists their checksums already, so it stays as it is.
 fn zero_body(volume: &mut [u8], medium: Medium, copy: u64, head: Header) -> BodyWritten
     requires { ⌜ (64 ≤ sectorsOf (now volume)) × (head .chunks ≤ 2048) × (Zeroed head) ⌝ }
-    ensures { λ r. ⌜ (now (volume .exit) ≡ bodyFrom (formatPlan copy head) (bodyOf (head .chunks)) 0 (now (volume .entry)) medium head .vol) × (r ≡ bodyFrom (formatPlan copy head) (bodyOf (head .chunks)) 0 (now (volume .entry)) medium head .ans) ⌝ }
+    ensures { λ r. ⌜ (now (volume .exit) ≡ bodyFrom (formatPlan copy head) (bodyOf (head .chunks)) 0 (now (volume .entry)) medium head .vol)
+        × (r ≡ bodyFrom (formatPlan copy head) (bodyOf (head .chunks)) 0 (now (volume .entry)) medium head .ans) ⌝ }
 {
     let zero = [0u8; 512];
     let first = handles::base(copy) + 1;
@@ -217,7 +219,8 @@ fn make(volume: &mut [u8], medium: Medium, copy: u64, head: Header) -> Committed
 // With both headers read: the tests that come after them, and the writes.
 fn format_over(volume: &mut [u8], medium: Medium, c: Copies, size: u32, seed: u64) -> Committed
     requires { ⌜ (64 ≤ sectorsOf (now volume)) × (1 ≤ size) ⌝ }
-    ensures { λ r. ⌜ (now (volume .exit) ≡ formatOver c size seed (now (volume .entry)) medium .vol) × (r ≡ formatOver c size seed (now (volume .entry)) medium .ans) ⌝ }
+    ensures { λ r. ⌜ (now (volume .exit) ≡ formatOver c size seed (now (volume .entry)) medium .vol)
+        × (r ≡ formatOver c size seed (now (volume .entry)) medium .ans) ⌝ }
 {
     let chunks = chunks_for(medium::sectors(volume), size);
     if chunks == 0 {
@@ -232,7 +235,8 @@ fn format_over(volume: &mut [u8], medium: Medium, c: Copies, size: u32, seed: u6
 
 // Makes a new store on the volume, beside the newest copy of the one that it has. `size` is in sectors per chunk.
 pub fn format(volume: &mut [u8], medium: Medium, size: u32, seed: u64) -> Committed
-    ensures { λ r. ⌜ (now (volume .exit) ≡ formatOf size seed (now (volume .entry)) medium .vol) × (r ≡ formatOf size seed (now (volume .entry)) medium .ans) ⌝ }
+    ensures { λ r. ⌜ (now (volume .exit) ≡ formatOf size seed (now (volume .entry)) medium .vol)
+        × (r ≡ formatOf size seed (now (volume .entry)) medium .ans) ⌝ }
 {
     let sized = (1 <= size) & (size <= 512);
     if !sized {

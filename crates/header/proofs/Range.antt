@@ -21,7 +21,7 @@ use Rattle.handles.specs.Handles.{bodyOf, saneOf}
 use Rattle.handles.proofs.Laws.{sane-facts}
 use Rattle.header.specs.declared.codec.Decoded.{Decoded}
 use Rattle.header.specs.declared.codec.Replica.the-variants.{Foreign, Damaged, Absent}
-use Rattle.header.specs.Header.{magic, rowOk, numbersAt, crcsOf, headOf, ours, bare, decodeOf, Bytes, InRange}
+use Rattle.header.specs.Header.{magic, fixedOk, numbersAt, crcsOf, headOf, ours, bare, decodeOf, Bytes, InRange}
 use Rattle.header.specs.Copies.{isOurs}
 use Rattle.header.proofs.Words.{length-numbers}
 
@@ -89,7 +89,7 @@ chosen false b c x e = no-way e
 pub valid : (l : List ℕ) (sectors : ℕ) → isOurs (decodeOf l sectors .kind) ≡ true → (decodeOf l sectors ≡ ours (headOf l)) × (saneOf (headOf l) sectors ≡ true)
 unfolding decodeOf
 valid l sectors e =
-    let t = chosen (startsWith magic l) (isSealed l) (saneOf (headOf l) sectors && rowOk l (getLe 4 48 l)) (headOf l) e in
+    let t = chosen (startsWith magic l) (isSealed l) (saneOf (headOf l) sectors && fixedOk l (getLe 4 48 l)) (headOf l) e in
     (t .0, and-true _ _ (t .1) .0)
 
 pub decode-range : (l : List ℕ) (sectors : ℕ) (h : Header) → length l ≡ 512 → Bytes l → decodeOf l sectors ≡ ours h → (saneOf h sectors ≡ true) × InRange h

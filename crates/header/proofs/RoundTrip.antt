@@ -25,7 +25,7 @@ use Rattle.handles.specs.declared.Header.{Header}
 use Rattle.handles.specs.Handles.{tableOf, bodyOf, saneOf}
 use Rattle.handles.proofs.Laws.{sane-facts}
 use Rattle.header.specs.declared.codec.Replica.the-variants.{Absent}
-use Rattle.header.specs.Header.{magic, fieldsOf, contentOf, encodeOf, unmarkedOf, zeroFrom, rowOk, numbersAt, crcsOf, headOf, ours, bare, decodeOf, InRange}
+use Rattle.header.specs.Header.{magic, fieldsOf, contentOf, encodeOf, unmarkedOf, zeroFrom, fixedOk, numbersAt, crcsOf, headOf, ours, bare, decodeOf, InRange}
 use Rattle.header.proofs.Words.{numbers-words}
 use Rattle.header.proofs.Fill.{startOf, listOf, listed, listed-fits, length-content}
 
@@ -86,8 +86,8 @@ module _ (h : Header) (count : length (h .crcs) ≡ 24) (most : h .chunks ≤ 20
       ∙ part-zeros b (444 - b) 444 (omega arith))
       ∙ zeros-pass (444 - b)
 
-  pub row-read : rowOk (encodeOf h) (h .chunks) ≡ true
-  unfolding rowOk fieldsOf magic zeros
+  pub row-read : fixedOk (encodeOf h) (h .chunks) ≡ true
+  unfolding fixedOk fieldsOf magic zeros
   row-read =
       let t = got 512 (fieldsOf h) (magic ++ zeros 496) refl tt in
       let v : getLe 2 16 (encodeOf h) ≡ 1 = field 2 16 1 (t 0 (lit< tt)) (lit≤ tt) (lit< tt) in

@@ -21,7 +21,7 @@ use Rattle.handles.proofs.Laws.{sane-facts}
 use Rattle.header.specs.declared.answers.Copies.{Copies}
 use Rattle.header.specs.declared.codec.Decoded.{Decoded}
 use Rattle.header.specs.declared.codec.Replica.the-variants.{Ours, Foreign, Damaged, Absent}
-use Rattle.header.specs.Header.{magic, rowOk, crcsOf, headOf, withCrcs, ours, bare, decodeOf}
+use Rattle.header.specs.Header.{magic, fixedOk, crcsOf, headOf, withCrcs, ours, bare, decodeOf}
 use Rattle.header.specs.Copies.{isForeign, copyOf, bothOf, noCopies, headersOf}
 
 -- ---- decode
@@ -51,7 +51,7 @@ module _ {l : List ℕ} {sectors : ℕ} {h : Header} {t : Bool} (k : Read l sect
   unfolding saneOf
   sane-is = k .sane ∙ ap (λ (x : Header). saneOf x sectors) (k .same)
 
-  rest : decodeOf l sectors ≡ pick (t && rowOk l (h .chunks)) (ours (headOf l)) (bare Foreign)
+  rest : decodeOf l sectors ≡ pick (t && fixedOk l (h .chunks)) (ours (headOf l)) (bare Foreign)
   unfolding decodeOf pick
   rest = rw (k .marked, k .sealed, ← sane-is, ← chunks-is)
 
@@ -62,11 +62,11 @@ module _ {l : List ℕ} {sectors : ℕ} {h : Header} {t : Bool} (k : Read l sect
   pub most : t ≡ true → h .chunks ≤ 2048
   most e = sane-facts h sectors (sym (k .sane) ∙ e) .chunks-most
 
-  pub wrong : {p : Bool} {r : Decoded} → t ≡ true → p ≡ rowOk l (h .chunks) → p ≡ false → r ≡ bare Foreign → r ≡ decodeOf l sectors
+  pub wrong : {p : Bool} {r : Decoded} → t ≡ true → p ≡ fixedOk l (h .chunks) → p ≡ false → r ≡ bare Foreign → r ≡ decodeOf l sectors
   unfolding pick
   wrong e ep tp er = rw (rest, e, ← ep, tp) er
 
-  pub found : {p : Bool} {n : ℕ} {y : List ℕ} → t ≡ true → p ≡ rowOk l (h .chunks) → p ≡ true → n ≡ bodyOf (h .chunks) → y ≡ crcsOf n l
+  pub found : {p : Bool} {n : ℕ} {y : List ℕ} → t ≡ true → p ≡ fixedOk l (h .chunks) → p ≡ true → n ≡ bodyOf (h .chunks) → y ≡ crcsOf n l
       → record { kind = Ours; head = withCrcs h y } ≡ decodeOf l sectors
   unfolding pick headOf
   found {y = y} e ep tp en ey =

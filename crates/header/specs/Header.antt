@@ -58,8 +58,8 @@ unfoldable pub zeroFrom : ℕ → ℕ → List ℕ → Bool
 zeroFrom a e l = allZero (part a (e - a) l)
 
 -- the version, the 8, the table count of so many chunks, and the bytes that must be 0
-unfoldable pub rowOk : List ℕ → ℕ → Bool
-rowOk l chunks =
+unfoldable pub fixedOk : List ℕ → ℕ → Bool
+fixedOk l chunks =
     eqb (getLe 2 16 l) 1 && (eqb (getLe 2 18 l) 8 && (eqb (getLe 2 20 l) (tableOf chunks)
     && (zeroFrom 22 24 l && (zeroFrom 56 64 l && zeroFrom (64 + 4 * bodyOf chunks) 508 l))))
 
@@ -102,7 +102,7 @@ unfoldable pub decodeOf : List ℕ → ℕ → Decoded
 decodeOf l sectors =
     pick (startsWith magic l)
     (pick (isSealed l)
-    (pick (saneOf (headOf l) sectors && rowOk l (getLe 4 48 l)) (ours (headOf l)) (bare Foreign))
+    (pick (saneOf (headOf l) sectors && fixedOk l (getLe 4 48 l)) (ours (headOf l)) (bare Foreign))
     (bare Damaged))
     (bare Absent)
 

@@ -7,7 +7,7 @@ ghost use lib.ListN.{length, take};
 ghost use Rattle.le.specs.Part.{over, zeros};
 ghost use Rattle.le.specs.Field.{putLe};
 ghost use Rattle.le.specs.Layout.{putAll};
-ghost use Rattle.header.specs.Header.{magic, fieldsOf, words, encodeOf, unmarkedOf, rowOk, crcsOf, bare, decodeOf};
+ghost use Rattle.header.specs.Header.{magic, fieldsOf, words, encodeOf, unmarkedOf, fixedOk, crcsOf, bare, decodeOf};
 
 // What a header sector holds: a valid copy, one of another version or geometry, one whose CRC fails, none.
 pub enum Replica {
@@ -79,9 +79,9 @@ pub fn encode_unmarked(head: Header, sector: &mut [u8])
 }
 
 // The version, the 8, the table count, and the bytes that must be 0.
-fn row_ok(sector: &[u8], chunks: u32) -> bool
+fn fixed_ok(sector: &[u8], chunks: u32) -> bool
     requires { ⌜ (length (now sector) ≡ 512) × (chunks ≤ 2048) ⌝ }
-    ensures { λ r. ⌜ r ≡ rowOk (now (sector .entry)) chunks ⌝ }
+    ensures { λ r. ⌜ r ≡ fixedOk (now (sector .entry)) chunks ⌝ }
 {
     let version = le::get_u16(sector, 16);
     let eight = le::get_u16(sector, 18);
@@ -137,7 +137,7 @@ pub fn decode(sector: &[u8], sectors: u64) -> Decoded
     if !handles::sane(head, sectors) {
         return bare(Replica::Foreign);
     }
-    if !row_ok(sector, head.chunks) {
+    if !fixed_ok(sector, head.chunks) {
         return bare(Replica::Foreign);
     }
     let crcs = crcs_at(sector, handles::body(head.chunks));

@@ -22,7 +22,8 @@ ghost use Prim.Native.Nat.{_<_, _≤_};
 ghost use Rattle.medium.specs.Sector.{sectorsOf, writeOf};
 ghost use Rattle.handles.specs.Handles.{baseOf};
 ghost use Rattle.header.specs.Header.{encodeOf, unmarkedOf};
-ghost use Rattle.header.specs.Copies.{isOurs, isForeign, isDamaged, copyOf, noCopies, headersOf, takesB, sameStore, takenOf, noCurrent, choiceOf, currentOf, mountOf};
+ghost use Rattle.header.specs.Copies.{isOurs, isForeign, isDamaged, copyOf, noCopies, headersOf, takesB, sameStore, takenOf, noCurrent};
+ghost use Rattle.header.specs.Copies.{choiceOf, currentOf, mountOf};
 
 // A copy that is valid.
 pub fn is_ours(k: Replica) -> bool
@@ -218,7 +219,8 @@ pub fn mount(volume: &[u8], medium: Medium) -> Mounted
 // Writes a header to its copy's sector, where a write is left.
 pub fn write_head(volume: &mut [u8], medium: Medium, copy: u64, head: Header) -> Written
     requires { ⌜ (64 ≤ sectorsOf (now volume)) × (head .chunks ≤ 2048) ⌝ }
-    ensures { λ r. ⌜ (now (volume .exit) ≡ writeOf (now (volume .entry)) medium (baseOf copy) (encodeOf head) .vol) × (r ≡ writeOf (now (volume .entry)) medium (baseOf copy) (encodeOf head) .ans) ⌝ }
+    ensures { λ r. ⌜ (now (volume .exit) ≡ writeOf (now (volume .entry)) medium (baseOf copy) (encodeOf head) .vol)
+        × (r ≡ writeOf (now (volume .entry)) medium (baseOf copy) (encodeOf head) .ans) ⌝ }
 {
     let w = medium::spend(medium);
     let o = w.outcome;
@@ -233,7 +235,8 @@ pub fn write_head(volume: &mut [u8], medium: Medium, copy: u64, head: Header) ->
 // Writes a header without its magic: format's first write.
 pub fn write_unmarked(volume: &mut [u8], medium: Medium, copy: u64, head: Header) -> Written
     requires { ⌜ (64 ≤ sectorsOf (now volume)) × (head .chunks ≤ 2048) ⌝ }
-    ensures { λ r. ⌜ (now (volume .exit) ≡ writeOf (now (volume .entry)) medium (baseOf copy) (unmarkedOf head) .vol) × (r ≡ writeOf (now (volume .entry)) medium (baseOf copy) (unmarkedOf head) .ans) ⌝ }
+    ensures { λ r. ⌜ (now (volume .exit) ≡ writeOf (now (volume .entry)) medium (baseOf copy) (unmarkedOf head) .vol)
+        × (r ≡ writeOf (now (volume .entry)) medium (baseOf copy) (unmarkedOf head) .ans) ⌝ }
 {
     let w = medium::spend(medium);
     let o = w.outcome;

@@ -3,7 +3,7 @@ use mathlib.Core.List.{List}
 use Prim.Native.Nat.{ℕ, _≤_}
 use lib.ListN.{length}
 use Rattle.le.proofs.Choices.{pick-keeps}
-use Rattle.words.specs.Lines.{Rollover, Line, format, create, append, sync, delete, list, other, lineOf}
+use Rattle.words.specs.Words.{Rollover, Line, format, create, append, sync, delete, list, other, lineOf}
 use Rattle.medium.proofs.Laws.{onOk-keeps}
 use Rattle.store.proofs.Lists.{list-few as call-few}
 use Rattle.session.specs.declared.Session.{Session}

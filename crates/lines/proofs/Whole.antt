@@ -12,7 +12,7 @@ use lib.Seq.{take-all, length-take-le, take-append-le}
 use Rattle.le.specs.Choice.{pick}
 use Rattle.le.specs.Part.{zeros}
 use Rattle.runs.specs.Split.{longer}
-use Rattle.words.specs.Lines.{lineOf}
+use Rattle.words.specs.Words.{lineOf}
 use Rattle.words.proofs.Split.{too-long}
 use Rattle.session.specs.declared.Session.{Session}
 use Rattle.session.specs.Session.{Turn, startOf, allowedOf, lineStep, stepOf}

@@ -29,7 +29,8 @@ pub struct Gathered {
 // The bytes of a line from here up to its line feed, or to the end of what is there.
 pub fn gather(bytes: &[u8], from: usize, line: &mut [u8], fill: usize) -> Gathered
     requires { ⌜ (from ≤ length (now bytes)) × (fill ≤ 601) × (601 ≤ length (now line)) ⌝ }
-    ensures { λ r. ⌜ GatheredAt r (now (bytes .entry)) (now (line .exit)) (gatherOf (take fill (now (line .entry))) (drop from (now (bytes .entry)))) × (from < length (now (bytes .entry)) → from < r .at) ⌝ }
+    ensures { λ r. ⌜ GatheredAt r (now (bytes .entry)) (now (line .exit)) (gatherOf (take fill (now (line .entry))) (drop from (now (bytes .entry))))
+        × (from < length (now (bytes .entry)) → from < r .at) ⌝ }
 {
     let mut fill = fill;
     for i in from..bytes.len() {

@@ -20,7 +20,10 @@ struct Answered {
 // A line without its line feed; its answer goes to the start of `out`.
 fn answer(volume: &mut [u8], session: Session, line: &[u8], out: &mut [u8]) -> Answered
     requires { ⌜ 8192 ≤ length (now out) ⌝ }
-    ensures { λ r. ⌜ (now (volume .exit) ≡ lineTurn (now (volume .entry)) session (now (line .entry)) .0 .vol) × (r .session ≡ lineTurn (now (volume .entry)) session (now (line .entry)) .0 .session) × Put 0 (lineText (now (volume .entry)) session (now (line .entry))) (now (out .entry)) (now (out .exit)) (r .count) × (r .count ≤ 8192) ⌝ }
+    ensures { λ r. ⌜ (now (volume .exit) ≡ lineTurn (now (volume .entry)) session (now (line .entry)) .0 .vol)
+        × (r .session ≡ lineTurn (now (volume .entry)) session (now (line .entry)) .0 .session)
+        × Put 0 (lineText (now (volume .entry)) session (now (line .entry))) (now (out .entry)) (now (out .exit)) (r .count)
+        × (r .count ≤ 8192) ⌝ }
 {
     let mut rows = [0u8; 3072];
     let t = session::step(volume, session, line, &mut rows);
@@ -52,7 +55,12 @@ fn piece(
     out: &mut [u8],
 ) -> Passed
     requires { ⌜ (at ≤ length (now bytes)) × (fill ≤ 601) × (601 ≤ length (now line)) × (8192 ≤ length (now out)) ⌝ }
-    ensures { λ r. ⌜ PassedAt r (now (volume .exit)) (now (bytes .entry)) (now (line .exit)) (now (out .entry)) (now (out .exit)) (pieceOf (held (now (volume .entry)) session (take fill (now (line .entry)))) (drop at (now (bytes .entry)))) × (r .at ≤ length (now (bytes .entry))) × (r .fill ≤ 601) × (r .count ≤ 8192) × (at < length (now (bytes .entry)) → at < r .at) ⌝ }
+    ensures { λ r. ⌜ PassedAt r (now (volume .exit)) (now (bytes .entry)) (now (line .exit)) (now (out .entry)) (now (out .exit))
+        (pieceOf (held (now (volume .entry)) session (take fill (now (line .entry)))) (drop at (now (bytes .entry))))
+        × (r .at ≤ length (now (bytes .entry)))
+        × (r .fill ≤ 601)
+        × (r .count ≤ 8192)
+        × (at < length (now (bytes .entry)) → at < r .at) ⌝ }
 {
     let g = input::gather(bytes, at, &mut *line, fill);
     if !g.ended {
@@ -90,7 +98,9 @@ fn feed(
     out: &mut [u8],
 ) -> FedPart
     requires { ⌜ (fill ≤ 601) × (601 ≤ length (now line)) × (8192 ≤ length (now out)) ⌝ }
-    ensures { λ r. ⌜ (held (now (volume .exit)) (r .session) (take (r .fill) (now (line .exit))) ≡ feedOf (held (now (volume .entry)) session (take fill (now (line .entry)))) (now (bytes .entry)) .held) × (r .fill ≤ 601) ⌝ }
+    ensures { λ r. ⌜ (held (now (volume .exit)) (r .session) (take (r .fill) (now (line .exit)))
+        ≡ feedOf (held (now (volume .entry)) session (take fill (now (line .entry)))) (now (bytes .entry)) .held)
+        × (r .fill ≤ 601) ⌝ }
 {
     let mut s = session;
     let mut kept = fill;

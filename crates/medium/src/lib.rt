@@ -99,7 +99,8 @@ pub fn spend(medium: Medium) -> Written
 // Reads a sector into a buffer; refused, the buffer stays as it was.
 pub fn read_sector(volume: &[u8], medium: Medium, at: u64, sector: &mut [u8; 512]) -> Outcome
     requires { ⌜ at < sectorsOf (now volume) ⌝ }
-    ensures { λ r. ⌜ (r ≡ readOf medium at) × (now (sector .exit) ≡ onDone (readOf medium at) (sectorAt (now (volume .entry)) at) (λ _. now (sector .entry))) ⌝ }
+    ensures { λ r. ⌜ (r ≡ readOf medium at)
+        × (now (sector .exit) ≡ onDone (readOf medium at) (sectorAt (now (volume .entry)) at) (λ _. now (sector .entry))) ⌝ }
 {
     if at == medium.unreadable {
         return Outcome::No(Error::Media);
@@ -113,7 +114,8 @@ pub fn read_sector(volume: &[u8], medium: Medium, at: u64, sector: &mut [u8; 512
 // Writes a sector, where a write is left.
 pub fn write_sector(volume: &mut [u8], medium: Medium, at: u64, sector: &[u8; 512]) -> Written
     requires { ⌜ at < sectorsOf (now volume) ⌝ }
-    ensures { λ r. ⌜ (now (volume .exit) ≡ writeOf (now (volume .entry)) medium at (now (sector .entry)) .vol) × (r ≡ writeOf (now (volume .entry)) medium at (now (sector .entry)) .ans) ⌝ }
+    ensures { λ r. ⌜ (now (volume .exit) ≡ writeOf (now (volume .entry)) medium at (now (sector .entry)) .vol)
+        × (r ≡ writeOf (now (volume .entry)) medium at (now (sector .entry)) .ans) ⌝ }
 {
     let w = spend(medium);
     let o = w.outcome;

@@ -114,14 +114,14 @@ not-here id f e = rw (eq-eqb (f .id) id e)
 pub not-other : (id : ℕ) (f : File) → f .id ≢ id → isNot id f ≡ true
 not-other id f e = rw (ne-eqb (f .id) id e)
 
-pub length-taken : (f : File) (fs : List File) → Apart fs → Mem f fs → length (keep (isNot (f .id)) fs) + 1 ≡ length fs
+pub length-without : (f : File) (fs : List File) → Apart fs → Mem f fs → length (keep (isNot (f .id)) fs) + 1 ≡ length fs
 unfolding keep
-length-taken f (x ∷ fs) a (List·Memᴰ·head e) =
+length-without f (x ∷ fs) a (List·Memᴰ·head e) =
     let all : keep (isNot (f .id)) fs ≡ fs = keep-all (isNot (f .id)) fs (λ g m. not-other (f .id) g (λ q. a .0 g m (ap (λ (h : File). h .id) (sym e) ∙ sym q))) in
     rw (pick-false (x ∷ keep (isNot (f .id)) fs) (keep (isNot (f .id)) fs) (not-here (f .id) x (ap (λ (h : File). h .id) (sym e))), all) (omega arith)
-length-taken f (x ∷ fs) a (List·Memᴰ·tail m) =
+length-without f (x ∷ fs) a (List·Memᴰ·tail m) =
     rw (pick-true (x ∷ keep (isNot (f .id)) fs) (keep (isNot (f .id)) fs) (not-other (f .id) x (λ q. a .0 f m q)))
-    (omega (arith, length-taken f fs (a .1) m))
+    (omega (arith, length-without f fs (a .1) m))
 
 -- ---- a file added
 

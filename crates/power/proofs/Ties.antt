@@ -19,7 +19,7 @@ use Rattle.table.specs.declared.Link.{Link}
 use Rattle.power.specs.Book
 use Rattle.power.specs.Book.{File, keep, onFile, withChunk}
 use Rattle.power.proofs.Whole.{fileOf, Ties}
-use Rattle.power.proofs.Members.{Mem, changed, changed-here, changed-other, mem-on, on-mem, apart-on, length-on, mem-keep, keep-mem, apart-keep, isNot, not-here, not-other, length-taken, apart-more, mem-old, mem-new, more-mem}
+use Rattle.power.proofs.Members.{Mem, changed, changed-here, changed-other, mem-on, on-mem, apart-on, length-on, mem-keep, keep-mem, apart-keep, isNot, not-here, not-other, length-without, apart-more, mem-old, mem-new, more-mem}
 
 -- ---- which slots are counted
 
@@ -162,7 +162,7 @@ ties-remove {D} {E} {G} {files} {s} {id} {n} d t hs is w =
           (o .0, o .1, w .entries (o .0) (o .1) x ∙ o .2, o .3 ∙ rw (replaced-other G s [] (o .0) x) refl);
       apart = apart-keep (isNot id) files (t .apart);
       many =
-          let a = length-taken (fileOf n id (G s)) files (t .apart) (t .into s n id hs is) in
+          let a = length-without (fileOf n id (G s)) files (t .apart) (t .into s n id hs is) in
           let b = tally-one (counts E) (counts D) 64 s hs (vacant-counts (w .entry)) (named-counts is) (λ r h x. ap (listedIn []) (sym (w .entries r h x))) in
           omega (arith, a, b, t .many);
     }

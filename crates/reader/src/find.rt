@@ -46,7 +46,8 @@ impl Reader {
 
     // Records are written once and in order: one that reads back after this one means this one was lost.
     fn hole(self, volume: &[u8], medium: Medium, store: Store) -> Taken
-        requires { ⌜ (storeOk store (sectorsOf (now volume)) ≡ true) × (readerOk self store ≡ true) × (self .index < limitOf (self .end) (store .head .chunk)) ⌝ }
+        requires { ⌜ (storeOk store (sectorsOf (now volume)) ≡ true) × (readerOk self store ≡ true)
+            × (self .index < limitOf (self .end) (store .head .chunk)) ⌝ }
         ensures { λ r. ⌜ r ≡ holeOf (now (volume .entry)) medium store self ⌝ }
     {
         let size = store.head.chunk;
@@ -78,8 +79,10 @@ impl Reader {
 
     // The record at the reader's index, or the hole or the end there.
     fn take(self, volume: &[u8], medium: Medium, store: Store, out: &mut [u8]) -> Taken
-        requires { ⌜ (storeOk store (sectorsOf (now volume)) ≡ true) × (readerOk self store ≡ true) × (self .index < limitOf (self .end) (store .head .chunk)) × (486 ≤ length (now out)) ⌝ }
-        ensures { λ r. ⌜ (now (out .exit) ≡ takeOf (now (volume .entry)) medium store self (now (out .entry)) .out) × (r ≡ takeOf (now (volume .entry)) medium store self (now (out .entry)) .ans) ⌝ }
+        requires { ⌜ (storeOk store (sectorsOf (now volume)) ≡ true) × (readerOk self store ≡ true)
+            × (self .index < limitOf (self .end) (store .head .chunk)) × (486 ≤ length (now out)) ⌝ }
+        ensures { λ r. ⌜ (now (out .exit) ≡ takeOf (now (volume .entry)) medium store self (now (out .entry)) .out)
+            × (r ≡ takeOf (now (volume .entry)) medium store self (now (out .entry)) .ans) ⌝ }
     {
         let n = record::number_at(self.position, store.head.chunk, self.index);
         let j = record::record(volume, medium, store, self.id, self.chunk, self.index, n);
@@ -110,7 +113,8 @@ impl Reader {
         out: &mut [u8],
     ) -> Taken
         requires { ⌜ (storeOk store (sectorsOf (now volume)) ≡ true) × (readerOk self store ≡ true) × (486 ≤ length (now out)) ⌝ }
-        ensures { λ r. ⌜ (now (out .exit) ≡ nextOf (now (volume .entry)) medium store self (now (out .entry)) .out) × (r ≡ nextOf (now (volume .entry)) medium store self (now (out .entry)) .ans) ⌝ }
+        ensures { λ r. ⌜ (now (out .exit) ≡ nextOf (now (volume .entry)) medium store self (now (out .entry)) .out)
+            × (r ≡ nextOf (now (volume .entry)) medium store self (now (out .entry)) .ans) ⌝ }
     {
         let a = self.arrive(volume, medium, store);
         let o = a.outcome;

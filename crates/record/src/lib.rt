@@ -110,7 +110,8 @@ pub fn write_record(
     payload: &[u8],
 ) -> Written
     requires { ⌜ (dataAt store chunk index < sectorsOf (now volume)) × (length (now payload) ≤ 486) ⌝ }
-    ensures { λ r. ⌜ (now (volume .exit) ≡ writeRecordOf (now (volume .entry)) medium store id chunk index number (now (payload .entry)) .vol) × (r ≡ writeRecordOf (now (volume .entry)) medium store id chunk index number (now (payload .entry)) .ans) ⌝ }
+    ensures { λ r. ⌜ (now (volume .exit) ≡ writeRecordOf (now (volume .entry)) medium store id chunk index number (now (payload .entry)) .vol)
+        × (r ≡ writeRecordOf (now (volume .entry)) medium store id chunk index number (now (payload .entry)) .ans) ⌝ }
 {
     let w = medium::spend(medium);
     let o = w.outcome;

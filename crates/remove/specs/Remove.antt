@@ -54,7 +54,11 @@ noneOut o = record { vol = o .vol; ans = noneGone (o .ans .outcome) (o .ans .med
 unfoldable pub goneOf : List ℕ → ℕ → Out → GoneOut
 goneOf name len o =
     onDone (o .ans .outcome)
-    (record { vol = o .vol; ans = record { outcome = Done; medium = o .ans .medium; store = o .ans .store; any = true; name = name; length = len }; skipped = o .skipped })
+    (record {
+      vol = o .vol;
+      ans = record { outcome = Done; medium = o .ans .medium; store = o .ans .store; any = true; name = name; length = len };
+      skipped = o .skipped;
+    })
     (λ e. noneOut o)
 
 -- smallest id goes first, of equal ids the lowest slot; where `keeping`, files of the id `keep` are spared. None is no refusal here

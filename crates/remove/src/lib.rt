@@ -57,7 +57,8 @@ fn closed_for(id: u32, store: Store) -> Store
 // Removes the file of a slot, whose id is given: its entry and all its links in one commit.
 pub fn remove(volume: &mut [u8], medium: Medium, store: Store, slot: usize, id: u32) -> Committed
     requires { ⌜ (storeOk store (sectorsOf (now volume)) ≡ true) × (slot < 64) ⌝ }
-    ensures { λ r. ⌜ (now (volume .exit) ≡ removeOf (now (volume .entry)) medium store slot id .vol) × (r ≡ removeOf (now (volume .entry)) medium store slot id .ans) ⌝ }
+    ensures { λ r. ⌜ (now (volume .exit) ≡ removeOf (now (volume .entry)) medium store slot id .vol)
+        × (r ≡ removeOf (now (volume .entry)) medium store slot id .ans) ⌝ }
 {
     let none = [0u8; 1];
     let edit = Edit::Remove { slot };
@@ -93,7 +94,12 @@ pub fn none_gone(outcome: Outcome, medium: Medium, store: Store) -> Gone
 // The file that was found goes. Its name is read before the commit.
 fn take_away(volume: &mut [u8], medium: Medium, store: Store, old: Old) -> Gone
     requires { ⌜ (storeOk store (sectorsOf (now volume)) ≡ true) × (old .slot < 64) ⌝ }
-    ensures { λ r. ⌜ (now (volume .exit) ≡ goneOf (part 0 40 (entryAt (now (volume .entry)) store (old .slot))) (old .len) (removeOf (now (volume .entry)) medium store (old .slot) (old .id)) .vol) × (r ≡ goneOf (part 0 40 (entryAt (now (volume .entry)) store (old .slot))) (old .len) (removeOf (now (volume .entry)) medium store (old .slot) (old .id)) .ans) ⌝ }
+    ensures { λ r. ⌜ (now (volume .exit)
+        ≡ goneOf (part 0 40 (entryAt (now (volume .entry)) store (old .slot))) (old .len)
+        (removeOf (now (volume .entry)) medium store (old .slot) (old .id)) .vol)
+        × (r
+        ≡ goneOf (part 0 40 (entryAt (now (volume .entry)) store (old .slot))) (old .len)
+        (removeOf (now (volume .entry)) medium store (old .slot) (old .id)) .ans) ⌝ }
 {
     let mut name = [0u8; 40];
     let a = directory::entry_place(store.copy, old.slot);
@@ -125,7 +131,8 @@ pub fn remove_oldest(
     keep: u32,
 ) -> Gone
     requires { ⌜ storeOk store (sectorsOf (now volume)) ≡ true ⌝ }
-    ensures { λ r. ⌜ (now (volume .exit) ≡ removeOldestOf (now (volume .entry)) medium store (now (dir .entry)) keeping keep .vol) × (r ≡ removeOldestOf (now (volume .entry)) medium store (now (dir .entry)) keeping keep .ans) ⌝ }
+    ensures { λ r. ⌜ (now (volume .exit) ≡ removeOldestOf (now (volume .entry)) medium store (now (dir .entry)) keeping keep .vol)
+        × (r ≡ removeOldestOf (now (volume .entry)) medium store (now (dir .entry)) keeping keep .ans) ⌝ }
 {
     let found = directory::oldest(&volume[..], medium, store, dir, keeping, keep);
     match found {

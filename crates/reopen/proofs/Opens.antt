@@ -20,7 +20,7 @@ use Rattle.table.specs.declared.Chained.the-variants as chained
 use Rattle.table.specs.declared.ChainParts.{ChainParts}
 use Rattle.table.specs.Table.{chainOf}
 use Rattle.table.proofs.Decides.{onChain-keeps}
-use Rattle.append.specs.declared.Flushed.{Flushed}
+use Rattle.append.specs.declared.Handed.{Handed}
 use Rattle.append.specs.Appender.{appenderOk, noAppender}
 use Rattle.append.specs.Flush.{AppOut}
 use Rattle.files.specs.declared.Rollover.{Rollover}
@@ -45,7 +45,7 @@ pub record Reads (vol : List ℕ) (m : Medium) (st : Store) (o : AppOut) : Type 
   pub refused : (e : Error) → o .ans .outcome ≡ No e → o .ans ≡ refusedAt vol m st e .ans
 
 -- what an accepted call hands back: an appender of the file found, which passes where its rollover does, and the store that it writes
-pub record Opens (name : List ℕ) (rollover : Rollover) (vol : List ℕ) (m : Medium) (st : Store) (r : Flushed) : Type 0 where
+pub record Opens (name : List ℕ) (rollover : Rollover) (vol : List ℕ) (m : Medium) (st : Store) (r : Handed) : Type 0 where
   pub named : findOf vol m st name ≡ found.At (r .appender .slot) (r .appender .id)
   pub medium : r .medium ≡ withToken m
   pub store : r .store ≡ writtenBy (nextToken m) (r .appender .id) st

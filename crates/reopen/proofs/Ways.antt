@@ -19,7 +19,7 @@ use Rattle.table.specs.declared.Chained.the-variants as chained
 use Rattle.table.specs.declared.ChainParts.{ChainParts}
 use Rattle.table.specs.Table.{chainOf, onChain}
 use Rattle.table.proofs.Walks.{chain-range}
-use Rattle.append.specs.declared.Flushed.{Flushed}
+use Rattle.append.specs.declared.Handed.{Handed}
 use Rattle.append.specs.declared.Tail.{Tail}
 use Rattle.files.specs.declared.Rollover.{Rollover}
 use Rattle.files.specs.Opened.{refusedAt, openedOut}
@@ -36,7 +36,7 @@ answer-alike vol m st slot id chunk position tail rollover = refl
 -- ---- the file found
 
 module _ (rollover : Rollover) (vol : List ℕ) (m : Medium) (st : Store) (slot id : ℕ) {c : Chained} (asked : c ≡ chainOf vol m st slot) where
-  pub no-chain : {e : Error} {r : Flushed} → c ≡ chained.Refused e → r ≡ refusedAt [] m st e .ans → r ≡ fileOut rollover vol m st slot id .ans
+  pub no-chain : {e : Error} {r : Handed} → c ≡ chained.Refused e → r ≡ refusedAt [] m st e .ans → r ≡ fileOut rollover vol m st slot id .ans
   unfolding fileOut onChain
   no-chain q h = rw (h, ← asked, q)
 
@@ -49,11 +49,11 @@ module _ (rollover : Rollover) (vol : List ℕ) (m : Medium) (st : Store) (slot 
         (f .least, f .last, omega (arith, f .most, h .head .chunks-most))
 
     module _ {n : Records} (counted : n ≡ recordsFrom vol m st id (p .last) (p .count - 1) (st .head .chunk)) where
-      pub no-count : {e : Error} {r : Flushed} → n ≡ records.Refused e → r ≡ refusedAt [] m st e .ans → r ≡ fileOut rollover vol m st slot id .ans
+      pub no-count : {e : Error} {r : Handed} → n ≡ records.Refused e → r ≡ refusedAt [] m st e .ans → r ≡ fileOut rollover vol m st slot id .ans
       unfolding fileOut onChain onRecords
       no-count t h = rw (h, ← asked, q, ← counted, t)
 
-      pub file-opened : {k : ℕ} {tail : Tail} {r : Flushed} → n ≡ records.Are k → tail ≡ tailFor (st .head .chunk) k
+      pub file-opened : {k : ℕ} {tail : Tail} {r : Handed} → n ≡ records.Are k → tail ≡ tailFor (st .head .chunk) k
           → r ≡ openedOut [] m st slot id (p .last) (p .count - 1) tail rollover .ans → r ≡ fileOut rollover vol m st slot id .ans
       unfolding fileOut onChain onRecords
       file-opened t l h = h ∙ rw (← asked, q, ← counted, t, ← l) (answer-alike vol m st slot id (p .last) (p .count - 1) _ rollover)
@@ -61,10 +61,10 @@ module _ (rollover : Rollover) (vol : List ℕ) (m : Medium) (st : Store) (slot 
 -- ---- the name
 
 module _ (name : List ℕ) (rollover : Rollover) (vol : List ℕ) (m : Medium) (st : Store) {f : Found} (asked : f ≡ findOf vol m st name) where
-  pub not-found : {e : Error} {r : Flushed} → f ≡ found.Refused e → r ≡ refusedAt [] m st e .ans → r ≡ reopenOf name rollover vol m st .ans
+  pub not-found : {e : Error} {r : Handed} → f ≡ found.Refused e → r ≡ refusedAt [] m st e .ans → r ≡ reopenOf name rollover vol m st .ans
   unfolding reopenOf onFound
   not-found q h = rw (h, ← asked, q)
 
-  pub name-found : {slot id : ℕ} {r : Flushed} → f ≡ found.At slot id → r ≡ fileOut rollover vol m st slot id .ans → r ≡ reopenOf name rollover vol m st .ans
+  pub name-found : {slot id : ℕ} {r : Handed} → f ≡ found.At slot id → r ≡ fileOut rollover vol m st slot id .ans → r ≡ reopenOf name rollover vol m st .ans
   unfolding reopenOf onFound
   name-found q h = rw (h, ← asked, q)

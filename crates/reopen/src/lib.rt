@@ -1,5 +1,5 @@
 // A file opened to append: what the Rust has as `open_append`. It only reads.
-use append::Flushed;
+use append::Handed;
 use append::Tail;
 use directory::Found;
 use files::Rollover;
@@ -90,7 +90,7 @@ fn open_file(
     slot: usize,
     id: u32,
     rollover: Rollover,
-) -> Flushed
+) -> Handed
     requires { ⌜ storeOk store (sectorsOf (now volume)) ≡ true ⌝ }
     ensures { λ r. ⌜ r ≡ fileOut rollover (now (volume .entry)) medium store slot id .ans ⌝ }
 {
@@ -118,7 +118,7 @@ pub fn open_append(
     store: Store,
     name: &[u8],
     rollover: Rollover,
-) -> Flushed
+) -> Handed
     requires { ⌜ storeOk store (sectorsOf (now volume)) ≡ true ⌝ }
     ensures { λ r. ⌜ r ≡ reopenOf (now (name .entry)) rollover (now (volume .entry)) medium store .ans ⌝ }
 {

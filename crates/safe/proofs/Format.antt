@@ -31,7 +31,7 @@ use Rattle.plan.specs.Copy.{Plan, Out, isFormat, refusedOut, copyOut}
 use Rattle.format.specs.Format.{chunksOf, newestB, copyFor, newestOf, formatHead, formatPlan, formatOver, formatOf}
 use Rattle.format.proofs.Crcs.{length-crcs}
 use Rattle.format.proofs.Absent.{format-first}
-use Rattle.format.proofs.Ids.{id-fresh, not-taken}
+use Rattle.format.proofs.Ids.{id-fresh, neither-has}
 use Rattle.format.proofs.Numbers.{copy-lt, chunks-most, head-sane, head-range}
 use Rattle.safe.specs.Copy.{Good, Tied}
 use Rattle.safe.specs.Mounts.{Stands, Newest}
@@ -164,7 +164,7 @@ module _ (size seed : ℕ) (vol : List ℕ) (m : Medium) where
     unfolding formatHead baseOf
     fresh c =
         let f = id-fresh (both vol) m seed in
-        let t = not-taken (copyOf vol 0) (copyOf vol 32) _ (f .1) in
+        let t = neither-has (copyOf vol 0) (copyOf vol 32) _ (f .1) in
         pick-keeps (λ (k : ℕ). (h : Header) → copyOf vol k ≡ ours h → h .id ≡ head .id → ⊥) (eqb c 0) 0 32 (t .0) (t .1)
 
     newest-lt : Numbered vol → newestOf (both vol) < 2 ^ 64

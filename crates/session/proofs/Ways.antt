@@ -9,7 +9,7 @@ use Rattle.le.specs.Choice.{pick}
 use Rattle.le.specs.Part.{zeros}
 use Rattle.words.specs.declared.Parsed.{Parsed}
 use Rattle.words.specs.declared.Parsed.the-variants as is
-use Rattle.words.specs.Lines.{noRollover, rollover, list, lineOf, meaning, within}
+use Rattle.words.specs.Words.{noRollover, rollover, list, lineOf, meaning, within}
 use Rattle.words.proofs.Forms.{parsed-as}
 use Rattle.words.proofs.Split.{tail-part}
 use Rattle.medium.specs.declared.Error.{Error}
@@ -18,7 +18,7 @@ use Rattle.medium.specs.declared.Outcome.{Outcome}
 use Rattle.medium.specs.declared.Outcome.the-variants as end
 use Rattle.medium.specs.Refusal.{numberOf, onOk, outcomeOf}
 use Rattle.append.specs.declared.Appender.{Appender}
-use Rattle.append.specs.declared.Flushed.{Flushed}
+use Rattle.append.specs.declared.Handed.{Handed}
 use Rattle.append.specs.declared.Room.{Room}
 use Rattle.append.specs.declared.Room.the-variants as room
 use Rattle.append.specs.Calls.{appendCall, syncCall, roomAnswer, roomCall}
@@ -33,7 +33,8 @@ use Rattle.session.specs.declared.Session.{Session}
 use Rattle.session.specs.declared.Told.{Told}
 use Rattle.session.specs.declared.Reply.{Reply}
 use Rattle.session.specs.declared.Reply.the-variants.{Number, No}
-use Rattle.session.specs.Session.{ok, listed, no, saidOf, allowedOf, heldOf, formattedOf, createdOf, Turn, turnOf, formatLine, opened, createLine, roomSaid, appendLine, syncLine, deleteLine, listLine, afterFormat, afterCreate, lineStep, stepOf}
+use Rattle.session.specs.Session.{ok, listed, no, saidOf, allowedOf, heldOf, formattedOf, createdOf, Turn, turnOf, formatLine}
+use Rattle.session.specs.Session.{opened, createLine, roomSaid, appendLine, syncLine, deleteLine, listLine, afterFormat, afterCreate, lineStep, stepOf}
 
 -- ---- before an accepted format, and before an accepted create
 
@@ -80,7 +81,7 @@ unfolding createLine createCall opening store.rolloverOf pick
 create-as vol s name true dir = refl
 create-as vol s name false dir = refl
 
-module _ (vol : List ℕ) (s : Session) (fine : not (s .formatted) ≡ false) (name : List ℕ) (rolls : Bool) (dir : List ℕ) (f : Flushed) {v : List ℕ}
+module _ (vol : List ℕ) (s : Session) (fine : not (s .formatted) ≡ false) (name : List ℕ) (rolls : Bool) (dir : List ℕ) (f : Handed) {v : List ℕ}
     (g : Offers v f (createCall vol (s .medium) (s .store) name rolls dir)) where
   opened-as : {t : Turn} → t ≡ opened s (createCall vol (s .medium) (s .store) name rolls dir) → t ≡ afterFormat vol s (createLine vol s name (pick rolls (rollover dir) noRollover))
   opened-as e = e ∙ create-as vol s name rolls dir ∙ with-format vol s fine _
@@ -117,7 +118,7 @@ module _ (o : Outcome) (ap : Appender) where
     unfolding onOk
     room-is q = rw (d, ← g, q)
 
-module _ (vol : List ℕ) (s : Session) (fine : not (s .formatted) ≡ false) (made : not (s .created) ≡ false) (f : Flushed) {v : List ℕ} (r : Told)
+module _ (vol : List ℕ) (s : Session) (fine : not (s .formatted) ≡ false) (made : not (s .created) ≡ false) (f : Handed) {v : List ℕ} (r : Told)
     (q : (r .session ≡ heldOf s (f .store) (f .appender) (f .medium)) × (saidOf (r .reply) ≡ roomSaid (outcomeOf (f .outcome)) (roomCall (f .appender)))) where
   pub append-told : (text : List ℕ) → Offers v f (appendCall vol (s .medium) (s .store) (s .appender) text) → turnOf v r ≡ afterCreate vol s (appendLine vol s text)
   unfolding appendLine

@@ -4,7 +4,7 @@ use mathlib.Core.Bool.{Bool, true, false}
 use mathlib.Core.List.{List, []}
 use Rattle.le.specs.Choice.{pick}
 use Rattle.le.specs.Part.{zeros}
-use Rattle.words.specs.Lines.{Rollover, noRollover, rollover, Line, format, create, append, sync, delete, list, other, lineOf}
+use Rattle.words.specs.Words.{Rollover, noRollover, rollover, Line, format, create, append, sync, delete, list, other, lineOf}
 use Rattle.medium.specs.declared.Medium.{Medium}
 use Rattle.medium.specs.Refusal.{Answer, numberOf, onOk}
 use Rattle.handles.specs.declared.Store.{Store}

@@ -1,6 +1,6 @@
 // The line program between its input and its output: what it holds from line to line, what a line does to that and to the volume, and its answer.
 use append::Appender;
-use append::Flushed;
+use append::Handed;
 use append::Room;
 use handles::Store;
 use medium::Error;
@@ -8,12 +8,13 @@ use medium::Medium;
 use medium::Outcome;
 use words::Parsed;
 ghost use mathlib.Core.Path.{_≡_};
-ghost use Rattle.words.specs.Lines.{noRollover, rollover, list};
+ghost use Rattle.words.specs.Words.{noRollover, rollover, list};
 ghost use Rattle.medium.specs.Refusal.{onOk, outcomeOf};
 ghost use Rattle.append.specs.Calls.{roomCall};
 ghost use Rattle.le.specs.Choice.{pick};
 ghost use Rattle.session.specs.declared.Reply.the-variants.{No};
-ghost use Rattle.session.specs.Session.{ok, listed, no, saidOf, startOf, allowedOf, heldOf, turnOf, formatLine, createLine, roomSaid, appendLine, syncLine, deleteLine, afterFormat, afterCreate, lineStep, stepOf};
+ghost use Rattle.session.specs.Session.{ok, listed, no, saidOf, startOf, allowedOf, heldOf, turnOf, formatLine, createLine, roomSaid};
+ghost use Rattle.session.specs.Session.{appendLine, syncLine, deleteLine, afterFormat, afterCreate, lineStep, stepOf};
 
 // What is held from line to line, beside the volume. `formatted`, `created`: a format, a create was accepted.
 pub struct Session {
@@ -122,7 +123,8 @@ fn format_line(volume: &mut [u8], s: Session, size: u32, seed: u64) -> Told
 
 // A refused create leaves the appender of the one before it, beside the store that a rollover may have left.
 fn create_line(volume: &mut [u8], s: Session, name: &[u8], rolls: bool, dir: &[u8]) -> Told
-    ensures { λ r. ⌜ turnOf (now (volume .exit)) r ≡ afterFormat (now (volume .entry)) s (createLine (now (volume .entry)) s (now (name .entry)) (pick rolls (rollover (now (dir .entry))) noRollover)) ⌝ }
+    ensures { λ r. ⌜ turnOf (now (volume .exit)) r
+        ≡ afterFormat (now (volume .entry)) s (createLine (now (volume .entry)) s (now (name .entry)) (pick rolls (rollover (now (dir .entry))) noRollover)) ⌝ }
 {
     if !s.formatted {
         return refused(s, Error::Uninitialized);
@@ -172,8 +174,9 @@ fn room_reply(o: Outcome, appender: Appender) -> Reply
 }
 
 // What stands after an append or a sync is held, refused or not.
-fn flushed(s: Session, f: Flushed) -> Told
-    ensures { λ r. ⌜ (r .session ≡ heldOf s (f .store) (f .appender) (f .medium)) × (saidOf (r .reply) ≡ roomSaid (outcomeOf (f .outcome)) (roomCall (f .appender))) ⌝ }
+fn flushed(s: Session, f: Handed) -> Told
+    ensures { λ r. ⌜ (r .session ≡ heldOf s (f .store) (f .appender) (f .medium))
+        × (saidOf (r .reply) ≡ roomSaid (outcomeOf (f .outcome)) (roomCall (f .appender))) ⌝ }
 {
     let o = f.outcome;
     let store = f.store;

@@ -21,7 +21,7 @@ use Rattle.medium.proofs.Laws.{onDone-keeps, not-done, done-told}
 use Rattle.handles.specs.declared.Store.{Store}
 use Rattle.handles.proofs.Laws.{store-facts}
 use Rattle.remove.proofs.Keeps.{Stands, stands-none}
-use Rattle.append.specs.declared.Flushed.{Flushed}
+use Rattle.append.specs.declared.Handed.{Handed}
 use Rattle.append.specs.declared.Tail.the-variants.{At}
 use Rattle.append.specs.Appender.{dirBytes, tailOk, isClosed}
 use Rattle.append.specs.Calls.{mayWrite}
@@ -82,7 +82,7 @@ module _ (vol : List ℕ) (m : Medium) (st : Store) (name : List ℕ) (rolls : B
 
   -- ---- create
 
-  abbrev Readies : List ℕ → Flushed → Type 0
+  abbrev Readies : List ℕ → Handed → Type 0
   Readies v x = x .outcome ≡ Done → 1 ≤ x .medium .left → Ready v (x .medium) (x .store) (x .appender)
 
   new-ready : overOk over′ ≡ true → (v : List ℕ) (n : Medium) (s : Store) (slot id chunk : ℕ) → Stands vol m st v n s → slot < 64 → (id ≡ 0 → ⊥) → chunk < s .head .chunks

@@ -19,7 +19,7 @@ use Rattle.medium.proofs.Laws.{onDone-keeps}
 use Rattle.handles.specs.declared.Store.{Store}
 use Rattle.handles.specs.Handles.{storeOk}
 use Rattle.append.specs.declared.Dir.{Dir}
-use Rattle.append.specs.declared.Flushed.{Flushed}
+use Rattle.append.specs.declared.Handed.{Handed}
 use Rattle.append.specs.Calls.{appAnswer}
 use Rattle.append.specs.Flush.{AppOut}
 use Rattle.append.proofs.Offers.{Offers}
@@ -67,16 +67,16 @@ rollover-near rolls dir e h = rw e (pick-keeps-by (λ (d : Dir). d .length ≤ 4
 module _ (vol : List ℕ) (m : Medium) (st : Store) (name : List ℕ) (rolls : Bool) (dir : List ℕ) {fine : Bool} {o : Outcome} (f : fine ≡ openFine name rolls dir)
     (q : o ≡ askedOf vol st fine) where
   module _ (work : Rollover → AppOut) where
-    opening-refused : {e : Error} {r : Flushed} → o ≡ No e → r ≡ refusedAt [] m st e .ans → Offers vol r (opening vol m st name rolls dir work)
+    opening-refused : {e : Error} {r : Handed} → o ≡ No e → r ≡ refusedAt [] m st e .ans → Offers vol r (opening vol m st name rolls dir work)
     unfolding opening onDone
     opening-refused h k = rw (k, ← f, ← q, h) (refl, refl)
 
-    opening-worked : {over : Rollover} {v : List ℕ} {r : Flushed} → o ≡ Done → over ≡ rolloverOf rolls dir → (v ≡ work over .vol) × (r ≡ work over .ans)
+    opening-worked : {over : Rollover} {v : List ℕ} {r : Handed} → o ≡ Done → over ≡ rolloverOf rolls dir → (v ≡ work over .vol) × (r ≡ work over .ans)
         → Offers v r (opening vol m st name rolls dir work)
     unfolding opening onDone
     opening-worked h k g = rw (← f, ← q, h, ← k) (g .0, ap appAnswer (g .1))
 
-  module _ {e : Error} {r : Flushed} (h : o ≡ No e) (k : r ≡ refusedAt [] m st e .ans) where
+  module _ {e : Error} {r : Handed} (h : o ≡ No e) (k : r ≡ refusedAt [] m st e .ans) where
     pub open-refused : appAnswer r ≡ openCall vol m st name rolls dir .call
     unfolding openCall
     open-refused = opening-refused (λ x. reopenOf name x vol m st) h k .1
@@ -85,7 +85,7 @@ module _ (vol : List ℕ) (m : Medium) (st : Store) (name : List ℕ) (rolls : B
     unfolding createCall
     create-refused = opening-refused (λ x. createOf name x vol m st) h k
 
-  module _ {over : Rollover} {r : Flushed} (h : o ≡ Done) (k : over ≡ rolloverOf rolls dir) where
+  module _ {over : Rollover} {r : Handed} (h : o ≡ Done) (k : over ≡ rolloverOf rolls dir) where
     pub open-told : r ≡ reopenOf name over vol m st .ans → appAnswer r ≡ openCall vol m st name rolls dir .call
     unfolding openCall
     open-told e = opening-worked (λ x. reopenOf name x vol m st) h k (refl, e) .1

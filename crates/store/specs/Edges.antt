@@ -35,7 +35,8 @@ aRecord = record { kind = recorded; skipped = [] }
 
 -- an accepted append that wrote so many records, each of them one of the medium's writes, and the bytes until the next
 abbrev pub Wrote : Medium → AppCall → ℕ → ℕ → Type 0
-Wrote m c records room = (c .call .answer ≡ ok tt) × (c .steps ≡ replicate records aRecord) × (c .call .medium .left + records ≡ m .left) × (roomCall (c .call .appender) ≡ ok room)
+Wrote m c records room =
+    (c .call .answer ≡ ok tt) × (c .steps ≡ replicate records aRecord) × (c .call .medium .left + records ≡ m .left) × (roomCall (c .call .appender) ≡ ok room)
 
 -- an appender that may write, with nothing unwritten in its 486 bytes, room in its chunk, and a write left
 pub record Ready (vol : List ℕ) (m : Medium) (st : Store) (ap : Appender) : Type 0 where
@@ -62,19 +63,25 @@ pub record Starred : Type 0 where
   pub forty-dir : dirOk (letters 39 ++ (47 ∷ [])) ≡ true
   pub forty-one-dir : dirOk (letters 40 ++ (47 ∷ [])) ≡ false
   -- and that is 1: a name or a directory that fails its rule, of a store value that passes
-  pub bad-name : (vol : List ℕ) (m : Medium) (st : Store) (name : List ℕ) → storeOk st (sectorsOf vol) ≡ true → nameOk name ≡ false → findCall vol m st name .answer ≡ refused 1
-  pub bad-dir : (vol : List ℕ) (m : Medium) (st : Store) (dir : List ℕ) → storeOk st (sectorsOf vol) ≡ true → dirOk dir ≡ false → oldestCall vol m st dir .call .answer ≡ refused 1
+  pub bad-name : (vol : List ℕ) (m : Medium) (st : Store) (name : List ℕ) → storeOk st (sectorsOf vol) ≡ true → nameOk name ≡ false
+      → findCall vol m st name .answer ≡ refused 1
+  pub bad-dir : (vol : List ℕ) (m : Medium) (st : Store) (dir : List ℕ) → storeOk st (sectorsOf vol) ≡ true → dirOk dir ≡ false
+      → oldestCall vol m st dir .call .answer ≡ refused 1
   -- size 512, S 575: 2; 576: one chunk
   pub small : (vol : List ℕ) (m : Medium) (seed : ℕ) → headersOf vol m .outcome ≡ Done → sectorsOf vol ≡ 575
       → formatCall vol m 512 seed .call .answer ≡ refused 2
-  pub enough : (vol : List ℕ) (m : Medium) (seed : ℕ) → headersOf vol m .outcome ≡ Done → sectorsOf vol ≡ 576 → (newestOf (headersOf vol m) ≡ 2 ^ 64 - 1 → ⊥) → 11 ≤ m .left
+  pub enough : (vol : List ℕ) (m : Medium) (seed : ℕ) → headersOf vol m .outcome ≡ Done → sectorsOf vol ≡ 576
+      → (newestOf (headersOf vol m) ≡ 2 ^ 64 - 1 → ⊥) → 11 ≤ m .left
       → (formatCall vol m 512 seed .call .answer ≡ ok tt) × (formatCall vol m 512 seed .call .store .head .chunks ≡ 1)
   -- slot 2, position 3, 5 records partial: bytes 83 02 03 80 hexadecimal
   pub link : linkBytes (record { slot = 2; position = 3; partial = true; records = 5 }) ≡ 0x83 ∷ 0x02 ∷ 0x03 ∷ 0x80 ∷ []
   -- appending 485, 486, 487 bytes: 0, 1, 1 records; 1, 486, 485 until the next
-  pub append-485 : (vol : List ℕ) (m : Medium) (st : Store) (ap : Appender) (bytes : List ℕ) → Ready vol m st ap → length bytes ≡ 485 → Wrote m (appendCall vol m st ap bytes) 0 1
-  pub append-486 : (vol : List ℕ) (m : Medium) (st : Store) (ap : Appender) (bytes : List ℕ) → Ready vol m st ap → length bytes ≡ 486 → Wrote m (appendCall vol m st ap bytes) 1 486
-  pub append-487 : (vol : List ℕ) (m : Medium) (st : Store) (ap : Appender) (bytes : List ℕ) → Ready vol m st ap → length bytes ≡ 487 → Wrote m (appendCall vol m st ap bytes) 1 485
+  pub append-485 : (vol : List ℕ) (m : Medium) (st : Store) (ap : Appender) (bytes : List ℕ) → Ready vol m st ap → length bytes ≡ 485
+      → Wrote m (appendCall vol m st ap bytes) 0 1
+  pub append-486 : (vol : List ℕ) (m : Medium) (st : Store) (ap : Appender) (bytes : List ℕ) → Ready vol m st ap → length bytes ≡ 486
+      → Wrote m (appendCall vol m st ap bytes) 1 486
+  pub append-487 : (vol : List ℕ) (m : Medium) (st : Store) (ap : Appender) (bytes : List ℕ) → Ready vol m st ap → length bytes ≡ 487
+      → Wrote m (appendCall vol m st ap bytes) 1 485
   -- zeroed volume: mount 5
   pub zeroed : (n : ℕ) (m : Medium) → 64 ≤ n / 512 → readOf m 0 ≡ Done → readOf m 32 ≡ Done → mountCall (zeros n) m .answer ≡ refused 5
   -- equal generations: mount A

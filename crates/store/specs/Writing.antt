@@ -68,7 +68,13 @@ pub record OldestCall : Type 0 where
 
 -- where no file goes, no step is made
 unfoldable pub oldestTold : GoneOut → OldestCall
-oldestTold g = record { vol = g .vol; call = goneAnswer (g .ans); gone = g .ans; steps = pick (g .ans .any) ((record { kind = deletedOldest; skipped = g .skipped }) ∷ []) [] }
+oldestTold g =
+    record {
+      vol = g .vol;
+      call = goneAnswer (g .ans);
+      gone = g .ans;
+      steps = pick (g .ans .any) ((record { kind = deletedOldest; skipped = g .skipped }) ∷ []) [];
+    }
 
 -- the open file is spared
 unfoldable pub oldestCall : List ℕ → Medium → Store → List ℕ → OldestCall

@@ -20,7 +20,8 @@ ghost use Rattle.le.specs.Part.{over, zeros};
 ghost use Rattle.plan.specs.Copy.{refusedOut};
 ghost use Rattle.store.specs.Asked.{askedOf};
 ghost use Rattle.store.specs.Writing.{formatCall, answerOf, deleteCall, goneAnswer, oldestCall};
-ghost use Rattle.store.specs.Reading.{storeAnswer, mountCall, findAnswer, findCall, listAnswer, notListed, listCall, readerAnswer, noReaderAnswer, readerCall};
+ghost use Rattle.store.specs.Reading.{storeAnswer, mountCall, findAnswer, findCall, listAnswer, notListed, listCall, readerAnswer};
+ghost use Rattle.store.specs.Reading.{noReaderAnswer, readerCall};
 
 // Refusals 3 and 1 of a call that takes a store value and a name or directory; `fine`: that one passes its rule.
 fn asked(volume: &[u8], store: Store, fine: bool) -> Outcome
@@ -71,7 +72,8 @@ pub fn mount(volume: &[u8], medium: Medium) -> StoreAnswer
 
 // A new, empty store with chunks of `size` sectors, superseding any store there.
 pub fn format(volume: &mut [u8], medium: Medium, size: u32, seed: u64) -> StoreAnswer
-    ensures { λ r. ⌜ (now (volume .exit) ≡ formatCall (now (volume .entry)) medium size seed .vol) × (storeAnswer r ≡ formatCall (now (volume .entry)) medium size seed .call) ⌝ }
+    ensures { λ r. ⌜ (now (volume .exit) ≡ formatCall (now (volume .entry)) medium size seed .vol)
+        × (storeAnswer r ≡ formatCall (now (volume .entry)) medium size seed .call) ⌝ }
 {
     committed(format::format(volume, medium, size, seed))
 }
@@ -132,7 +134,8 @@ pub fn list(
     counts: &mut [u32],
     rows: &mut [u8],
 ) -> ListAnswer
-    ensures { λ r. ⌜ listAnswer r (now (counts .exit)) (now (rows .exit)) ≡ listCall (now (volume .entry)) medium store (now (dir .entry)) (now (counts .entry)) (now (rows .entry)) ⌝ }
+    ensures { λ r. ⌜ listAnswer r (now (counts .exit)) (now (rows .exit))
+        ≡ listCall (now (volume .entry)) medium store (now (dir .entry)) (now (counts .entry)) (now (rows .entry)) ⌝ }
 {
     if (rows.len() < 3072) | (counts.len() < 64) {
         return not_listed(Error::Range, medium);
@@ -214,7 +217,8 @@ fn as_given(e: Error, store: Store, medium: Medium) -> StoreAnswer
 
 // Deletes a file; an appender that writes it is stale from now on.
 pub fn delete(volume: &mut [u8], medium: Medium, store: Store, name: &[u8]) -> StoreAnswer
-    ensures { λ r. ⌜ (now (volume .exit) ≡ deleteCall (now (volume .entry)) medium store (now (name .entry)) .vol) × (storeAnswer r ≡ deleteCall (now (volume .entry)) medium store (now (name .entry)) .call) ⌝ }
+    ensures { λ r. ⌜ (now (volume .exit) ≡ deleteCall (now (volume .entry)) medium store (now (name .entry)) .vol)
+        × (storeAnswer r ≡ deleteCall (now (volume .entry)) medium store (now (name .entry)) .call) ⌝ }
 {
     let o = asked(&volume[..], store, names::name_ok(name));
     if let Outcome::No(e) = o {
@@ -229,7 +233,9 @@ pub fn delete(volume: &mut [u8], medium: Medium, store: Store, name: &[u8]) -> S
 
 // Deletes the oldest file in a directory other than the open appender's, and tells its name, or that there is none.
 pub fn delete_oldest(volume: &mut [u8], medium: Medium, store: Store, dir: &[u8]) -> Gone
-    ensures { λ r. ⌜ (now (volume .exit) ≡ oldestCall (now (volume .entry)) medium store (now (dir .entry)) .vol) × (goneAnswer r ≡ oldestCall (now (volume .entry)) medium store (now (dir .entry)) .call) × (r ≡ oldestCall (now (volume .entry)) medium store (now (dir .entry)) .gone) ⌝ }
+    ensures { λ r. ⌜ (now (volume .exit) ≡ oldestCall (now (volume .entry)) medium store (now (dir .entry)) .vol)
+        × (goneAnswer r ≡ oldestCall (now (volume .entry)) medium store (now (dir .entry)) .call)
+        × (r ≡ oldestCall (now (volume .entry)) medium store (now (dir .entry)) .gone) ⌝ }
 {
     let o = asked(&volume[..], store, names::dir_ok(dir));
     if let Outcome::No(e) = o {

@@ -1,6 +1,6 @@
 // The calls on offer that open a file to append.
 use append::Dir;
-use append::Flushed;
+use append::Handed;
 use files::Rollover;
 use handles::Store;
 use medium::Medium;
@@ -51,8 +51,9 @@ pub fn create(
     name: &[u8],
     rolls: bool,
     dir: &[u8],
-) -> Flushed
-    ensures { λ r. ⌜ (now (volume .exit) ≡ createCall (now (volume .entry)) medium store (now (name .entry)) rolls (now (dir .entry)) .vol) × (appAnswer r ≡ createCall (now (volume .entry)) medium store (now (name .entry)) rolls (now (dir .entry)) .call) ⌝ }
+) -> Handed
+    ensures { λ r. ⌜ (now (volume .exit) ≡ createCall (now (volume .entry)) medium store (now (name .entry)) rolls (now (dir .entry)) .vol)
+        × (appAnswer r ≡ createCall (now (volume .entry)) medium store (now (name .entry)) rolls (now (dir .entry)) .call) ⌝ }
 {
     let o = crate::asked(&volume[..], store, open_fine(name, rolls, dir));
     if let Outcome::No(e) = o {
@@ -70,7 +71,7 @@ pub fn open_append(
     name: &[u8],
     rolls: bool,
     dir: &[u8],
-) -> Flushed
+) -> Handed
     ensures { λ r. ⌜ appAnswer r ≡ openCall (now (volume .entry)) medium store (now (name .entry)) rolls (now (dir .entry)) .call ⌝ }
 {
     let o = crate::asked(volume, store, open_fine(name, rolls, dir));

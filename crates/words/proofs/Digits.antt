@@ -11,7 +11,7 @@ use Rattle.le.specs.Choice.{pick}
 use Rattle.le.proofs.Turns.{drop-one, drop-end}
 use Rattle.le.proofs.Bools.{and-true}
 use Rattle.words.specs.declared.Number.the-variants.{Nothing, Value}
-use Rattle.words.specs.Lines.{isDigit, allDigits, valueFrom, decimalFrom, decimalOf}
+use Rattle.words.specs.Words.{isDigit, allDigits, valueFrom, decimalFrom, decimalOf}
 
 pub digit-range : (b : ℕ) → isDigit b ≡ true → (48 ≤ b) × (b ≤ 57)
 unfolding isDigit

@@ -6,7 +6,7 @@ use mathlib.Core.List.{List}
 use Rattle.le.specs.Choice.{pick}
 use Rattle.runs.specs.Run.{sameBytes}
 use Rattle.words.specs.declared.Parsed.{Parsed}
-use Rattle.words.specs.Lines.{noRollover, rollover, Line, create, formatWord, createWord, dash, rolloverOf, withTwoOf, meaning, within}
+use Rattle.words.specs.Words.{noRollover, rollover, Line, create, formatWord, createWord, dash, rolloverOf, withTwoOf, meaning, within}
 
 flag-rollover : (dir : List ℕ) (t : Bool) → t ≡ sameBytes dir dash → pick (not t) (rollover dir) noRollover ≡ rolloverOf dir
 unfolding rolloverOf pick

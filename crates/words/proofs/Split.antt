@@ -10,7 +10,7 @@ use lib.Seq.{take-all, drop-drop}
 use Rattle.le.specs.Choice.{pick}
 use Rattle.le.proofs.Turns.{drop-one, drop-end}
 use Rattle.runs.proofs.Splits.{len-here, len-on, len-none, some-part, whole, parted}
-use Rattle.words.specs.Lines.{fields, fieldLen, other, aloneOf, withOneOf, withTwoOf, ofFields, lineOf}
+use Rattle.words.specs.Words.{fields, fieldLen, other, aloneOf, withOneOf, withTwoOf, ofFields, lineOf}
 
 -- ---- one turn of the loop that looks for a tab
 

@@ -2,7 +2,7 @@
 ghost use mathlib.Core.Path.{_≡_};
 ghost use Prim.Native.Nat.{_+_, _-_, _≤_, _<_};
 ghost use lib.ListN.{length, take, drop};
-ghost use Rattle.words.specs.Lines.{fieldLen, isDigit, decimalOf, aloneOf, withOneOf, formatOf, withTwoOf, lineOf, meaning, within};
+ghost use Rattle.words.specs.Words.{fieldLen, isDigit, decimalOf, aloneOf, withOneOf, formatOf, withTwoOf, lineOf, meaning, within};
 
 // The most bytes of a line, without its line feed.
 pub const LINE: usize = 600;
@@ -93,7 +93,8 @@ fn alone(line: &[u8]) -> Parsed
 // A line with one tab.
 fn with_one(line: &[u8], tab: usize) -> Parsed
     requires { ⌜ tab < length (now line) ⌝ }
-    ensures { λ r. ⌜ (meaning (now (line .entry)) r ≡ withOneOf (take tab (now (line .entry))) (drop (tab + 1) (now (line .entry)))) × within (now (line .entry)) r ⌝ }
+    ensures { λ r. ⌜ (meaning (now (line .entry)) r ≡ withOneOf (take tab (now (line .entry))) (drop (tab + 1) (now (line .entry))))
+        × within (now (line .entry)) r ⌝ }
 {
     let word = &line[0..tab];
     let from = tab + 1;
@@ -109,7 +110,8 @@ fn with_one(line: &[u8], tab: usize) -> Parsed
 // The two numbers of a format, each within its width.
 fn format_line(line: &[u8], from: usize, tab: usize) -> Parsed
     requires { ⌜ (from ≤ tab) × (tab < length (now line)) ⌝ }
-    ensures { λ r. ⌜ (meaning (now (line .entry)) r ≡ formatOf (take (tab - from) (drop from (now (line .entry)))) (drop (tab + 1) (now (line .entry)))) × within (now (line .entry)) r ⌝ }
+    ensures { λ r. ⌜ (meaning (now (line .entry)) r ≡ formatOf (take (tab - from) (drop from (now (line .entry)))) (drop (tab + 1) (now (line .entry))))
+        × within (now (line .entry)) r ⌝ }
 {
     let last = tab + 1;
     let Number::Value(size) = decimal(&line[from..tab], 0xffff_ffff) else {
@@ -127,7 +129,10 @@ fn format_line(line: &[u8], from: usize, tab: usize) -> Parsed
 // A line with two tabs.
 fn with_two(line: &[u8], first: usize, second: usize) -> Parsed
     requires { ⌜ (first < second) × (second < length (now line)) ⌝ }
-    ensures { λ r. ⌜ (meaning (now (line .entry)) r ≡ withTwoOf (take first (now (line .entry))) (take (second - (first + 1)) (drop (first + 1) (now (line .entry)))) (drop (second + 1) (now (line .entry)))) × within (now (line .entry)) r ⌝ }
+    ensures { λ r. ⌜ (meaning (now (line .entry)) r
+        ≡ withTwoOf (take first (now (line .entry))) (take (second - (first + 1)) (drop (first + 1) (now (line .entry))))
+        (drop (second + 1) (now (line .entry))))
+        × within (now (line .entry)) r ⌝ }
 {
     let word = &line[0..first];
     let from = first + 1;

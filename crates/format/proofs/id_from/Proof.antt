@@ -16,13 +16,13 @@ abbrev μ-loop : tie.MeasureT-loop
 loop-holds : tie.Need-loop-holds Inv-loop μ-loop
 loop-holds c = (omega arith, refl)
 
-taken-requires : tie.Need-taken-requires Inv-loop μ-loop
-taken-requires c κs = search needs
+has-id-requires : tie.Need-has-id-requires Inv-loop μ-loop
+has-id-requires c κs = search needs
 
 returns : tie.Need-returns Inv-loop μ-loop
 returns c =
     let l = c .before .before .before .loop in
-    id-good (c .before .before .before .before .args .c) (l .id) (l .tried) (c .before .taken .ensures) (omega arith) (l .inv .1) (c .if1 .taken)
+    id-good (c .before .before .before .before .args .c) (l .id) (l .tried) (c .before .has-id .ensures) (omega arith) (l .inv .1) (c .if1 .taken)
 
 mix-requires : tie.Need-mix-requires Inv-loop μ-loop
 mix-requires c κs = search needs
@@ -37,7 +37,7 @@ loop-again : tie.Need-loop-again Inv-loop μ-loop
 loop-again c =
     let l = c .before .before .before .before .loop in (
       omega arith,
-      id-bad (c .before .before .before .before .before .args .c) (l .id) (l .tried) (c .before .before .taken .ensures) (omega arith) (l .inv .1)
+      id-bad (c .before .before .before .before .before .args .c) (l .id) (l .tried) (c .before .before .has-id .ensures) (omega arith) (l .inv .1)
           (c .before .if1 .left) (c .mix .ensures),
     )
 
@@ -54,7 +54,7 @@ id-from-spec =
     Inv-loop
     μ-loop
     loop-holds
-    taken-requires
+    has-id-requires
     returns
     mix-requires
     add-tried

@@ -3,7 +3,7 @@ use borrow.Author.Needs.{needs}
 use mathlib.Core.Path.{refl}
 use Rattle.le.specs.Choice.{pick}
 use Rattle.le.proofs.Turns.{told}
-use Rattle.words.specs.Lines.{aloneOf, meaning, within}
+use Rattle.words.specs.Words.{aloneOf, meaning, within}
 use Rattle.words.proofs.alone.Statement.{statement}
 use Rattle.words.proofs.alone.Tie as tie
 

@@ -8,7 +8,7 @@ use borrow.Author.Tests.{not-true, not-false}
 use denote.Ref.{now}
 use lib.ListN.{length, getD, drop}
 use Rattle.le.proofs.Turns.{told}
-use Rattle.words.specs.Lines.{isDigit, decimalFrom, decimalOf}
+use Rattle.words.specs.Words.{isDigit, decimalFrom, decimalOf}
 use Rattle.words.proofs.Digits.{digit-range, decimal-none, decimal-some, digit-next, digit-stop, digit-past, digit-end}
 use Rattle.words.proofs.decimal.Statement.{statement}
 use Rattle.words.proofs.decimal.Tie as tie

@@ -5,7 +5,7 @@ use mathlib.Core.Path.{_≡_, refl}
 use native.Mathlib.Omega.{arith}
 use denote.Ref.{now}
 use lib.ListN.{length, drop}
-use Rattle.words.specs.Lines.{fieldLen}
+use Rattle.words.specs.Words.{fieldLen}
 use Rattle.words.proofs.Split.{field-stop, field-next, field-none}
 use Rattle.words.proofs.field_end.Statement.{statement}
 use Rattle.words.proofs.field_end.Tie as tie

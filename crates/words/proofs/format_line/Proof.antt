@@ -3,7 +3,7 @@ use borrow.Author.Needs.{needs}
 use mathlib.Core.Path.{refl}
 use native.Mathlib.Omega.{arith}
 use Rattle.le.proofs.Turns.{told}
-use Rattle.words.specs.Lines.{bothOf, formatOf, meaning, within}
+use Rattle.words.specs.Words.{bothOf, formatOf, meaning, within}
 use Rattle.words.proofs.Split.{tail-part}
 use Rattle.words.proofs.Digits.{decimal-most}
 use Rattle.words.proofs.format_line.Statement.{statement}

@@ -1,6 +1,6 @@
 -- `is-digit` meets its contract. Assumes nothing.
 use mathlib.Core.Path.{refl}
-use Rattle.words.specs.Lines.{isDigit}
+use Rattle.words.specs.Words.{isDigit}
 use Rattle.words.proofs.is_digit.Statement.{statement}
 use Rattle.words.proofs.is_digit.Tie as tie
 

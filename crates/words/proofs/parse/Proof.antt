@@ -2,7 +2,7 @@
 use borrow.Author.Needs.{needs}
 use mathlib.Core.Path.{sym, _∙_}
 use native.Mathlib.Omega.{arith}
-use Rattle.words.specs.Lines.{meaning, within}
+use Rattle.words.specs.Words.{meaning, within}
 use Rattle.words.proofs.Split.{too-long, no-tab, one-tab, two-tabs, more-tabs}
 use Rattle.words.proofs.parse.Statement.{statement}
 use Rattle.words.proofs.parse.Tie as tie

@@ -4,7 +4,7 @@ use mathlib.Core.Path.{refl}
 use native.Mathlib.Nat.{sub-zero}
 use Rattle.le.specs.Choice.{pick}
 use Rattle.le.proofs.Turns.{told}
-use Rattle.words.specs.Lines.{withOneOf, meaning, within}
+use Rattle.words.specs.Words.{withOneOf, meaning, within}
 use Rattle.words.proofs.with_one.Statement.{statement}
 use Rattle.words.proofs.with_one.Tie as tie
 

@@ -5,7 +5,7 @@ use native.Mathlib.Nat.{sub-zero}
 use borrow.Author.Tests.{not-true, not-false}
 use Rattle.le.specs.Choice.{pick}
 use Rattle.le.proofs.Turns.{told}
-use Rattle.words.specs.Lines.{withTwoOf, meaning, within}
+use Rattle.words.specs.Words.{withTwoOf, meaning, within}
 use Rattle.words.proofs.Split.{tail-part}
 use Rattle.words.proofs.Forms.{is-create}
 use Rattle.words.proofs.with_two.Statement.{statement}

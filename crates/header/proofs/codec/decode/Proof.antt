@@ -102,8 +102,8 @@ bare-requires-3 c κs = search needs
 returns-3 : tie.Need-returns-3
 returns-3 c = insane (read (c .before .before)) (not-true _ (c .before .if3 .taken)) (c .bare3 .ensures)
 
-row-ok-requires : tie.Need-row-ok-requires
-row-ok-requires c κs = (omega arith, most (read (c .before)) (not-false _ (c .if3 .left)))
+fixed-ok-requires : tie.Need-fixed-ok-requires
+fixed-ok-requires c κs = (omega arith, most (read (c .before)) (not-false _ (c .if3 .left)))
 
 bare-requires-4 : tie.Need-bare-requires-4
 bare-requires-4 c κs = search needs
@@ -111,7 +111,7 @@ bare-requires-4 c κs = search needs
 returns-4 : tie.Need-returns-4
 returns-4 c =
     let at-if3 = c .before .before .before in
-    wrong (read (at-if3 .before)) (not-false _ (at-if3 .if3 .left)) (c .before .before .row-ok .ensures) (not-true _ (c .before .if4 .taken))
+    wrong (read (at-if3 .before)) (not-false _ (at-if3 .if3 .left)) (c .before .before .fixed-ok .ensures) (not-true _ (c .before .if4 .taken))
     (c .bare4 .ensures)
 
 body-requires : tie.Need-body-requires
@@ -124,8 +124,8 @@ crcs-at-requires c κs =
 
 returns-5 : tie.Need-returns-5
 returns-5 c =
-    let at-row-ok = c .before .before .before in
-    found (read (at-row-ok .before .before)) (not-false _ (at-row-ok .before .if3 .left)) (at-row-ok .row-ok .ensures)
+    let at-fixed-ok = c .before .before .before in
+    found (read (at-fixed-ok .before .before)) (not-false _ (at-fixed-ok .before .if3 .left)) (at-fixed-ok .fixed-ok .ensures)
     (not-false _ (c .before .before .if4 .left)) (c .before .body .ensures) (c .crcs-at .ensures)
 
 pub decode-spec : {M : Type 1} → statement M
@@ -148,7 +148,7 @@ decode-spec =
     sane-requires
     bare-requires-3
     returns-3
-    row-ok-requires
+    fixed-ok-requires
     bare-requires-4
     returns-4
     body-requires

@@ -1,7 +1,7 @@
 use borrow.Author.Needs.{needs}
-use Rattle.format.specs.Format.{taken}
-use Rattle.format.proofs.taken.Statement.{statement}
-use Rattle.format.proofs.taken.Tie as tie
+use Rattle.format.specs.Format.{hasId}
+use Rattle.format.proofs.has_id.Statement.{statement}
+use Rattle.format.proofs.has_id.Tie as tie
 
 element-copy-out-x : tie.Need-element-copy-out-x
 element-copy-out-x c = search needs
@@ -16,11 +16,11 @@ is-ours-requires-2 : tie.Need-is-ours-requires-2
 is-ours-requires-2 c κs = search needs
 
 returns : tie.Need-returns
-unfolding taken
+unfolding hasId
 returns c = rw (c .before .is-ours2 .ensures, c .before .before .before .is-ours .ensures)
 
-pub taken-spec : {M : Type 1} → statement M
-taken-spec =
+pub has-id-spec : {M : Type 1} → statement M
+has-id-spec =
     tie.close
     (tie.spec
     element-copy-out-x

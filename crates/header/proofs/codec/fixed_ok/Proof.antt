@@ -1,8 +1,8 @@
 use borrow.Author.Needs.{needs}
 use Rattle.le.specs.Part.{part}
-use Rattle.header.specs.Header.{rowOk, zeroFrom}
-use Rattle.header.proofs.codec.row_ok.Statement.{statement}
-use Rattle.header.proofs.codec.row_ok.Tie as tie
+use Rattle.header.specs.Header.{fixedOk, zeroFrom}
+use Rattle.header.proofs.codec.fixed_ok.Statement.{statement}
+use Rattle.header.proofs.codec.fixed_ok.Tie as tie
 
 get-u16-requires : tie.Need-get-u16-requires
 get-u16-requires c κs = search needs
@@ -65,7 +65,7 @@ table-requires : tie.Need-table-requires
 table-requires c κs = search needs
 
 returns : tie.Need-returns
-unfolding rowOk zeroFrom part
+unfolding fixedOk zeroFrom part
 returns c =
     let at-body = c .before .before .before in
     let at-all-zero = at-body .before .before .before in
@@ -81,8 +81,8 @@ returns c =
       at-get-u162 .before .get-u16 .ensures,
     )
 
-pub row-ok-spec : {M : Type 1} → statement M
-row-ok-spec =
+pub fixed-ok-spec : {M : Type 1} → statement M
+fixed-ok-spec =
     tie.close
     (tie.spec
     get-u16-requires

@@ -18,16 +18,8 @@ pub extern "C" fn port_create(
     buffer: &mut [u8; 486],
     over: &mut [u8; 40],
 ) -> u32
-    ensures { λ r. ⌜ (
-      now (volume .exit),
-      r,
-      now (store .exit),
-      now (crcs .exit),
-      now (appender .exit),
-      now (buffer .exit),
-      now (over .exit),
-      now (medium .exit),
-    )
+    ensures { λ r. ⌜
+        (now (volume .exit), r, now (store .exit), now (crcs .exit), now (appender .exit), now (buffer .exit), now (over .exit), now (medium .exit))
         ≡ createAt (now (volume .entry)) (now (medium .entry)) (now (store .entry)) (now (crcs .entry)) (now (name .entry)) rolls (now (dir .entry)) ⌝ }
 {
     let m = *medium;

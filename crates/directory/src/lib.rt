@@ -70,7 +70,7 @@ pub fn slot_at(volume: &[u8], medium: Medium, store: Store, slot: usize) -> Slot
     requires { ⌜ (64 ≤ sectorsOf (now volume)) × (slot < 64) ⌝ }
     ensures { λ r. ⌜ r ≡ slotAt (now (volume .entry)) medium store slot ⌝ }
 {
-    let o = store.due(volume, medium, slot % 8 == 0, slot / 8);
+    let o = handles::due(store, volume, medium, slot % 8 == 0, slot / 8);
     if let Outcome::No(e) = o {
         return Slot::Refused(e);
     }

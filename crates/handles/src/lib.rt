@@ -149,34 +149,34 @@ impl Store {
         let h = self.head;
         (self.copy < 2) & sane(h, sectors)
     }
+}
 
-    // Whether body sector `k` reads and passes its checksum.
-    pub fn body(self, volume: &[u8], medium: Medium, k: usize) -> Outcome
-        requires { ⌜ (64 ≤ sectorsOf (now volume)) × (k < 24) ⌝ }
-        ensures { λ r. ⌜ r ≡ checkOf (now (volume .entry)) medium self k ⌝ }
-    {
-        let at = base(self.copy) + 1 + (k as u64);
-        let o = medium::readable(medium, at);
-        if let Outcome::No(e) = o {
-            return Outcome::No(e);
-        }
-        let a = 512 * (at as usize);
-        let h = self.head;
-        let c = checksum::crc32(&volume[a..a + 512]);
-        if c == h.crcs[k] {
-            return Outcome::Done;
-        }
-        Outcome::No(Error::Corrupt)
+// Whether body sector `k` reads and passes its checksum.
+pub fn check(store: Store, volume: &[u8], medium: Medium, k: usize) -> Outcome
+    requires { ⌜ (64 ≤ sectorsOf (now volume)) × (k < 24) ⌝ }
+    ensures { λ r. ⌜ r ≡ checkOf (now (volume .entry)) medium store k ⌝ }
+{
+    let at = base(store.copy) + 1 + (k as u64);
+    let o = medium::readable(medium, at);
+    if let Outcome::No(e) = o {
+        return Outcome::No(e);
     }
+    let a = 512 * (at as usize);
+    let h = store.head;
+    let c = checksum::crc32(&volume[a..a + 512]);
+    if c == h.crcs[k] {
+        return Outcome::Done;
+    }
+    Outcome::No(Error::Corrupt)
+}
 
-    // The check of body sector `k` where a walk enters it.
-    pub fn due(self, volume: &[u8], medium: Medium, enters: bool, k: usize) -> Outcome
-        requires { ⌜ (64 ≤ sectorsOf (now volume)) × (k < 24) ⌝ }
-        ensures { λ r. ⌜ r ≡ dueOf (now (volume .entry)) medium self enters k ⌝ }
-    {
-        if enters {
-            return self.body(volume, medium, k);
-        }
-        Outcome::Done
+// The check of body sector `k` where a walk enters it.
+pub fn due(store: Store, volume: &[u8], medium: Medium, enters: bool, k: usize) -> Outcome
+    requires { ⌜ (64 ≤ sectorsOf (now volume)) × (k < 24) ⌝ }
+    ensures { λ r. ⌜ r ≡ dueOf (now (volume .entry)) medium store enters k ⌝ }
+{
+    if enters {
+        return check(store, volume, medium, k);
     }
+    Outcome::Done
 }

@@ -103,7 +103,13 @@ pub fn link_at(volume: &[u8], medium: Medium, store: Store, chunk: u32) -> LinkA
     requires { ⌜ (64 ≤ sectorsOf (now volume)) × (chunk < 2048) ⌝ }
     ensures { λ r. ⌜ r ≡ linkAt (now (volume .entry)) medium store chunk ⌝ }
 {
-    let o = store.due(volume, medium, chunk % 128 == 0, 8 + (chunk / 128) as usize);
+    let o = handles::due(
+        store,
+        volume,
+        medium,
+        chunk % 128 == 0,
+        8 + (chunk / 128) as usize,
+    );
     if let Outcome::No(e) = o {
         return LinkAt::Refused(e);
     }

@@ -8,8 +8,8 @@ use Rattle.le.proofs.Turns.{told}
 use Rattle.medium.specs.Refusal.{onDone}
 use Rattle.medium.specs.Sector.{sectorAt}
 use Rattle.handles.specs.Body.{checkOf}
-use Rattle.handles.proofs.Store.body.Statement.{statement}
-use Rattle.handles.proofs.Store.body.Tie as tie
+use Rattle.handles.proofs.check.Statement.{statement}
+use Rattle.handles.proofs.check.Tie as tie
 
 base-requires : tie.Need-base-requires
 base-requires c κs = search needs
@@ -81,8 +81,8 @@ returns-3 c =
       ne-eqb _ _ (c .if1 .left),
     )
 
-pub body-spec : {M : Type 1} → statement M
-body-spec =
+pub check-spec : {M : Type 1} → statement M
+check-spec =
     tie.close
     (tie.spec
     base-requires

@@ -4,6 +4,7 @@ use native.Mathlib.Omega.{arith}
 use Rattle.handles.proofs.Laws.{store-facts}
 use Rattle.le.specs.Part.{zeros}
 use Rattle.plan.specs.Edit.{headAfter}
+use Rattle.plan.specs.Copy.{Plan}
 use Rattle.medium.specs.Sector.{sectorsOf}
 use Prim.Native.Nat.{_≤_}
 use Rattle.commit.specs.Commit.{commitPlan}
@@ -12,8 +13,25 @@ use Rattle.commit.proofs.Commits.{fits-still, body-chunks, first-refuse
 use Rattle.commit.proofs.rewrite.Statement.{statement}
 use Rattle.commit.proofs.rewrite.Tie as tie
 
+-- ---- places: from each write back to the one before it
+
+abbrev start : tie.After-write-sector → tie.Start
+start c = c .before .before .before .before .before .before .before
+
+abbrev first : tie.After-write-body → tie.After-write-sector
+first c = c .before .before .before .before .before .before .before
+
+abbrev body : tie.After-write-head → tie.After-write-body
+body c = c .before .before .before .before .before .before .before .before
+
+-- the plan that the arguments make
+abbrev plan : tie.Start → Plan
+plan c = commitPlan (c .args .found) (c .args .edit) (c .args .name .now) (c .args .store)
+
+-- ---- needs
+
 sub-copy : tie.Need-sub-copy
-sub-copy c = omega (arith, let start = c .before .before .before in store-facts (start .args .store) _ (start .pre .0) .copy)
+sub-copy c = omega (arith, let s = c .before .before .before in store-facts (s .args .store) _ (s .pre .0) .copy)
 
 base-requires : tie.Need-base-requires
 base-requires c κs = search needs
@@ -23,7 +41,7 @@ write-sector-requires c κs =
     omega (
       arith,
       c .before .base .ensures .1,
-      let start = c .before .before .before .before .before .before in store-facts (start .args .store) _ (start .pre .0) .enough,
+      let s = c .before .before .before .before .before .before in store-facts (s .args .store) _ (s .pre .0) .enough,
     )
 
 enum-known-zo : tie.Need-enum-known-zo
@@ -38,24 +56,23 @@ same-length c = search needs
 returns : tie.Need-returns
 unfolding commitPlan zeros
 returns c =
-    let at-write-sector = c .before .before .before .before .before .before .before in
-    let a = at-write-sector .before .before .before .before .before .before .before .args in
-    made-of (c .refused .ensures) (first-refused (commitPlan (a .found) (a .edit) (a .name .now) (a .store)) (a .volume .now) (a .medium)
-    (at-write-sector .before .before .base .ensures .0) (at-write-sector .write-sector .ensures) (c .before .before .zo .given .1))
+    let z = c .before .before .before .before .before .before .before in
+    let s = start z in
+    made-of (c .refused .ensures) (first-refused (plan s) (s .args .volume .now) (s .args .medium) (z .before .before .base .ensures .0)
+    (z .write-sector .ensures) (c .before .before .zo .given .1))
 
 enum-told : tie.Need-enum-told
 enum-told c = search needs
 
 write-body-requires : tie.Need-write-body-requires
 write-body-requires c κs =
-    let at-write-sector = c .before .before .before .before .before .before in
-    let start = at-write-sector .before .before .before .before .before .before .before in
-    let p = start .pre in (
-      fits-still (start .args .store) (start .args .volume .now) (at-write-sector .write-sector .last .0) (at-write-sector .write-sector .kept .0) (p .0),
-      p .1,
-      p .2,
-      p .3,
-      p .4,
+    let z = c .before .before .before .before .before .before in
+    let s = start z in (
+      fits-still (s .args .store) (s .args .volume .now) (z .write-sector .last .0) (z .write-sector .kept .0) (s .pre .0),
+      s .pre .1,
+      s .pre .2,
+      s .pre .3,
+      s .pre .4,
     )
 
 enum-known-bo : tie.Need-enum-known-bo
@@ -70,35 +87,31 @@ same-length-2 c = search needs
 returns-2 : tie.Need-returns-2
 unfolding commitPlan headAfter zeros
 returns-2 c =
-    let at-write-body = c .before .before .before .before .before .before .before in
-    let at-write-sector = at-write-body .before .before .before .before .before .before .before in
-    let a = at-write-sector .before .before .before .before .before .before .before .args in
-    made-of (c .refused2 .ensures) (body-refused (commitPlan (a .found) (a .edit) (a .name .now) (a .store)) (a .volume .now) (a .medium)
-    (at-write-sector .before .before .base .ensures .0) (at-write-sector .write-sector .ensures) (at-write-body .before .before .enum-told .given .1)
-    (at-write-body .write-body .ensures) (c .before .before .bo .given .1))
+    let b = c .before .before .before .before .before .before .before in
+    let z = first b in
+    let s = start z in
+    made-of (c .refused2 .ensures) (body-refused (plan s) (s .args .volume .now) (s .args .medium) (z .before .before .base .ensures .0)
+    (z .write-sector .ensures) (b .before .before .enum-told .given .1) (b .write-body .ensures) (c .before .before .bo .given .1))
 
 enum-told-2 : tie.Need-enum-told-2
 enum-told-2 c = search needs
 
-write-head-requires : tie.Need-write-head-requires
+-- the volume is as long as it was, and the header made has the chunks of the store value
+abbrev Ranges : tie.After-write-body → Type 0
+Ranges b = (64 ≤ sectorsOf (b .write-body .last .0)) × (b .write-body .result .head .chunks ≤ 2048)
+
+ranges : (b : tie.After-write-body) → Ranges b
 unfolding commitPlan headAfter
-write-head-requires c κs =
-    let a = c .before .before .before .before .before .before .before .before .before .before .before .before .before .before .before .before .before .before
-    .before .before .before .args in
-    let f = store-facts (a .store) _
-    (c .before .before .before .before .before .before .before .before .before .before .before .before .before .before .before .before .before .before .before
-    .before .before .pre .0) in
-    let e : 64 ≤ sectorsOf
-    (c .before .before .before .before .before .before .before .before .before .before .before .before .before .before .write-sector .last .0) = omega (
-      arith,
-      f .enough,
-      c .before .before .before .before .before .before .before .before .before .before .before .before .before .before .write-sector .kept .0,
-    ) in
-    let q = (let at-write-body = c .before .before .before .before .before .before .before in
-    let start = at-write-body .before .before .before .before .before .before .before .before .before .before .before .before .before .before in
-    body-chunks (commitPlan (a .found) (a .edit) (a .name .now) (a .store)) _ _ (at-write-body .write-body .ensures)
-    (record { short = start .pre .4; enough = e }) (f .head .chunks-most)) in
-    (omega (arith, e, c .before .before .before .before .before .before .before .write-body .kept .0), omega (arith, f .head .chunks-most, q))
+ranges b =
+    let z = first b in
+    let s = start z in
+    let f = store-facts (s .args .store) _ (s .pre .0) in
+    let e : 64 ≤ sectorsOf (z .write-sector .last .0) = omega (arith, f .enough, z .write-sector .kept .0) in
+    let q = body-chunks (plan s) _ _ (b .write-body .ensures) (record { short = s .pre .4; enough = e }) (f .head .chunks-most) in
+    (omega (arith, e, b .write-body .kept .0), omega (arith, f .head .chunks-most, q))
+
+write-head-requires : tie.Need-write-head-requires
+write-head-requires c κs = ranges (c .before .before .before .before .before .before .before)
 
 enum-known-wo : tie.Need-enum-known-wo
 enum-known-wo c = search needs
@@ -108,22 +121,19 @@ refused-requires-3 c κs = search needs
 
 same-length-3 : tie.Need-same-length-3
 same-length-3 c =
-    let at-write-head = c .before .before .before .before .before .before .before in
-    let at-write-body = at-write-head .before .before .before .before .before .before .before .before in
-    at-write-head .write-head .kept .0 ∙ at-write-body .write-body .kept .0
-    ∙ at-write-body .before .before .before .before .before .before .before .write-sector .kept .0
+    let w = c .before .before .before .before .before .before .before in
+    w .write-head .kept .0 ∙ body w .write-body .kept .0 ∙ first (body w) .write-sector .kept .0
 
 returns-3 : tie.Need-returns-3
 unfolding commitPlan headAfter zeros
 returns-3 c =
-    let at-write-head = c .before .before .before .before .before .before .before in
-    let at-enum-told2 = at-write-head .before .before .before in
-    let at-write-body = at-enum-told2 .before .before .before .before .before in
-    let at-write-sector = at-write-body .before .before .before .before .before .before .before in
-    let a = at-write-sector .before .before .before .before .before .before .before .args in
-    made-of (c .refused3 .ensures) (last-refused (commitPlan (a .found) (a .edit) (a .name .now) (a .store)) (a .volume .now) (a .medium)
-    (at-write-sector .before .before .base .ensures .0) (at-write-sector .write-sector .ensures) (at-write-body .before .before .enum-told .given .1)
-    (at-write-body .write-body .ensures) (at-enum-told2 .enum-told2 .given .1) (at-write-head .write-head .ensures) (c .before .before .wo .given .1))
+    let w = c .before .before .before .before .before .before .before in
+    let b = body w in
+    let z = first b in
+    let s = start z in
+    made-of (c .refused3 .ensures) (last-refused (plan s) (s .args .volume .now) (s .args .medium) (z .before .before .base .ensures .0)
+    (z .write-sector .ensures) (b .before .before .enum-told .given .1) (b .write-body .ensures) (w .before .before .before .enum-told2 .given .1)
+    (w .write-head .ensures) (c .before .before .wo .given .1))
 
 enum-told-3 : tie.Need-enum-told-3
 enum-told-3 c = search needs
@@ -134,14 +144,13 @@ same-length-4 c = search needs
 returns-4 : tie.Need-returns-4
 unfolding commitPlan headAfter zeros
 returns-4 c =
-    let at-write-head = c .before .before .before .before .before in
-    let at-enum-told2 = at-write-head .before .before .before in
-    let at-write-body = at-enum-told2 .before .before .before .before .before in
-    let at-write-sector = at-write-body .before .before .before .before .before .before .before in
-    let a = at-write-sector .before .before .before .before .before .before .before .args in
-    made (commitPlan (a .found) (a .edit) (a .name .now) (a .store)) (a .volume .now) (a .medium) (at-write-sector .before .before .base .ensures .0)
-    (at-write-sector .write-sector .ensures) (at-write-body .before .before .enum-told .given .1) (at-write-body .write-body .ensures)
-    (at-enum-told2 .enum-told2 .given .1) (at-write-head .write-head .ensures) (c .enum-told3 .given .1)
+    let w = c .before .before .before .before .before in
+    let b = body w in
+    let z = first b in
+    let s = start z in
+    made (plan s) (s .args .volume .now) (s .args .medium) (z .before .before .base .ensures .0) (z .write-sector .ensures)
+    (b .before .before .enum-told .given .1) (b .write-body .ensures) (w .before .before .before .enum-told2 .given .1) (w .write-head .ensures)
+    (c .enum-told3 .given .1)
 
 pub rewrite-spec : {M : Type 1} → statement M
 rewrite-spec =

@@ -5,6 +5,19 @@ use Rattle.format.proofs.Writes.{first-refused, body-refused, last-refu
 use Rattle.format.proofs.make.Statement.{statement}
 use Rattle.format.proofs.make.Tie as tie
 
+-- ---- places: from each write back to the one before it
+
+abbrev start : tie.After-write-unmarked → tie.Start
+start z = z .before .before .before
+
+abbrev first : tie.After-zero-body → tie.After-write-unmarked
+first b = b .before .before .before .before .before .before
+
+abbrev body : tie.After-write-head → tie.After-zero-body
+body w = w .before .before .before .before .before .before
+
+-- ---- needs
+
 write-unmarked-requires : tie.Need-write-unmarked-requires
 write-unmarked-requires c κs = search needs
 
@@ -19,19 +32,19 @@ same-length c = search needs
 
 returns : tie.Need-returns
 returns c =
-    let a = c .before .before .before .before .before .before .before .before .before .args in
-    let z = c .before .before .before .before .before .before .write-unmarked in
-    first-refused (a .copy) (a .head) (a .volume .now) (a .medium) (z .ensures .0) (z .ensures .1) (c .before .before .first .given .1) (c .refused .ensures)
+    let z = c .before .before .before .before .before .before in
+    let a = start z .args in
+    first-refused (a .copy) (a .head) (a .volume .now) (a .medium) (z .write-unmarked .ensures .0) (z .write-unmarked .ensures .1)
+    (c .before .before .first .given .1) (c .refused .ensures)
 
 enum-told : tie.Need-enum-told
 enum-told c = search needs
 
 zero-body-requires : tie.Need-zero-body-requires
-zero-body-requires c κs = (
-  omega (arith, c .before .before .before .before .before .write-unmarked .kept .0, c .before .before .before .before .before .before .before .before .pre .0),
-  c .before .before .before .before .before .before .before .before .pre .1,
-  c .before .before .before .before .before .before .before .before .pre .2,
-)
+zero-body-requires c κs =
+    let z = c .before .before .before .before .before in
+    let s = start z in
+    (omega (arith, z .write-unmarked .kept .0, s .pre .0), s .pre .1, s .pre .2)
 
 enum-known-zeroed : tie.Need-enum-known-zeroed
 enum-known-zeroed c = search needs
@@ -44,27 +57,21 @@ same-length-2 c = search needs
 
 returns-2 : tie.Need-returns-2
 returns-2 c =
-    let at-enum-told = c .before .before .before .before .before .before .before .before in
-    let start = at-enum-told .before .before .before .before .before .before .before in
-    let a = start .args in
-    let z = at-enum-told .before .before .before .before .write-unmarked in
-    let b = c .before .before .before .before .before .before .zero-body in
-    body-refused (a .copy) (a .head) (a .volume .now) (a .medium) (z .ensures .0) (z .ensures .1) (start .pre .2) (at-enum-told .enum-told .given .1)
-    (b .ensures .0) (b .ensures .1) (c .before .before .zeroed .given .1) (c .refused2 .ensures)
+    let b = c .before .before .before .before .before .before in
+    let z = first b in
+    let a = start z .args in
+    body-refused (a .copy) (a .head) (a .volume .now) (a .medium) (z .write-unmarked .ensures .0) (z .write-unmarked .ensures .1) (start z .pre .2)
+    (b .before .before .enum-told .given .1) (b .zero-body .ensures .0) (b .zero-body .ensures .1) (c .before .before .zeroed .given .1)
+    (c .refused2 .ensures)
 
 enum-told-2 : tie.Need-enum-told-2
 enum-told-2 c = search needs
 
 write-head-requires : tie.Need-write-head-requires
-write-head-requires c κs = (
-  omega (
-    arith,
-    c .before .before .before .before .before .before .before .before .before .before .before .write-unmarked .kept .0,
-    c .before .before .before .before .before .zero-body .kept .0,
-    c .before .before .before .before .before .before .before .before .before .before .before .before .before .before .pre .0,
-  ),
-  c .before .before .before .before .before .before .before .before .before .before .before .before .before .before .pre .1,
-)
+write-head-requires c κs =
+    let b = c .before .before .before .before .before in
+    let z = first b in
+    (omega (arith, z .write-unmarked .kept .0, b .zero-body .kept .0, start z .pre .0), start z .pre .1)
 
 enum-known-last : tie.Need-enum-known-last
 enum-known-last c = search needs
@@ -74,45 +81,36 @@ refused-requires-3 c κs = search needs
 
 same-length-3 : tie.Need-same-length-3
 same-length-3 c =
-    let at-write-head = c .before .before .before .before .before .before in
-    let at-zero-body = at-write-head .before .before .before .before .before .before in
-    at-write-head .write-head .kept .0 ∙ at-zero-body .zero-body .kept .0
-    ∙ at-zero-body .before .before .before .before .before .before .write-unmarked .kept .0
+    let w = c .before .before .before .before .before .before in
+    w .write-head .kept .0 ∙ body w .zero-body .kept .0 ∙ first (body w) .write-unmarked .kept .0
 
 returns-3 : tie.Need-returns-3
 returns-3 c =
-    let at-enum-told2 = c .before .before .before .before .before .before .before .before in
-    let at-enum-told = at-enum-told2 .before .before .before .before .before .before in
-    let start = at-enum-told .before .before .before .before .before .before .before in
-    let a = start .args in
-    let z = at-enum-told .before .before .before .before .write-unmarked in
-    let b = at-enum-told2 .before .before .before .before .zero-body in
-    let w = c .before .before .before .before .before .before .write-head in
-    last-refused (a .copy) (a .head) (a .volume .now) (a .medium) (z .ensures .0) (z .ensures .1) (start .pre .2) (at-enum-told .enum-told .given .1)
-    (b .ensures .0) (b .ensures .1) (at-enum-told2 .enum-told2 .given .1) (w .ensures .0) (w .ensures .1) (c .before .before .last .given .1)
-    (c .refused3 .ensures)
+    let w = c .before .before .before .before .before .before in
+    let b = body w in
+    let z = first b in
+    let a = start z .args in
+    last-refused (a .copy) (a .head) (a .volume .now) (a .medium) (z .write-unmarked .ensures .0) (z .write-unmarked .ensures .1) (start z .pre .2)
+    (b .before .before .enum-told .given .1) (b .zero-body .ensures .0) (b .zero-body .ensures .1) (w .before .before .enum-told2 .given .1)
+    (w .write-head .ensures .0) (w .write-head .ensures .1) (c .before .before .last .given .1) (c .refused3 .ensures)
 
 enum-told-3 : tie.Need-enum-told-3
 enum-told-3 c = search needs
 
 same-length-4 : tie.Need-same-length-4
 same-length-4 c =
-    let at-write-head = c .before .before .before .before .before in
-    let at-zero-body = at-write-head .before .before .before .before .before .before in
-    at-write-head .write-head .kept .0 ∙ at-zero-body .zero-body .kept .0
-    ∙ at-zero-body .before .before .before .before .before .before .write-unmarked .kept .0
+    let w = c .before .before .before .before .before in
+    w .write-head .kept .0 ∙ body w .zero-body .kept .0 ∙ first (body w) .write-unmarked .kept .0
 
 returns-4 : tie.Need-returns-4
 returns-4 c =
-    let at-enum-told2 = c .before .before .before .before .before .before .before in
-    let at-enum-told = at-enum-told2 .before .before .before .before .before .before in
-    let start = at-enum-told .before .before .before .before .before .before .before in
-    let a = start .args in
-    let z = at-enum-told .before .before .before .before .write-unmarked in
-    let b = at-enum-told2 .before .before .before .before .zero-body in
-    let w = c .before .before .before .before .before .write-head in
-    made (a .copy) (a .head) (a .volume .now) (a .medium) (z .ensures .0) (z .ensures .1) (start .pre .2) (at-enum-told .enum-told .given .1) (b .ensures .0)
-    (b .ensures .1) (at-enum-told2 .enum-told2 .given .1) (w .ensures .0) (w .ensures .1) (c .before .enum-told3 .given .1)
+    let w = c .before .before .before .before .before in
+    let b = body w in
+    let z = first b in
+    let a = start z .args in
+    made (a .copy) (a .head) (a .volume .now) (a .medium) (z .write-unmarked .ensures .0) (z .write-unmarked .ensures .1) (start z .pre .2)
+    (b .before .before .enum-told .given .1) (b .zero-body .ensures .0) (b .zero-body .ensures .1) (w .before .before .enum-told2 .given .1)
+    (w .write-head .ensures .0) (w .write-head .ensures .1) (c .before .enum-told3 .given .1)
 
 pub make-spec : {M : Type 1} → statement M
 make-spec =

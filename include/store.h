@@ -3,8 +3,26 @@
  *
  * Four calls for firmware: mount, format, delete, list. The functions are
  * compiled from proved code (crates/firmware); this header is kept by hand.
- * Link target/staticlib/libfirmware.a (made by `rt staticlib firmware`). It
- * needs memcpy and memset and nothing else: no heap, no global state, no I/O.
+ * Link target/staticlib/libfirmware.a (made by `rt staticlib firmware`).
+ *
+ * What the archive asks of the program that links it. tests/firmware reads it
+ * off the machine code, and fails where it is no longer so:
+ *   - memcpy and memset, and nothing else: no heap, no global state, no I/O;
+ *     17 KB of code and constants.
+ *   - x86-64 with SSE2, called as the System V ABI has it. An interrupt handler
+ *     that uses xmm registers saves them.
+ *   - The red zone. The checksum, which every call reaches, keeps data in the
+ *     128 bytes below the stack pointer, and no flag of your build changes
+ *     that. An interrupt handler must not run on the stack of the code that
+ *     makes a call, unless its entry first steps over those 128 bytes: give
+ *     handlers a stack of their own, or make the calls with interrupts off.
+ *   - Stack, at most, for any input, without what memcpy and memset use: mount
+ *     2,272 bytes, format 2,048, delete 4,304, list 2,704.
+ *
+ * The whole volume is in memory. A medium that is not has to be read into an
+ * array before a call and its changed sectors written back after it; the order
+ * of those writes is then the caller's, and what is said of a power cut holds
+ * only if they reach the medium one by one in the order of the call's own.
  *
  * A call takes the whole volume as bytes, the three numbers of the medium and
  * its own arguments. It keeps nothing between calls. Each byte array is a
@@ -87,7 +105,9 @@ enum store_refusal {
  * zero byte ends a name.
  */
 
-/* Tests that the volume holds a store. Writes nothing.
+/* Tests that the volume holds a store. Writes nothing. Where the newer of the
+ * two headers is damaged, the older one is taken and the answer does not tell:
+ * the store is then as it was before its last change.
  * Accepted: 256 + its data chunks (1 to 2,048).
  * Refused: 2, 4, 5, 6, 7. */
 uint32_t store_mount(const uint8_t *volume, size_t volume_length,

@@ -20,9 +20,10 @@
  *     2,272 bytes, format 2,048, delete 4,304, list 2,704.
  *
  * The whole volume is in memory. A medium that is not has to be read into an
- * array before a call and its changed sectors written back after it; the order
- * of those writes is then the caller's, and what is said of a power cut holds
- * only if they reach the medium one by one in the order of the call's own.
+ * array before a call and its changed sectors written back after it. What is
+ * said of a power cut holds then only if they are written in the order of the
+ * call's own writes, which the call does not tell; with 1, 2, 3, .. for
+ * `writes_left` on copies of the volume it shows one after the other.
  *
  * A call takes the whole volume as bytes, the three numbers of the medium and
  * its own arguments. It keeps nothing between calls. Each byte array is a

@@ -54,13 +54,13 @@ def misplaced(path):
         elif line.startswith("old: "):
             old = line[5:]
         elif line.startswith("new:"):
-            found = texts[file].count(old) if file and old else 0
+            new, found = line[4:].removeprefix(" "), texts[file].count(old) if file and old else 0
             if found != 1:
                 yield "%s: its old text stands %d times in its file: %s" % (path, found, old)
-            elif line[5:] == old:
+            elif new == old:
                 yield "%s: changes nothing: %s" % (path, old)
             else:
-                texts[file] = texts[file].replace(old, line[5:])
+                texts[file] = texts[file].replace(old, new)
             old, count = None, count + 1
     if not count:
         yield "%s: it has no pair of old and new" % path

@@ -12,7 +12,8 @@ import os
 import re
 import sys
 
-from sources import ROOT, declarations, files, imported, module
+sys.dont_write_bytecode = True
+from sources import ROOT, declarations, files, imported, module, usage
 
 # who needs definitions: a title, and where it starts: functions of a crate by their contracts, or definitions by their file and name
 STARTS = [
@@ -52,7 +53,8 @@ def contract(f, name):
         if m := re.match(r'\s*(pub )?(?:extern "C" )?fn (\w+)', line):
             if m[1] if name is None else m[2] == name:
                 end = next(e for e in range(k, len(f.code)) if f.code[e].strip() == "{")
-                yield from (c for c in range(k, end) if re.match(r"\s*(requires|ensures) ", f.code[c]))
+                first = next((c for c in range(k, end) if re.match(r"\s*(requires|ensures) ", f.code[c])), end)
+                yield from range(first, end)
 
 
 def needed(known, homes):
@@ -93,6 +95,8 @@ def table(known, groups):
 
 
 def main():
+    if sys.argv[1:] not in ([], ["--names"], ["--check"]):
+        usage("docs/believe.py [--names | --check]")
     known = definitions()
     homes = {m: path for path, _ in known for m in module(path)}
     groups = needed(known, homes)

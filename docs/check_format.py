@@ -16,6 +16,7 @@ import sys
 
 sys.dont_write_bytecode = True
 import draw
+from sources import usage
 
 ROOT = os.path.dirname(os.path.dirname(os.path.abspath(__file__)))
 D = draw
@@ -230,6 +231,8 @@ def info_of(text):
 
 
 def main():
+    if len(sys.argv) != 2 or not os.access(sys.argv[1], os.X_OK):
+        usage("docs/check_format.py ORACLE, the program of tests/oracle (tests/format/run makes it)")
     text = open(os.path.join(ROOT, "docs", "FORMAT.md"), encoding="utf-8").read()
     cited = definitions(text)
     s, counts = Session(sys.argv[1]), {"calls": 0, "bytes": 0, "stops": 0, "table": 0}

@@ -11,6 +11,9 @@ import re
 import subprocess
 import sys
 
+sys.dont_write_bytecode = True
+from sources import usage
+
 
 def gate(path):
     proved, edits, parts = {}, {}, []
@@ -56,7 +59,7 @@ def memory():
 
 if sys.argv[1:] == ["--memory"]:
     memory()
-elif len(sys.argv) == 3:
+elif len(sys.argv) == 3 and all(map(os.path.isfile, sys.argv[1:])):
     table(*sys.argv[1:])
 else:
-    sys.exit(__doc__)
+    usage("docs/costs.py --memory, or docs/costs.py GATE.LOG MEMORY.TXT")

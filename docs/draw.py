@@ -6,6 +6,9 @@ tables, the definitions in crates/*/specs and bytes made by the Rust to them."""
 import os
 import sys
 
+sys.dont_write_bytecode = True
+from sources import usage
+
 SECTOR = 512  # bytes of a sector
 COPY_B = 32  # the sector of copy B's header; copy A's is 0
 DATA = 64  # the first data sector
@@ -290,6 +293,8 @@ def crates():
 PICTURES = {"volume.svg": volume, "commit.svg": commit, "crates.svg": crates}
 
 if __name__ == "__main__":
+    if sys.argv[1:] not in ([], ["--check"]):
+        usage("docs/draw.py [--check]")
     here = os.path.dirname(os.path.abspath(__file__))
     for name, draw in PICTURES.items():
         path = os.path.join(here, name)

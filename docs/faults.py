@@ -7,7 +7,7 @@
 
 It proves what stands below the crates once, then each fault by itself, as a must-fail edit (`rt must-fail`). Beside the list below it takes
 the edits in crates/*/faults: those of docs/PROOFS.md that would make the gate too long. It is not part of ./test. Many of the list are
-also put into the Rust, by tests/oracle/mutants.
+also put into the Rust, by tests/oracle/mutants. An edit that is refused at no proof, but since it cannot be read, fails (docs/edits.py).
 """
 import glob
 import os
@@ -16,6 +16,11 @@ import shutil
 import subprocess
 import sys
 import tempfile
+
+sys.dont_write_bytecode = True
+sys.path.insert(0, os.path.dirname(os.path.abspath(__file__)))
+from edits import broken, edits, said_to
+from sources import usage
 
 # crate, name, what is wrong, old text, new text; the file is the one of src/ that has the old text
 FAULTS = [
@@ -67,11 +72,8 @@ def told(path, name):
     return f"{first[2:].strip()} (`{name}`)" if first.startswith("# ") else f"`{name}`"
 
 
-def first_said(place, crate, name):
+def first_said(lines):
     """The line in which the prover first says what fails, and the one after it."""
-    folder = os.path.join(place, "target/must-fail", crate, name)
-    log = os.path.join(folder, ".log")
-    lines = open(log, encoding="utf-8", errors="replace").read().replace(folder + "/", "").split("\n") if os.path.exists(log) else []
     at = next((i for i, line in enumerate(lines) if ": error" in line), None)
     if at is None:
         at = next((i for i, line in enumerate(lines) if re.match(r"note: \S*:\d+:\d+:", line)), len(lines))
@@ -82,14 +84,12 @@ def main():
     root = os.path.dirname(os.path.dirname(os.path.abspath(__file__)))
     os.chdir(root)
     asked = sys.argv[1:]
-    edits = [(p.split("/")[1], os.path.basename(p)[: -len(".edit")], p) for p in sorted(glob.glob("crates/*/faults/*.edit"))]
-    known = {a for crate, name, *_ in [*FAULTS, *edits] for a in (crate, f"{crate}/{name}")}
+    kept = list(edits("faults"))
+    known = {a for crate, name, *_ in [*FAULTS, *kept] for a in (crate, f"{crate}/{name}")}
     if unknown := [a for a in asked if a not in known]:
-        print("no fault of that name:", *unknown)
-        return 2
+        usage("docs/faults.py [CRATE | CRATE/NAME]..; no fault of that name: " + " ".join(unknown))
     wanted = [f for f in FAULTS if not asked or f[0] in asked or f"{f[0]}/{f[1]}" in asked]
-    further = [e for e in edits if not asked or e[0] in asked or f"{e[0]}/{e[1]}" in asked]
-    bad = 0
+    further = [e for e in kept if not asked or e[0] in asked or f"{e[0]}/{e[1]}" in asked]
     with tempfile.TemporaryDirectory() as scratch:
         for name in ("crates", "crates.txt"):
             (shutil.copytree if os.path.isdir(name) else shutil.copy)(name, os.path.join(scratch, name))
@@ -101,7 +101,6 @@ def main():
             file, count = source_of(crate, old)
             if count != 1:
                 print(f"{crate} {name}: the text is there {count} times, not once")
-                bad = 1
                 continue
             folder = os.path.join(scratch, "crates", crate, "must-fail")
             os.makedirs(folder, exist_ok=True)
@@ -113,21 +112,23 @@ def main():
             shutil.copy(path, folder)
         crates = sorted({f[0] for f in [*wanted, *further]})
         run = subprocess.run(["rt", "must-fail", *crates], cwd=scratch, capture_output=True, text=True)
-        said = dict(re.findall(r"must-fail (\S+): (.*)", run.stdout + run.stderr))
+        verdicts = dict(re.findall(r"must-fail (\S+): (.*)", run.stdout + run.stderr))
         rows = [(crate, name, f"{what} (`{name}`)") for crate, name, what, _, _ in wanted]
         rows += [(crate, name, told(path, name)) for crate, name, path in further]
-        logs = {f"{c}/{n}": first_said(scratch, c, n) for c, n, _ in rows if f"{c}/{n}" in asked}
+        said = {f"{c}/{n}": said_to(scratch, c, n) for c, n, _ in rows}
+    refused = 0
     print("| crate | fault | the prover |\n|---|---|---|")
     for crate, name, what in rows:
-        verdict = said.get(f"{crate}/{name}", "no answer")
+        verdict = verdicts.get(f"{crate}/{name}", "no answer")
         first = re.search(r"first at ([^;)]*)", verdict)
-        refused = verdict.startswith("refused")
-        bad |= not refused
-        print(f"| {crate} | {what} | {'refused, first at ' + first.group(1) if refused and first else verdict} |")
-    print(f"\n{sum(said.get(f'{c}/{n}', '').startswith('refused') for c, n, _ in rows)} of {len(rows)} refused")
-    for key, lines in logs.items():
-        print(f"\n{key}:\n{lines}")
-    return 1 if bad else 0
+        if verdict.startswith("refused") and (why := broken(said[f"{crate}/{name}"])):
+            verdict = f"NO PROOF REFUSES IT: {why}"
+        refused += verdict.startswith("refused")
+        print(f"| {crate} | {what} | {'refused, first at ' + first.group(1) if verdict.startswith('refused') and first else verdict} |")
+    print(f"\n{refused} of {len(rows)} refused")
+    for key in (k for k in said if k in asked):
+        print(f"\n{key}:\n{first_said(said[key])}")
+    return 0 if refused == len(rows) else 1
 
 
 if __name__ == "__main__":

@@ -1,6 +1,7 @@
 """The sources as these scripts read them: files, their imports, and what they declare."""
 import os
 import re
+import sys
 
 ROOT = os.path.dirname(os.path.dirname(os.path.abspath(__file__)))
 WORD = r"[^\s(){}\[\];,.:|λ]+"
@@ -33,6 +34,12 @@ class File:
         while first > 0 and self.lines[first - 1].lstrip().startswith(self.mark):
             first -= 1
         return range(first, k)
+
+
+def usage(how):
+    """Ends a script that was called in another way than this."""
+    print("usage:", how, file=sys.stderr)
+    sys.exit(2)
 
 
 def files(place, ending):

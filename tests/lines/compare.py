@@ -7,6 +7,7 @@ PORT and RUST are commands, RUST with its arguments in one word. Script k of SEE
 made smaller, line by line and byte by byte, as long as a difference is left, and printed with both answers; the status is then 1.
 """
 import random
+import shutil
 import subprocess
 import sys
 import time
@@ -112,8 +113,14 @@ def smaller(lines, differs):
 
 
 def main():
-    port, rust = sys.argv[1].split(), sys.argv[2].split()
-    seed, seconds = sys.argv[3], float(sys.argv[4])
+    try:
+        port, rust, seed, seconds = sys.argv[1:]
+        port, rust, seconds = port.split(), rust.split(), float(seconds)
+    except ValueError:
+        port = rust = []
+    if not all(command and shutil.which(command[0]) for command in (port, rust)):
+        print("usage: compare.py PORT RUST SEED SECONDS, where PORT and RUST are programs that are there", file=sys.stderr)
+        sys.exit(2)
     end = time.monotonic() + seconds
     k, count, seen = 0, 0, {}
     while time.monotonic() < end:

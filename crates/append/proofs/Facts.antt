@@ -55,15 +55,17 @@ module _ (a : Appender) (st : Store) (e : appenderOk a st ≡ true) where
       let q = and-true (tailOk (a .tail) (st .head .chunk)) rolling (p .1) in
       (p .0, q .0, q .1)
 
+  pub appender-low : a .position ≤ 2047
+  appender-low = leb-true _ _ (placed .2)
+
   pub appender-fits : length (a .buffer) ≡ 486 → Fit a st
   unfolding fillOk rolling
   appender-fits full =
-      let n : a .position ≤ 2047 = leb-true _ _ (placed .2) in
       let d : Bool = leb (a .dir .length) 40 && dirOk (dirBytes (a .dir)) in
       record {
         slot = ltb-true _ _ (placed .0);
         chunk = ltb-true _ _ (placed .1);
-        position = omega arith;
+        position = omega (arith, appender-low);
         fill = room (a .fill) (isClosed (a .tail)) (filled .0) .0;
         full = full;
         tail = filled .1;

@@ -130,7 +130,7 @@ module _ (bs vol : List ℕ) (m : Medium) (st : Store) (a : Appender) (good : Go
 
 -- ---- what append and sync keep
 
-pushed-fit : (b : ℕ) (a : Appender) (st : Store) → Fit a st → a .fill < 486 → Fit (pushed b a) st
+pub pushed-fit : (b : ℕ) (a : Appender) (st : Store) → Fit a st → a .fill < 486 → Fit (pushed b a) st
 pushed-fit b a st f h =
     record {
       slot = f .slot;

@@ -102,7 +102,8 @@ rolledOut vol m st ap partial records =
     afterGone (removeOldestOf vol m st (dirBytes (ap .dir)) (isOpen (st .writer)) (openId (st .writer))) ap
     (λ v n s. onPick (freeOf v n s) (stopped v n s ap) (stopped v n s ap Corrupt) (linkOut v n s ap partial records))
 
--- another chunk. A link has no place for a position past 32,767: no call is known to reach it (docs/DIFFERENCES.md)
+-- another chunk. A link has no place for a position past 32,767. No call gets there unless a commit of it leaves a body sector unwritten that does not
+-- hold the bytes due there: crate power, `append-near`. On some volumes one does, so the test stays (docs/DECISIONS.md)
 unfoldable pub extendOf : List ℕ → Medium → Store → Appender → Bool → ℕ → AppOut
 extendOf vol m st ap partial records =
     pick (leb 32767 (ap .position)) (stopped vol m st ap Corrupt)

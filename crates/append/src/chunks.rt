@@ -90,7 +90,8 @@ fn rolled(
     }
 }
 
-// Takes another chunk. A link has no place for a position past 32,767.
+// Takes another chunk. A link has no place for a position past 32,767. Only where a commit leaves a body sector unwritten that does not hold the bytes
+// due there does a call get that far (docs/DECISIONS.md).
 pub(crate) fn extend(
     volume: &mut [u8],
     medium: Medium,

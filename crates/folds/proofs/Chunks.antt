@@ -15,19 +15,22 @@ use Rattle.le.proofs.Parts.{length-zeros, length-over, getD-zeros}
 use Rattle.le.proofs.Bools.{and-true}
 use Rattle.medium.specs.declared.Medium.{Medium}
 use Rattle.medium.specs.declared.Outcome.the-variants.{Done}
+use Rattle.medium.proofs.Laws.{onDone-keeps}
 use Rattle.handles.specs.declared.Store.{Store}
 use Rattle.table.specs.declared.Link.{Link}
+use Rattle.table.specs.declared.LinkAt.{LinkAt}
 use Rattle.table.specs.declared.LinkAt.the-variants as link
 use Rattle.table.specs.declared.Pick.the-variants as free
 use Rattle.table.specs.declared.Place.{Place}
 use Rattle.table.specs.declared.Place.the-variants as place
+use Rattle.table.specs.Link.{linkAt}
 use Rattle.table.specs.Table.{linksOf, sought, locateStep, locateV, locateOf, freeOf, Counted, countV, countOf}
 use Rattle.table.proofs.Nearest.{Nearest, free-nearest, free-range}
 use Rattle.layout.specs.Views.{diskOf, linkView}
 use Rattle.layout.specs.Segments.{Segment, segmentAt, linkFor, isOf, tally, Good}
-use Rattle.layout.proofs.Facts.{case, in-table, same-link, free≢linked, link-slot, link-position, is-of, not-of, free-of, true≢false}
+use Rattle.layout.proofs.Facts.{case, same-link, free≢linked, link-slot, link-position, is-of, not-of, free-of, true≢false}
 use Rattle.folds.specs.Checked.{Checked}
-use Rattle.folds.proofs.Walked.{link-reads, table-views}
+use Rattle.folds.proofs.Walked.{table-views}
 use Rattle.folds.proofs.Numbered.{tally-yes, tally-no, tally-start}
 
 getD-cleared : (l : List ℕ) (s : ℕ) → s < 64 → getD (over 0 (zeros 64) l) s 0 ≡ 0
@@ -95,14 +98,19 @@ pub record Counts (G : ℕ → List Segment) (size : ℕ) (r : Counted) : Type 0
   pub same : length (r .counts) ≡ size
   pub number : (s : ℕ) → s < 64 → getD (r .counts) s 0 ≡ length (G s)
 
-module _ (vol : List ℕ) (m : Medium) (st : Store) (ok : Checked vol m st) (G : ℕ → List Segment) (good : Good (diskOf vol st) G) where
-  -- ---- the free chunk
+-- ---- the free chunk, on any table
+
+module _ (vol : List ℕ) (m : Medium) (st : Store) where
+  free-reads : (c : ℕ) → linkAt vol m st c ≡ link.Free → linkView vol st c ≡ link.Free
+  unfolding linkAt linkView
+  free-reads c =
+      onDone-keeps (λ (x : LinkAt). x ≡ link.Free → linkView vol st c ≡ link.Free) _ _ _ (λ _ q. q)
+      (λ e _ q. absurd (let z : _≡_ {A = ℕ} 0 1 = cc in omega arith))
 
   pub free-chunk : {c : ℕ} → freeOf vol m st ≡ free.At c → (c < st .head .chunks) × (linkView vol st c ≡ link.Free)
-  free-chunk {c} e =
-      let h = free-range vol m st e in
-      (h, sym (link-reads vol m st ok c (in-table h)) ∙ subst (Nearest vol m st (linksOf (st .head .chunks))) e (free-nearest vol m st) .0)
+  free-chunk {c} e = (free-range vol m st e, free-reads c (subst (Nearest vol m st (linksOf (st .head .chunks))) e (free-nearest vol m st) .0))
 
+module _ (vol : List ℕ) (m : Medium) (st : Store) (ok : Checked vol m st) (G : ℕ → List Segment) (good : Good (diskOf vol st) G) where
   -- ---- the chunk at a position of a file
 
   pub locate-view : (s p : ℕ) → s < 64 → p < length (G s) → locateOf vol m st s p ≡ place.At (segmentAt (G s) p .chunk) (linkFor (st .head .chunk) s (G s) p)

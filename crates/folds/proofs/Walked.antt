@@ -47,7 +47,7 @@ module _ (vol : List ℕ) (m : Medium) (st : Store) (ok : Checked vol m st) wher
   unfolding slotAt
   slot-reads i h = onDone-done _ _ (due-done vol m st (eqb (i % 8) 0) (i / 8) (ok (i / 8) (omega arith)))
 
-  pub link-reads : (c : ℕ) → c < linksOf (st .head .chunks) → linkAt vol m st c ≡ linkView vol st c
+  link-reads : (c : ℕ) → c < linksOf (st .head .chunks) → linkAt vol m st c ≡ linkView vol st c
   unfolding linkView
   link-reads c h = link-checked vol m st (λ t b. ok (8 + t) (omega arith)) c h
 

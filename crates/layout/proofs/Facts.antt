@@ -2,7 +2,7 @@
 -- file has more chunks than there are. Assumes nothing.
 use mathlib.Core.Path.{_≡_, refl, ap, sym, _∙_}
 use mathlib.Core.Logic.{_≢_}
-use mathlib.Core.Bool.{Bool, true, false, _||_}
+use mathlib.Core.Bool.{Bool, true, false, _||_, false≢true}
 use mathlib.Core.List.{List, [], _∷_, _++_, append-assoc, append-nil}
 use Prim.Native.Nat.{ℕ, zero, suc, _+_, _<_}
 use native.Mathlib.Omega.{arith}
@@ -11,6 +11,7 @@ use lib.Dec.{eqb}
 use borrow.Author.Tests.{eqb-true, eqb-false, eq-eqb, ne-eqb}
 use Rattle.le.specs.Choice.{pick}
 use Rattle.le.proofs.Choices.{pick-keeps, pick-true, pick-false}
+use Rattle.medium.specs.declared.Error.{Error}
 use Rattle.table.specs.declared.Link.{Link}
 use Rattle.table.specs.declared.LinkAt.{LinkAt}
 use Rattle.table.specs.declared.LinkAt.the-variants as link
@@ -115,6 +116,18 @@ not-of {o} {l} s p q = rw p (ne-eqb (l .slot) s q)
 pub free-of : {o : LinkAt} (s : ℕ) → o ≡ link.Free → isOf s o ≡ false
 unfolding isOf
 free-of s p = rw p
+
+pub refused-of : {o : LinkAt} {e : Error} (s : ℕ) → o ≡ link.Refused e → isOf s o ≡ true → ⊥
+unfolding isOf
+refused-of s p q = false≢true (rw p at q)
+
+-- a link has one slot
+pub other-of : {s t : ℕ} (o : LinkAt) → isOf s o ≡ true → s ≢ t → isOf t o ≡ false
+unfolding isOf
+other-of (link.Refused e) p n = refl
+other-of link.Past p n = refl
+other-of link.Free p n = refl
+other-of {s} {t} (link.Linked l) p n = ne-eqb (l .slot) t (λ q. n (sym (eqb-true (l .slot) s p) ∙ q))
 
 pub past-of : {o : LinkAt} (s : ℕ) → o ≡ link.Past → isOf s o ≡ false
 unfolding isOf

@@ -1,11 +1,13 @@
 -- Laws of the count of chunks with a property. Assumes nothing.
-use mathlib.Core.Path.{_≡_, refl, ap, sym, _∙_}
+use mathlib.Core.Path.{_≡_, refl, ap, sym, _∙_, subst}
 use mathlib.Core.Logic.{_≢_}
 use mathlib.Core.Bool.{Bool, true, false}
 use Prim.Native.Nat.{ℕ, zero, suc, _+_, _≤_, _<_}
 use native.Mathlib.Omega.{arith}
+use borrow.Author.Tests.{eq-eqb, ne-eqb}
+use lib.Dec.{eqb}
 use Rattle.le.specs.Choice.{pick}
-use Rattle.le.proofs.Choices.{pick-keeps, pick-true, pick-false}
+use Rattle.le.proofs.Choices.{pick-keeps, pick-keeps-by, pick-true, pick-false}
 use mathlib.Core.List.{List}
 use lib.ListN.{length}
 use Rattle.table.specs.declared.Link.{Link}
@@ -47,6 +49,43 @@ tally-one f g (suc n) c h p q o = case c n
     (λ e.
     let i : tally g n ≡ tally f n + 1 = tally-one f g n c (omega arith) p q (λ b k. o b (omega arith)) in
     rw (o n (omega arith) (λ z. e (sym z)), i) (more (f n) (tally f n)))
+
+-- none is lost
+pub tally-most : (f g : ℕ → Bool) (n : ℕ) → ((c : ℕ) → c < n → f c ≡ true → g c ≡ true) → tally f n ≤ tally g n
+unfolding tally
+tally-most f g zero h = omega arith
+tally-most f g (suc n) h =
+    let i : tally f n ≤ tally g n = tally-most f g n (λ c q. h c (omega arith)) in
+    pick-keeps-by (λ (k : ℕ). k ≤ pick (g n) (tally g n + 1) (tally g n)) (f n) (tally f n + 1) (tally f n)
+    (λ e. rw (pick-true (tally g n + 1) (tally g n) (h n (omega arith) e)) (omega arith))
+    (λ _. pick-keeps (λ (k : ℕ). tally f n ≤ k) (g n) (tally g n + 1) (tally g n) (omega arith) i)
+
+-- none is lost, and there is one more
+pub tally-more : (f g : ℕ → Bool) (n c : ℕ) → c < n → f c ≡ false → g c ≡ true → ((b : ℕ) → b < n → b ≢ c → f b ≡ true → g b ≡ true) → tally f n + 1 ≤ tally g n
+tally-more f g n c h p q o =
+    let with-c : ℕ → Bool = λ b. pick (eqb b c) true (f b) in
+    let one : tally with-c n ≡ tally f n + 1 = tally-one f with-c n c h p (pick-true _ _ (eq-eqb c c refl)) (λ b _ e. pick-false _ _ (ne-eqb b c e)) in
+    let most : tally with-c n ≤ tally g n = tally-most with-c g n (λ b k. case b c (λ e _. rw e q) (λ e t. o b k e (sym (pick-false _ _ (ne-eqb b c e)) ∙ t))) in
+    omega (arith, one, most)
+
+-- the chunks of a slot
+abbrev pub linkedTo : Disk → ℕ → ℕ
+linkedTo D s = tally (λ c. isOf s (D .link c)) (D .chunks)
+
+module _ (D E : Disk) (s : ℕ) (chunks : E .chunks ≡ D .chunks) where
+  abbrev Most : ℕ → ℕ → Type 0
+  Most k n = tally (λ c. isOf s (D .link c)) (D .chunks) + k ≤ tally (λ c. isOf s (E .link c)) n
+
+  pub linked-most : ((c : ℕ) → c < D .chunks → isOf s (D .link c) ≡ true → isOf s (E .link c) ≡ true) → linkedTo D s ≤ linkedTo E s
+  linked-most own =
+      let m : tally (λ c. isOf s (D .link c)) (D .chunks) ≤ tally (λ c. isOf s (E .link c)) (D .chunks) =
+      tally-most (λ c. isOf s (D .link c)) (λ c. isOf s (E .link c)) (D .chunks) own in
+      let z : Most 0 (E .chunks) = subst (Most 0) (sym chunks) (omega (arith, m)) in
+      omega (arith, z)
+
+  pub linked-more : (c : ℕ) → c < D .chunks → isOf s (D .link c) ≡ false → isOf s (E .link c) ≡ true
+      → ((b : ℕ) → b < D .chunks → b ≢ c → isOf s (D .link b) ≡ true → isOf s (E .link b) ≡ true) → linkedTo D s + 1 ≤ linkedTo E s
+  linked-more c h p q own = subst (Most 1) (sym chunks) (tally-more (λ c. isOf s (D .link c)) (λ c. isOf s (E .link c)) (D .chunks) c h p q own)
 
 -- no file has more chunks than there are
 pub chunks-bound : {D : Disk} {G : ℕ → List Segment} → Good D G → (s : ℕ) → s < 64 → length (G s) ≤ D .chunks

@@ -98,7 +98,7 @@ module _ (t : Terms) (over : Rollover) (spares : t .spared ≡ none) (directed :
         → Ends t w b (makeOut (t .name) over (w .vol) (w .medium) (w .store) (seen .slot) c)
     unfolding makeOut
     make-ends seen l fresh room c q =
-        let f = free-chunk (w .vol) (w .medium) (w .store) (inv-checked (w .medium) (k .whole .inv) (k .readable)) (k .layout) (k .whole .good) q in
+        let f = free-chunk (w .vol) (w .medium) (w .store) q in
         pick-keeps-by (Ends t w b) (eqb (w .store .head .«next_id») (2 ^ 32 - 1)) _ _
         (λ e. refused-ends t w b _ k)
         (λ e.

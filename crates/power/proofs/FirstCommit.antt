@@ -109,11 +109,11 @@ module _ (edit : Edit) (name vol : List ℕ) (m : Medium) (st : Store) (inv : In
       module _ (short : length name ≤ 40) (less : st .head .generation ≡ 2 ^ 64 - 1 → ⊥) where
         pub commit-enough : bodyOf (st .head .chunks) + 2 ≤ m .left → (commitOf edit name vol m st .ans .outcome ≡ Done) × (commitOf edit name vol m st .skipped ≡ [])
         unfolding commitPlan headAfter
-        commit-enough l = rw (commit-is less) (copy-enough plan vol m (plan-good edit name vol m st inv short) all-put l)
+        commit-enough l = rw (commit-is less) (copy-enough plan vol m (plan-good edit name vol m st (inv .ok) (inv .range .count) short) all-put l)
 
         pub commit-short : m .left < bodyOf (st .head .chunks) + 2 → commitOf edit name vol m st .ans .outcome ≡ No Media
         unfolding commitPlan headAfter
-        commit-short l = rw (commit-is less) (copy-short plan vol m (plan-good edit name vol m st inv short) all-put l)
+        commit-short l = rw (commit-is less) (copy-short plan vol m (plan-good edit name vol m st (inv .ok) (inv .range .count) short) all-put l)
 
 -- ---- one write left, or none
 
@@ -158,4 +158,4 @@ commit-few edit name vol m st inv short few =
     NotDone o = o .ans .outcome ≡ Done → ⊥
 
     good : Good (planOf edit name vol m st) vol
-    good = plan-good edit name vol m st inv short
+    good = plan-good edit name vol m st (inv .ok) (inv .range .count) short

@@ -34,3 +34,5 @@ pub mod Running
 pub mod Skipping
 pub mod Sanity
 pub mod Undone
+pub mod Positions
+pub mod Near

@@ -42,7 +42,6 @@ use Rattle.power.specs.Book.{Book, Terms, entered, enteredAll}
 use Rattle.power.specs.History.{EachStep}
 use Rattle.power.proofs.Whole.{Stands}
 use Rattle.power.proofs.Ties.{ties-extend}
-use Rattle.power.proofs.Checks.{inv-checked}
 use Rattle.power.proofs.Unmade.{commit-unmade}
 use Rattle.power.proofs.Standing.{sane, chunk-in, position-in, count-in}
 use Rattle.power.proofs.Flows.{Live, unmade-live, Kept, kept-stopped, kept-done, kept-after}
@@ -67,11 +66,11 @@ module _ (vol : List ℕ) (m : Medium) (st : Store) (a : Appender) (partial : Bo
   abbrev moved : AppOut
   moved = done (commit .vol) (commit .ans .medium) (commit .ans .store) (movedTo c a)
 
-  link-made : commit .ans .outcome ≡ Done → linkOut vol m st a partial records c ≡ after (step ∷ []) moved
+  pub link-made : commit .ans .outcome ≡ Done → linkOut vol m st a partial records c ≡ after (step ∷ []) moved
   unfolding linkOut stepsOf onDone
   link-made q = rw q
 
-  link-refused : {e : Error} → commit .ans .outcome ≡ No e → linkOut vol m st a partial records c ≡ stopped (commit .vol) (commit .ans .medium) (commit .ans .store) a e
+  pub link-refused : {e : Error} → commit .ans .outcome ≡ No e → linkOut vol m st a partial records c ≡ stopped (commit .vol) (commit .ans .medium) (commit .ans .store) a e
   unfolding linkOut stepsOf onDone
   link-refused q = rw q
 
@@ -91,7 +90,7 @@ module _ {t : Terms} {vol : List ℕ} {m : Medium} {st : Store} {a : Appender} {
   mark = linkFor (st .head .chunk) (a .slot) (withSegment (G (a .slot)) c) (a .position)
 
   unused : (c < st .head .chunks) × (linkView vol st c ≡ link.Free)
-  unused = free-chunk vol m st (inv-checked m (l .whole .inv) (l .readable)) G (l .whole .good) found
+  unused = free-chunk vol m st found
 
   last-link : linkView vol st (a .chunk) ≡ link.Linked (plainLink (a .slot) (a .position))
   last-link = rw (s .chunk) (last-linked (l .whole .good) (a .slot) (a .position) (s .below) (s .last))

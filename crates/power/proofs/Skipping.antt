@@ -161,9 +161,9 @@ module _ (vol₀ : List ℕ) (m₀ : Medium) (st₀ : Store) (inv₀ : Inv vol�
 
   pub as-many : length (skippedFrom plan (o .vol) m (bodyCount plan) 0) ≡ bodyOf (st₀ .head .chunks)
   unfolding commitPlan headAfter
-  as-many = all-listed plan (o .vol) m (plan-good (Remove 0) [] (o .vol) m st inv (lit≤ tt)) all-skip (bodyCount plan) 0 (omega arith) ∙ ap bodyOf chunks
+  as-many = all-listed plan (o .vol) m (plan-good (Remove 0) [] (o .vol) m st (inv .ok) (inv .range .count) (lit≤ tt)) all-skip (bodyCount plan) 0 (omega arith) ∙ ap bodyOf chunks
 
   pub commit-two : 2 ≤ m .left → (st .head .generation ≡ 2 ^ 64 - 1 → ⊥)
       → (commitOf (Remove 0) [] (o .vol) m st .ans .outcome ≡ Done) × (commitOf (Remove 0) [] (o .vol) m st .skipped ≡ skippedFrom plan (o .vol) m (bodyCount plan) 0)
   commit-two l less =
-      rw (commit-is (Remove 0) [] (o .vol) m st inv r less) (copy-two plan (o .vol) m (plan-good (Remove 0) [] (o .vol) m st inv (lit≤ tt)) all-skip l)
+      rw (commit-is (Remove 0) [] (o .vol) m st inv r less) (copy-two plan (o .vol) m (plan-good (Remove 0) [] (o .vol) m st (inv .ok) (inv .range .count) (lit≤ tt)) all-skip l)

@@ -2,3 +2,4 @@ pub mod Calls
 pub mod Book
 pub mod History
 pub mod Claim
+pub mod Near

@@ -1,5 +1,6 @@
 -- A commit, whatever the writes left and whatever the medium reads: refused it leaves the old store, accepted the new one. Assumes nothing.
 use mathlib.Core.Path.{_≡_, refl, sym, ap, _∙_}
+use mathlib.Core.Bool.{true}
 use mathlib.Core.List.{List}
 use Prim.Native.Nat.{ℕ, _+_, _-_, _^_, _<_, _≤_}
 use native.Mathlib.Omega.{arith}
@@ -17,8 +18,8 @@ use Rattle.medium.proofs.Laws.{onDone-keeps}
 use Rattle.medium.proofs.Frame.{kept-none, spends-none}
 use Rattle.handles.specs.declared.Header.{Header}
 use Rattle.handles.specs.declared.Store.{Store}
-use Rattle.handles.specs.Handles.{baseOf}
-use Rattle.handles.proofs.Laws.{Held}
+use Rattle.handles.specs.Handles.{baseOf, storeOk}
+use Rattle.handles.proofs.Laws.{Held, store-facts}
 use Rattle.header.specs.declared.answers.Current.{Current}
 use Rattle.header.specs.declared.codec.Decoded.{Decoded}
 use Rattle.header.specs.Header.{ours, InRange}
@@ -49,14 +50,9 @@ next-lt (Create slot id chunk) h f n = f .1
 next-lt (Extend slot position next last partial records) h f n = n
 next-lt (Remove slot) h f n = n
 
-module _ (edit : Edit) (name vol : List ℕ) (m : Medium) (st : Store) (inv : Inv vol st) where
-  held : Held st (sectorsOf vol)
-  held = inv-held inv
+-- ---- on any volume
 
-  -- into the copy beside the store's
-  two : st .copy + (1 - st .copy) ≡ 1
-  two = omega (arith, held .copy)
-
+module _ (edit : Edit) (name vol : List ℕ) (m : Medium) (st : Store) where
   -- the ways to an answer
   ways : (P : Out → Type 0) → ((e : Error) → P (refusedOut st vol m e))
       → (currentOf vol m .outcome ≡ Done → (st .head .generation ≡ 2 ^ 64 - 1 → ⊥) → P (copyOut (planOf edit name vol m st) vol m))
@@ -69,12 +65,34 @@ module _ (edit : Edit) (name vol : List ℕ) (m : Medium) (st : Store) (inv : In
       (none Stale))
       (λ e _. none e)
 
+  -- its plan fits the volume
+  pub plan-good : storeOk st (sectorsOf vol) ≡ true → length (st .head .crcs) ≡ 24 → length name ≤ 40 → Good (planOf edit name vol m st) vol
+  unfolding commitPlan headAfter
+  plan-good ok count short =
+      let held : Held st (sectorsOf vol) = store-facts st (sectorsOf vol) ok in
+      record {
+        enough = held .enough;
+        chunks = held .head .chunks-most;
+        count = count;
+        first = length-zeros 512;
+        name = short;
+        own = λ _. omega (arith, held .copy);
+      }
+
+-- ---- between the calls
+
+module _ (edit : Edit) (name vol : List ℕ) (m : Medium) (st : Store) (inv : Inv vol st) where
+  held : Held st (sectorsOf vol)
+  held = inv-held inv
+
+  -- into the copy beside the store's
+  two : st .copy + (1 - st .copy) ≡ 1
+  two = omega (arith, held .copy)
+
   -- ---- its plan meets the premises
 
-  pub plan-good : length name ≤ 40 → Good (planOf edit name vol m st) vol
-  unfolding commitPlan headAfter
-  plan-good short =
-      record { enough = held .enough; chunks = held .head .chunks-most; count = inv .range .count; first = length-zeros 512; name = short; own = λ _. two }
+  fitting : length name ≤ 40 → Good (planOf edit name vol m st) vol
+  fitting = plan-good edit name vol m st (inv .ok) (inv .range .count)
 
   module _ (d : currentOf vol m .outcome ≡ Done) where
     found : currentOf vol m ≡ takenOf (st .copy) (st .head) (copyOf vol (baseOf (1 - st .copy)) .head) (isOurs (copyOf vol (baseOf (1 - st .copy)) .kind))
@@ -132,8 +150,8 @@ module _ (edit : Edit) (name vol : List ℕ) (m : Medium) (st : Store) (inv : In
     unfolding commitPlan
     commit-stopped {e} =
         let p : Plan = planOf edit name vol m st in
-        let good : Good p vol = plan-good short in
-        ways (λ (o : Out). o .ans .outcome ≡ No e → CommitStopped vol m st o)
+        let good : Good p vol = fitting short in
+        ways edit name vol m st (λ (o : Out). o .ans .outcome ≡ No e → CommitStopped vol m st o)
         (λ x _. record {
           store = refl;
           inv = inv;
@@ -156,21 +174,21 @@ module _ (edit : Edit) (name vol : List ℕ) (m : Medium) (st : Store) (inv : In
           → Inv (copyOut (planOf edit name vol m st) vol m .vol) (copyOut (planOf edit name vol m st) vol m .ans .store)
       unfolding commitPlan headAfter
       copy-inv d less =
-          finished-inv (planOf edit name vol m st) vol m (plan-good short) (plan-newest fits less) (plan-tied d)
+          finished-inv (planOf edit name vol m st) vol m (fitting short) (plan-newest fits less) (plan-tied d)
           (λ g e. rw (own-head g e) (omega arith))
           (λ g e _. rw (back, own-head g e) (inv .sound .own))
 
       -- the new store is sound even without the premise on the sectors left unwritten
       pub commit-inv : commitOf edit name vol m st .ans .outcome ≡ Done → Inv (commitOf edit name vol m st .vol) (commitOf edit name vol m st .ans .store)
-      commit-inv = ways (λ (o : Out). o .ans .outcome ≡ Done → Inv (o .vol) (o .ans .store)) (λ x. clash refl) copy-inv
+      commit-inv = ways edit name vol m st (λ (o : Out). o .ans .outcome ≡ Done → Inv (o .vol) (o .ans .store)) (λ x. clash refl) copy-inv
 
       pub commit-made : CommitDistinct edit name vol m st → commitOf edit name vol m st .ans .outcome ≡ Done → CommitMade edit name vol m st (commitOf edit name vol m st)
       unfolding commitPlan headAfter dueBytes
       commit-made distinct =
           let p : Plan = planOf edit name vol m st in
-          let good : Good p vol = plan-good short in
+          let good : Good p vol = fitting short in
           let kept = copy-frame p vol m good in
-          ways (λ (o : Out). o .ans .outcome ≡ Done → CommitMade edit name vol m st o)
+          ways edit name vol m st (λ (o : Out). o .ans .outcome ≡ Done → CommitMade edit name vol m st o)
           (λ x. clash refl)
           (λ d less q.
           let done = copy-finished p vol m good q in

@@ -83,23 +83,21 @@ module _ (p : Plan) (vol : List ℕ) (m : Medium) (tied : Tied p vol) (k : ℕ) 
         Sum : Move → Type 0
         Sum mv = MadeAt p vol k s c mv → c ≡ crc32Of s
 
-    -- the bytes are those due: written, or left where they are held
-    made-due : PlanDistinct p vol m → MadeAt p vol k s c (moveOf p vol m k) → s ≡ dueBytes p vol k
-    unfolding skips leaves moveOf dueMove Made
-    made-due distinct =
-        pick-keeps-by Due (isFormat (p .edit)) _ _ (λ f _ x. x .0 ∙ sym (due-format p vol k f))
-        (λ f. pick-keeps Due (not (changesOf (p .edit) k) && lists p k (getD (p .store .head .crcs) k 0)) _ _
-        (λ e x. x .0 ∙ left (ap leaves e))
-        (onDone-keeps Due _ _ _
-        (λ _. pick-keeps Due (lists p k (crc32Of (dueBytes p vol k))) _ _ (λ e x. x .0 ∙ left (ap leaves e)) (λ _ x. x .0))
-        (λ e _ _ x. absurd x)))
-        refl
-      where
-        Due : Move → Type 0
-        Due mv = moveOf p vol m k ≡ mv → MadeAt p vol k s c mv → s ≡ dueBytes p vol k
+-- the bytes are those due: written, or left where they are held
+module _ (p : Plan) (vol : List ℕ) (m : Medium) (k : ℕ) (s : List ℕ) (c : ℕ) (left : skips p vol m k ≡ true → sectorAt vol (targetAt p k) ≡ dueBytes p vol k) where
+  abbrev Due : Move → Type 0
+  Due mv = moveOf p vol m k ≡ mv → MadeAt p vol k s c mv → s ≡ dueBytes p vol k
 
-        left : skips p vol m k ≡ true → sectorAt vol (targetAt p k) ≡ dueBytes p vol k
-        left u = distinct k within u (skipped-sum u)
+  made-due : MadeAt p vol k s c (moveOf p vol m k) → s ≡ dueBytes p vol k
+  unfolding skips leaves moveOf dueMove Made
+  made-due =
+      pick-keeps-by Due (isFormat (p .edit)) _ _ (λ f _ x. x .0 ∙ sym (due-format p vol k f))
+      (λ f. pick-keeps Due (not (changesOf (p .edit) k) && lists p k (getD (p .store .head .crcs) k 0)) _ _
+      (λ e x. x .0 ∙ left (ap leaves e))
+      (onDone-keeps Due _ _ _
+      (λ _. pick-keeps Due (lists p k (crc32Of (dueBytes p vol k))) _ _ (λ e x. x .0 ∙ left (ap leaves e)) (λ _ x. x .0))
+      (λ e _ _ x. absurd x)))
+      refl
 
 -- a checksum that a move leaves has its width
 made-lt : (p : Plan) (vol : List ℕ) (m : Medium) (k : ℕ) (s : List ℕ) (c : ℕ) (s′ : List ℕ) (c′ : ℕ) → c < 2 ^ 32 → Made (moveOf p vol m k) s c s′ c′ → c′ < 2 ^ 32
@@ -121,9 +119,14 @@ module _ {p : Plan} {vol : List ℕ} {m : Medium} {v : List ℕ} {st : Store} (d
   pub finished-sums : Tied p vol → (k : ℕ) → k < bodyCount p → getD (st .head .crcs) k 0 ≡ crc32Of (sectorAt v (targetAt p k))
   finished-sums tied k l = made-sum p vol m tied k l _ _ (done .made k l)
 
-  -- and holds the bytes due, where no two checksums collide
+  -- it holds the bytes due, where those left unwritten held them
+  pub finished-due : ((k : ℕ) → k < bodyCount p → skips p vol m k ≡ true → sectorAt vol (targetAt p k) ≡ dueBytes p vol k)
+      → (k : ℕ) → k < bodyCount p → sectorAt v (targetAt p k) ≡ dueBytes p vol k
+  finished-due held k l = made-due p vol m k _ _ (held k l) (done .made k l)
+
+  -- and so where no two checksums collide
   pub finished-body : Tied p vol → PlanDistinct p vol m → (k : ℕ) → k < bodyCount p → sectorAt v (targetAt p k) ≡ dueBytes p vol k
-  finished-body tied distinct k l = made-due p vol m tied k l _ _ distinct (done .made k l)
+  finished-body tied distinct = finished-due (λ k l u. distinct k l u (skipped-sum p vol m tied k l u))
 
   -- the new header has its widths, and is foreign only where the planned one is
   pub finished-range : InRange (p .head) → InRange (st .head)

@@ -2,7 +2,7 @@
 use mathlib.Core.Path.{_≡_}
 use mathlib.Core.Bool.{false}
 use mathlib.Core.List.{List}
-use Prim.Native.Nat.{ℕ, _<_}
+use Prim.Native.Nat.{ℕ, _-_, _<_}
 use native.Mathlib.Omega.{arith}
 use Rattle.medium.specs.declared.Medium.{Medium}
 use Rattle.medium.specs.Sector.{sectorsOf, sectorAt}
@@ -13,7 +13,8 @@ use Rattle.record.specs.Record.{carriesOf, dataAt}
 use Rattle.plan.specs.declared.Edit.{Edit}
 use Rattle.plan.specs.Copy.{Out}
 use Rattle.safe.specs.Inv.{Inv, CommitStopped, CommitMade, FormatStopped, FormatMade}
-use Rattle.safe.proofs.Invs.{inv-held}
+use Rattle.safe.proofs.Invs.{inv-held, kept-records}
+use Rattle.safe.proofs.Unwritten.{CommitDue}
 use Rattle.layout.specs.Views.{diskOf}
 use Rattle.layout.specs.Changes.{Unchanged, Fresh}
 use Rattle.views.specs.Edited.{Edited}
@@ -36,6 +37,10 @@ format-unchanged {vol} {m} {st} {o} inv f = volume-unchanged vol (o .vol) st (λ
 -- accepted: an edited body, and an empty one
 pub commit-edited : {edit : Edit} {name vol : List ℕ} {m : Medium} {st : Store} {o : Out} → CommitMade edit name vol m st o → Edited edit name vol st (o .vol) (o .ans .store)
 commit-edited c = record { size = c .frame .size; head = c .head; body = c .body; rest = c .records }
+
+-- on any volume, where each body sector left unwritten held the bytes due
+pub due-edited : {edit : Edit} {name vol : List ℕ} {st : Store} {o : Out} → CommitDue edit name vol st o → Edited edit name vol st (o .vol) (o .ans .store)
+due-edited {st = st} c = record { size = c .frame .size; head = c .head; body = c .body; rest = kept-records (1 - st .copy) (c .frame) }
 
 -- no sector of the volume before it passes as a record of the new store
 pub format-fresh : {chunk : ℕ} {vol : List ℕ} {m : Medium} {o : Out} → FormatMade chunk vol m o

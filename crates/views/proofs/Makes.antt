@@ -1,5 +1,5 @@
 -- A finished commit of create, and of extending, seen through the views. Assumes nothing.
-use mathlib.Core.Path.{_≡_, refl, ap, _∙_}
+use mathlib.Core.Path.{_≡_, refl, sym, ap, _∙_}
 use mathlib.Core.Logic.{_≢_}
 use mathlib.Core.Bool.{Bool, true, false, true≢false}
 use mathlib.Core.List.{List}
@@ -8,7 +8,7 @@ use native.Mathlib.Omega.{arith}
 use lib.ListN.{length}
 use Rattle.le.specs.Choice.{pick}
 use Rattle.le.specs.Part.{part}
-use Rattle.le.proofs.Choices.{pick-keeps, pick-true, pick-false}
+use Rattle.le.proofs.Choices.{pick-keeps-by, pick-true}
 use Rattle.names.specs.Names.{nameOk}
 use Rattle.names.proofs.Laws.{name-short}
 use Rattle.medium.specs.Sector.{sectorsOf, sectorAt}
@@ -25,7 +25,10 @@ use Rattle.table.specs.Table.{linksOf}
 use Rattle.plan.specs.declared.Edit.the-variants.{Create, Extend}
 use Rattle.plan.specs.Edit.{entryPut, linkPut, editOf, plainLink, nextAfter}
 use Rattle.layout.specs.Views.{diskOf, linkView}
+use Rattle.layout.specs.Segments.{isOf}
 use Rattle.layout.specs.Changes.{SameEntries, Extended, Created}
+use Rattle.layout.proofs.Facts.{case, is-of, free-of}
+use Rattle.layout.proofs.Tallies.{linkedTo, linked-more}
 use Rattle.views.specs.Edited.{Edited}
 use Rattle.views.proofs.Shows.{shownAs, entry-shown}
 use Rattle.views.proofs.Stays.{entry-stays}
@@ -95,7 +98,7 @@ module _ {slot id chunk : ℕ} {name vol : List ℕ} {st : Store} {v : List ℕ}
 
 module _ {slot position next last : ℕ} {partial : Bool} {records : ℕ} {name vol : List ℕ} {st : Store} {v : List ℕ} {t : Store} (sane : Sane (st .head) (sectorsOf vol))
     (done : Edited (Extend slot position next last partial records) name vol st v t) (hs : slot < 64) (hp : position + 1 < 32768) (hn : next < st .head .chunks)
-    (hl : last < st .head .chunks) (other : next ≢ last) where
+    (hl : last < st .head .chunks) where
   abbrev body : ℕ → List ℕ
   body k = sectorAt vol (bodyAt st k)
 
@@ -117,71 +120,88 @@ module _ {slot position next last : ℕ} {partial : Bool} {records : ℕ} {name 
   linked-whole : (k : ℕ) → k < bodyOf (st .head .chunks) → length (linked k) ≡ 512
   linked-whole k h = link-size k (body k) (body-whole k h) next new
 
-  -- a part that the mark does not meet
-  mark-apart : (k p n : ℕ) → k < bodyOf (st .head .chunks) → (k ≡ 8 + last / 128 → 4 * (last % 128) < p + n → 4 * (last % 128) + 4 ≤ p) → part p n (marked k) ≡ part p n (linked k)
+  -- a part that the mark, where there is one, does not meet
+  mark-apart : (k p n : ℕ) → k < bodyOf (st .head .chunks) → (partial ≡ true → k ≡ 8 + last / 128 → 4 * (last % 128) < p + n → 4 * (last % 128) + 4 ≤ p)
+      → part p n (marked k) ≡ part p n (linked k)
   mark-apart k p n h apart =
-      pick-keeps (λ (x : List ℕ). part p n x ≡ part p n (linked k)) partial (linkPut k last mark (linked k)) (linked k)
-      (link-apart k (linked k) (linked-whole k h) last mark p n apart) refl
+      pick-keeps-by (λ (x : List ℕ). part p n x ≡ part p n (linked k)) partial (linkPut k last mark (linked k)) (linked k)
+      (λ q. link-apart k (linked k) (linked-whole k h) last mark p n (apart q)) (λ _. refl)
 
-  entries-same : SameEntries (diskOf vol st) (diskOf v t)
+  pub extended-entries : SameEntries (diskOf vol st) (diskOf v t)
   unfolding editOf entryAt
-  entries-same s h =
+  extended-entries s h =
       let k : ℕ = s / 8 in
       entry-stays vol st v t s
       (entry-edited sane done s h
-      ∙ mark-apart k (64 * (s % 8)) 64 (omega arith) (λ e q. omega arith)
+      ∙ mark-apart k (64 * (s % 8)) 64 (omega arith) (λ _ e q. omega arith)
       ∙ link-apart k (body k) (body-whole k (omega arith)) next new (64 * (s % 8)) 64 (λ e q. omega arith))
 
   links-marked : (c : ℕ) → c < linksOf (st .head .chunks) → linkPart v t c ≡ part (4 * (c % 128)) 4 (marked (8 + c / 128))
   unfolding editOf
   links-marked c h = link-edited sane done c h
 
-  links-linked : (c : ℕ) → c < linksOf (st .head .chunks) → c ≢ last → linkPart v t c ≡ part (4 * (c % 128)) 4 (linked (8 + c / 128))
-  links-linked c h n = links-marked c h ∙ mark-apart (8 + c / 128) (4 * (c % 128)) 4 (omega arith) (λ e q. omega (arith, n))
+  links-linked : (c : ℕ) → c < linksOf (st .head .chunks) → (partial ≡ true → c ≢ last) → linkPart v t c ≡ part (4 * (c % 128)) 4 (linked (8 + c / 128))
+  links-linked c h n = links-marked c h ∙ mark-apart (8 + c / 128) (4 * (c % 128)) 4 (omega arith) (λ q e r. let x : c ≢ last = n q in omega (arith, x))
 
-  new-there : linkPart v t next ≡ linkBytes new
-  new-there =
+  -- the new link, and the others but for the one that is marked
+  new-now : (partial ≡ true → next ≢ last) → linkView v t next ≡ link.Linked new
+  new-now n =
       let k : ℕ = 8 + next / 128 in
-      links-linked next (omega arith) other ∙ link-there k (body k) (body-whole k (omega arith)) next new refl
+      linked-now sane done next new (record { slot = hs; position = hp; records = sane .size-least; whole = λ q. refl }) hn
+      (links-linked next (omega arith) n ∙ link-there k (body k) (body-whole k (omega arith)) next new refl)
 
-  links-same : (c : ℕ) → c < linksOf (st .head .chunks) → c ≢ next → c ≢ last → linkPart v t c ≡ linkPart vol st c
+  links-same : (c : ℕ) → c < linksOf (st .head .chunks) → c ≢ next → (partial ≡ true → c ≢ last) → linkView v t c ≡ linkView vol st c
   unfolding linkPart
   links-same c h n m =
       let k : ℕ = 8 + c / 128 in
-      links-linked c h m ∙ link-apart k (body k) (body-whole k (omega arith)) next new (4 * (c % 128)) 4 (λ e q. omega (arith, n))
+      link-same sane done c
+      (links-linked c h m ∙ link-apart k (body k) (body-whole k (omega arith)) next new (4 * (c % 128)) 4 (λ e q. omega (arith, n)))
 
   -- the mark on the last chunk before, where there is one
-  mark-there : partial ≡ true → linkPart v t last ≡ linkBytes mark
-  mark-there q =
+  mark-now : partial ≡ true → records < st .head .chunk → linkView v t last ≡ link.Linked mark
+  mark-now q hr =
       let k : ℕ = 8 + last / 128 in
-      links-marked last (omega arith) ∙ ap (part (4 * (last % 128)) 4) (pick-true (linkPut k last mark (linked k)) (linked k) q)
-      ∙ link-there k (linked k) (linked-whole k (omega arith)) last mark refl
+      linked-now sane done last mark (record { slot = hs; position = omega arith; records = hr; whole = λ f. absurd (true≢false f) }) hl
+      (links-marked last (omega arith) ∙ ap (part (4 * (last % 128)) 4) (pick-true (linkPut k last mark (linked k)) (linked k) q)
+      ∙ link-there k (linked k) (linked-whole k (omega arith)) last mark refl)
 
-  mark-none : partial ≡ false → linkPart v t last ≡ linkPart vol st last
-  unfolding linkPart
-  mark-none q =
-      let k : ℕ = 8 + last / 128 in
-      links-marked last (omega arith) ∙ ap (part (4 * (last % 128)) 4) (pick-false (linkPut k last mark (linked k)) (linked k) q)
-      ∙ link-apart k (body k) (body-whole k (omega arith)) next new (4 * (last % 128)) 4 (λ e h. omega (arith, other))
+  -- on any table, where the chunk taken was free: the slot has a chunk more at least, and loses none
+  module _ (few : partial ≡ true → records < st .head .chunk) where
+    new-of : isOf slot (linkView v t next) ≡ true
+    new-of = case next last (λ e. go partial refl (λ q. ap (linkView v t) e ∙ mark-now q (few q))) (λ e. is-of slot (new-now (λ _. e)) refl)
+      where
+        go : (p : Bool) → partial ≡ p → (partial ≡ true → linkView v t next ≡ link.Linked mark) → isOf slot (linkView v t next) ≡ true
+        go true q f = is-of slot (f q) refl
+        go false q f = is-of slot (new-now (λ y. absurd (true≢false (sym y ∙ q)))) refl
 
-  extended : {m : Link} → linkView v t last ≡ link.Linked m → Extended (diskOf vol st) (diskOf v t) next last new m
+    still-of : (c : ℕ) → c < st .head .chunks → c ≢ next → isOf slot (linkView vol st c) ≡ true → isOf slot (linkView v t c) ≡ true
+    still-of c h n own =
+        case c last (λ e. go partial refl (λ q. ap (linkView v t) e ∙ mark-now q (few q))) (λ e. ap (isOf slot) (links-same c (omega arith) n (λ _. e)) ∙ own)
+      where
+        go : (p : Bool) → partial ≡ p → (partial ≡ true → linkView v t c ≡ link.Linked mark) → isOf slot (linkView v t c) ≡ true
+        go true q f = is-of slot (f q) refl
+        go false q f = ap (isOf slot) (links-same c (omega arith) n (λ y. absurd (true≢false (sym y ∙ q)))) ∙ own
+
+    pub extended-more : linkView vol st next ≡ link.Free → linkedTo (diskOf vol st) slot + 1 ≤ linkedTo (diskOf v t) slot
+    extended-more unused = linked-more (diskOf vol st) (diskOf v t) slot (same-shape sane done .chunks) next hn (free-of slot unused) new-of still-of
+
+  extended : {m : Link} → next ≢ last → linkView v t last ≡ link.Linked m → Extended (diskOf vol st) (diskOf v t) next last new m
   unfolding nextAfter
-  extended e =
+  extended other e =
       record {
         shape = same-shape sane done;
         next = next-edited sane done;
-        entries = entries-same;
+        entries = extended-entries;
         records = same-records sane done;
-        added = linked-now sane done next new (record { slot = hs; position = hp; records = sane .size-least; whole = λ q. refl }) hn new-there;
+        added = new-now (λ _. other);
         marked = e;
-        elsewhere = λ c h n m. link-same sane done c (links-same c h n m);
+        elsewhere = λ c h n m. links-same c h n (λ _. m);
       }
 
-  pub extended-partial : partial ≡ true → records < st .head .chunk
+  pub extended-partial : next ≢ last → partial ≡ true → records < st .head .chunk
       → Extended (diskOf vol st) (diskOf v t) next last (plainLink slot (position + 1)) (record { slot = slot; position = position; partial = true; records = records })
-  extended-partial q hr =
-      extended (linked-now sane done last mark (record { slot = hs; position = omega arith; records = hr; whole = λ f. absurd (true≢false f) }) hl (mark-there q))
+  extended-partial other q hr = extended other (mark-now q hr)
 
-  pub extended-full : {m : Link} → partial ≡ false → diskOf vol st .link last ≡ link.Linked m
+  pub extended-full : {m : Link} → next ≢ last → partial ≡ false → diskOf vol st .link last ≡ link.Linked m
       → Extended (diskOf vol st) (diskOf v t) next last (plainLink slot (position + 1)) m
-  extended-full q e = extended (link-same sane done last (mark-none q) ∙ e)
+  extended-full other q e = extended other (links-same last (omega arith) (λ y. other (sym y)) (λ y. absurd (true≢false (sym y ∙ q))) ∙ e)

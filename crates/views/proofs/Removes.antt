@@ -1,6 +1,6 @@
 -- A finished commit of a file's removal seen through the views: the links of its slot are free, and no others change. Assumes nothing.
 use mathlib.Core.Path.{_≡_, refl, ap, _∙_}
-use mathlib.Core.Logic.{_⊎_, ⊎-elim}
+use mathlib.Core.Logic.{_≢_, _⊎_, ⊎-elim}
 use mathlib.Core.Bool.{Bool, true, false}
 use mathlib.Core.List.{List}
 use Prim.Native.Nat.{ℕ, _+_, _*_, _/_, _%_, _<_, _≤_}
@@ -24,9 +24,11 @@ use Rattle.table.specs.Table.{linksOf}
 use Rattle.table.proofs.Clears.{part-cleared}
 use Rattle.plan.specs.declared.Edit.the-variants.{Remove}
 use Rattle.plan.specs.Edit.{entryPut, slotCleared, editOf, nextAfter}
-use Rattle.layout.specs.Views.{diskOf, linkView}
+use Rattle.layout.specs.Views.{vacant, diskOf, linkView}
 use Rattle.layout.specs.Segments.{isOf}
 use Rattle.layout.specs.Changes.{Removed}
+use Rattle.layout.proofs.Facts.{refused-of, other-of}
+use Rattle.layout.proofs.Tallies.{linkedTo, linked-most}
 use Rattle.views.specs.Edited.{Edited}
 use Rattle.views.proofs.Shows.{shownAs, entry-vacant, link-freed, owned-shown}
 use Rattle.views.proofs.Stays.{entry-stays}
@@ -52,6 +54,21 @@ module _ {slot : ℕ} {name vol : List ℕ} {st : Store} {v : List ℕ} {t : Sto
       link-edited sane done c h ∙ ap (part (4 * (c % 128)) 4) (pick-true _ _ high)
       ∙ part-cleared slot (old k) (old-whole sane done k (omega arith)) (c % 128) (omega arith)
 
+  -- the entry of the slot is free, and every other as it was
+  pub removed-entry : diskOf v t .entry slot ≡ vacant
+  removed-entry = ap shownAs (entry-here sane done slot (zeros 64) (length-zeros 64) entries-put hs) ∙ entry-vacant
+
+  pub removed-entries : (s : ℕ) → s < 64 → s ≢ slot → diskOf v t .entry s ≡ diskOf vol st .entry s
+  removed-entries s h n = entry-stays vol st v t s (entry-other sane done slot (zeros 64) (length-zeros 64) entries-put s h n)
+
+  -- on any table: another slot loses no chunk
+  pub removed-same : (s : ℕ) → s ≢ slot → linkedTo (diskOf vol st) s ≤ linkedTo (diskOf v t) s
+  removed-same s n =
+      linked-most (diskOf vol st) (diskOf v t) s (same-shape sane done .chunks) (λ c h own.
+      let other : ownedBy slot (linkPart vol st c) ≡ false
+      = owned-shown vol st c slot (λ e q. refused-of s q own) ∙ other-of (linkView vol st c) own n in
+      ap (isOf s) (link-same sane done c (links-cleared c (omega arith) ∙ pick-false _ _ other)) ∙ own)
+
   -- no link is refused: inside the store it is free or a file's, and past the last chunk it is zero
   module _ (either : (c : ℕ) → c < st .head .chunks → (diskOf vol st .link c ≡ link.Free) ⊎ ((l : Link) × (diskOf vol st .link c ≡ link.Linked l)))
       (past : (c : ℕ) → st .head .chunks ≤ c → c < linksOf (st .head .chunks) → diskOf vol st .link c ≡ link.Past) where
@@ -76,8 +93,8 @@ module _ {slot : ℕ} {name vol : List ℕ} {st : Store} {v : List ℕ} {t : Sto
           shape = same-shape sane done;
           next = next-edited sane done;
           records = same-records sane done;
-          entry = ap shownAs (entry-here sane done slot (zeros 64) (length-zeros 64) entries-put hs) ∙ entry-vacant;
-          entries = λ s h n. entry-stays vol st v t s (entry-other sane done slot (zeros 64) (length-zeros 64) entries-put s h n);
+          entry = removed-entry;
+          entries = removed-entries;
           cleared = λ c h q.
               link-freed v t c (links-cleared c (omega arith) ∙ pick-true _ _ (owned-same c (omega arith) ∙ q)) (rw (same-shape sane done .chunks) h);
           links = λ c h q. link-same sane done c (links-cleared c h ∙ pick-false _ _ (owned-same c h ∙ q));

@@ -212,13 +212,13 @@ fn call(st: &mut State, lent: &mut Lent, words: &[&str], rule3: bool) -> String 
             let r = match words[0] {
                 "sync" => a.sync(s, m, sector),
                 "append" => match unhex(words.get(1).filter(|w| **w != "\"\"").copied().unwrap_or("")) {
-                    Some(b) => a.append(s, m, &b, sector),
+                    Some(b) => append(a, s, m, &b, sector, rule3),
                     None => return "-- form".into(),
                 },
                 _ => {
                     let n = words.get(1).and_then(|w| num(w)).unwrap_or(0);
                     let b = words.get(2).and_then(|w| num(w)).unwrap_or(0x61);
-                    a.append(s, m, &vec![b as u8; n as usize], sector)
+                    append(a, s, m, &vec![b as u8; n as usize], sector, rule3)
                 }
             };
             match r {
@@ -347,6 +347,25 @@ fn call(st: &mut State, lent: &mut Lent, words: &[&str], rule3: bool) -> String 
         }
         _ => "-- word".into(),
     }
+}
+
+/// An append. By the port's numbers a record that needs another chunk at position 32,767 or above is refused with 7
+/// (docs/DIFFERENCES.md): the Rust is stopped there by a medium without writes, which closes the appender too and changes
+/// nothing else. An append that cannot get so far is one call.
+fn append(a: &mut Appender, s: &mut Store, m: &mut Medium, bytes: &[u8], sector: &mut Sector, rule3: bool) -> Result<(), Error> {
+    let mut rest = bytes;
+    while rule3 && a.x_position() as usize + rest.len() / 486 >= 32767 && rest.len() >= a.room() {
+        let (record, more) = rest.split_at(a.room());
+        if a.x_position() >= 32767 && a.x_tail() == (0, s.chunk_sectors()) {
+            let left = std::mem::take(&mut m.left);
+            a.append(s, m, record, sector).expect_err("no write is left");
+            m.left = left;
+            return Err(Error::Corrupt);
+        }
+        a.append(s, m, record, sector)?;
+        rest = more;
+    }
+    a.append(s, m, rest, sector)
 }
 
 /// Whether format or create is 01's 12 where the Rust overflows: the last generation, or the last id.

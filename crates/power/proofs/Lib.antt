@@ -28,9 +28,16 @@ pub mod Reopening
 pub mod History
 pub mod Spends
 pub mod FirstCommit
+pub mod Enough
+pub mod Rooms
+pub mod Creating
+pub mod Going
+pub mod Growing
 pub mod FirstCreate
 pub mod Starting
 pub mod Running
 pub mod Skipping
 pub mod Sanity
 pub mod Undone
+pub mod Staged
+pub mod Rolled

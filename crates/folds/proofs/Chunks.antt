@@ -5,12 +5,13 @@ use mathlib.Core.Logic.{_≢_}
 use mathlib.Core.Bool.{Bool, true}
 use mathlib.Core.List.{List}
 use native.Mathlib.Omega.{arith}
+use borrow.Author.Count.{below-more, below-none}
 use borrow.Author.Tests.{eqb-true, eq-eqb}
 use lib.Dec.{eqb}
 use lib.ListN.{length, getD, set, drop, length-set, List·getD-append}
 use lib.Seq.{getD-set-same, getD-set-other}
 use Rattle.le.specs.Part.{over, zeros}
-use Rattle.le.proofs.Choices.{pick-keeps-by}
+use Rattle.le.proofs.Choices.{pick-keeps, pick-keeps-by}
 use Rattle.le.proofs.Parts.{length-zeros, length-over, getD-zeros}
 use Rattle.le.proofs.Bools.{and-true}
 use Rattle.medium.specs.declared.Medium.{Medium}
@@ -20,11 +21,12 @@ use Rattle.handles.specs.declared.Store.{Store}
 use Rattle.table.specs.declared.Link.{Link}
 use Rattle.table.specs.declared.LinkAt.{LinkAt}
 use Rattle.table.specs.declared.LinkAt.the-variants as link
+use Rattle.table.specs.declared.Pick.{Pick}
 use Rattle.table.specs.declared.Pick.the-variants as free
 use Rattle.table.specs.declared.Place.{Place}
 use Rattle.table.specs.declared.Place.the-variants as place
 use Rattle.table.specs.Link.{linkAt}
-use Rattle.table.specs.Table.{linksOf, sought, locateStep, locateV, locateOf, freeOf, Counted, countV, countOf}
+use Rattle.table.specs.Table.{linksOf, sought, locateStep, locateV, locateOf, freeStep, freeV, freeOf, Counted, countV, countOf}
 use Rattle.table.proofs.Nearest.{Nearest, free-nearest, free-range}
 use Rattle.layout.specs.Views.{diskOf, linkView}
 use Rattle.layout.specs.Segments.{Segment, segmentAt, linkFor, isOf, tally, Good}
@@ -111,6 +113,35 @@ module _ (vol : List ℕ) (m : Medium) (st : Store) where
   free-chunk {c} e = (free-range vol m st e, free-reads c (subst (Nearest vol m st (linksOf (st .head .chunks))) e (free-nearest vol m st) .0))
 
 module _ (vol : List ℕ) (m : Medium) (st : Store) (ok : Checked vol m st) (G : ℕ → List Segment) (good : Good (diskOf vol st) G) where
+  -- ---- the free chunk, or that there is none
+
+  abbrev Used : ℕ → Type 0
+  Used c = linkView vol st c ≡ link.Free → ⊥
+
+  -- of the chunks below n: one that is free, or none is
+  abbrev pub Free : ℕ → Pick → Type 0
+  Free n (free.Refused e) = ⊥
+  Free n free.Nothing = (c : ℕ) → c < n → Used c
+  Free n (free.At b) = (b < n) × (linkView vol st b ≡ link.Free)
+
+  used-more : (n : ℕ) (t : Pick) → Used n → Free n t → Free (n + 1) t
+  used-more n (free.Refused e) u p = p
+  used-more n free.Nothing u p = below-more Used n p u
+  used-more n (free.At b) u p = (omega (arith, p .0), p .1)
+
+  free-more : (n : ℕ) (t : Pick) → linkView vol st n ≡ link.Free → Free n t → Free (n + 1) (freeStep (st .head .cursor) (st .head .chunks) n t)
+  unfolding freeStep
+  free-more n (free.Refused e) q p = p
+  free-more n free.Nothing q p = (omega arith, q)
+  free-more n (free.At b) q p = pick-keeps (Free (n + 1)) _ _ _ (omega arith, q) (omega (arith, p .0), p .1)
+
+  pub free-found : Free (st .head .chunks) (freeOf vol m st)
+  unfolding freeOf
+  free-found =
+      let r = table-views vol m st ok G good (freeV (st .head .cursor) (st .head .chunks)) Free (λ c t h p q. free-more c t q p)
+      (λ c l t h p q. used-more c t (λ f. free≢linked f q) p) free.Nothing (below-none _) in
+      subst (Free (st .head .chunks)) (sym (r .1)) (r .2)
+
   -- ---- the chunk at a position of a file
 
   pub locate-view : (s p : ℕ) → s < 64 → p < length (G s) → locateOf vol m st s p ≡ place.At (segmentAt (G s) p .chunk) (linkFor (st .head .chunk) s (G s) p)

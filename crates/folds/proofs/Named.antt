@@ -68,10 +68,12 @@ pub find-view : (vol : List ℕ) (m : Medium) (st : Store) (name : List ℕ) {s 
     → (s < 64) × (diskOf vol st .entry s ≡ named name i)
 find-view vol m st name e = let f = find-name vol m st name e in (f .below, file-view vol st f)
 
--- create's look is done: it tells whether the name is free, and a vacant slot
+-- create's look is done: it tells whether a file has the name, and a vacant slot if there is one
 pub record Look (vol : List ℕ) (m : Medium) (st : Store) (name : List ℕ) (seen : Seen) : Type 0 where
   pub answer : lookOf vol m st name ≡ looked.Done seen
   pub new : seen .exists ≡ false → (s i : ℕ) → s < 64 → diskOf vol st .entry s ≡ named name i → ⊥
+  pub there : seen .exists ≡ true → (s : ℕ) × (s < 64) × ((i : ℕ) × (diskOf vol st .entry s ≡ named name i))
+  pub full : seen .free ≡ false → (s : ℕ) → s < 64 → diskOf vol st .entry s ≡ vacant → ⊥
   pub below : seen .free ≡ true → seen .slot < 64
   pub vacant : seen .free ≡ true → diskOf vol st .entry (seen .slot) ≡ vacant
 
@@ -98,32 +100,57 @@ module _ (vol : List ℕ) (m : Medium) (st : Store) (ok : Checked vol m st) (G :
   -- ---- create's look
 
   -- of the slots below k
-  abbrev New : List ℕ → ℕ → Seen → Type 0
-  New name k seen = seen .exists ≡ false → (s : ℕ) → s < k → (i : ℕ) → diskOf vol st .entry s ≡ named name i → ⊥
+  record Upto (name : List ℕ) (k : ℕ) (seen : Seen) : Type 0 where
+    pub new : seen .exists ≡ false → (s : ℕ) → s < k → (i : ℕ) → diskOf vol st .entry s ≡ named name i → ⊥
+    pub there : seen .exists ≡ true → (s : ℕ) × (s < k) × ((i : ℕ) × (diskOf vol st .entry s ≡ named name i))
+    pub full : seen .free ≡ false → (s : ℕ) → s < k → diskOf vol st .entry s ≡ vacant → ⊥
 
   abbrev Looks : List ℕ → Looked → Type 0
-  Looks name r = (seen : Seen) × (r ≡ looked.Done seen) × New name 64 seen
+  Looks name r = (seen : Seen) × (r ≡ looked.Done seen) × Upto name 64 seen
 
-  new-free : (name : List ℕ) (k : ℕ) (t : Seen) → diskOf vol st .entry k ≡ vacant → New name k t → New name (k + 1) (freeSeen k t)
+  -- a slot more, where the next one adds nothing
+  more-new : (name : List ℕ) (k : ℕ) (t : Seen) → Upto name k t → ((i : ℕ) → diskOf vol st .entry k ≡ named name i → ⊥)
+      → t .exists ≡ false → (s : ℕ) → s < k + 1 → (i : ℕ) → diskOf vol st .entry s ≡ named name i → ⊥
+  more-new name k t p n e = below-more (λ (s : ℕ). (i : ℕ) → diskOf vol st .entry s ≡ named name i → ⊥) k (p .new e) n
+
+  more-there : (name : List ℕ) (k : ℕ) (t : Seen) → Upto name k t → t .exists ≡ true → (s : ℕ) × (s < k + 1) × ((i : ℕ) × (diskOf vol st .entry s ≡ named name i))
+  more-there name k t p e = let x = p .there e in (x .0, omega (arith, x .1), x .2)
+
+  upto-free : (name : List ℕ) (k : ℕ) (t : Seen) → diskOf vol st .entry k ≡ vacant → Upto name k t → Upto name (k + 1) (freeSeen k t)
   unfolding freeSeen
-  new-free name k t q p =
-      let more : New name (k + 1) t = λ e. below-more (λ (s : ℕ). (i : ℕ) → diskOf vol st .entry s ≡ named name i → ⊥) k (p e) (λ i v. vacant≢named q v) in
-      pick-keeps-by (New name (k + 1)) (t .free) _ _ (λ f. more) (λ f. more)
+  upto-free name k t q p =
+      let new = more-new name k t p (λ i v. vacant≢named q v) in
+      let there = more-there name k t p in
+      pick-keeps-by (Upto name (k + 1)) (t .free) _ _
+      (λ f. record { new = new; there = there; full = λ e. absurd (false≢true (sym e ∙ f)) })
+      (λ f. record { new = new; there = there; full = λ e. absurd (false≢true (sym e)) })
 
-  new-file : (name : List ℕ) (k : ℕ) (t : Seen) (n : List ℕ) (id : ℕ) → diskOf vol st .entry k ≡ named n id → New name k t → New name (k + 1) (fileSeen (sameBytes name n) t)
+  upto-file : (name : List ℕ) (k : ℕ) (t : Seen) (n : List ℕ) (id : ℕ) → diskOf vol st .entry k ≡ named n id → Upto name k t
+      → Upto name (k + 1) (fileSeen (sameBytes name n) t)
   unfolding fileSeen
-  new-file name k t n id q p =
-      pick-keeps-by (New name (k + 1)) (sameBytes name n) _ _
-      (λ same no. absurd (false≢true (sym no)))
-      (λ other e.
-      below-more (λ (s : ℕ). (i : ℕ) → diskOf vol st .entry s ≡ named name i → ⊥) k (p e)
-      (λ i v. false≢true (sym other ∙ rw (same-name q v) (same-self name))))
+  upto-file name k t n id q p =
+      let taken : t .free ≡ false → (s : ℕ) → s < k + 1 → diskOf vol st .entry s ≡ vacant → ⊥
+      = λ e. below-more (λ (s : ℕ). diskOf vol st .entry s ≡ vacant → ⊥) k (p .full e) (λ v. vacant≢named v q) in
+      pick-keeps-by (Upto name (k + 1)) (sameBytes name n) _ _
+      (λ same.
+      record {
+        new = λ no. absurd (false≢true (sym no));
+        there = λ e. (k, omega arith, (id, q ∙ ap (λ (x : List ℕ). named x id) (sym (same-true name n same))));
+        full = taken;
+      })
+      (λ other.
+      record {
+        new = more-new name k t p (λ i v. false≢true (sym other ∙ rw (same-name q v) (same-self name)));
+        there = more-there name k t p;
+        full = taken;
+      })
 
   looks : (name : List ℕ) → Looks name (lookOf vol m st name)
   unfolding lookOf
   looks name =
-      scan-views vol m st ok (looking name) (New name) (Looks name) (good .whole) (λ k t b p q. new-free name k t q p)
-      (λ k t n id b p q. new-file name k t n id q p) (λ t p. (t, refl, p)) _ (λ e. below-none _)
+      scan-views vol m st ok (looking name) (Upto name) (Looks name) (good .whole) (λ k t b p q. upto-free name k t q p)
+      (λ k t n id b p q. upto-file name k t n id q p) (λ t p. (t, refl, p)) _
+      (record { new = λ e. below-none _; there = λ e. absurd (false≢true e); full = λ e. below-none _ })
 
   pub look-view : (name : List ℕ) → (seen : Seen) × Look vol m st name seen
   look-view name =
@@ -131,7 +158,9 @@ module _ (vol : List ℕ) (m : Medium) (st : Store) (ok : Checked vol m st) (G :
         l .0,
         record {
           answer = l .1;
-          new = λ e s i h. l .2 e s h i;
+          new = λ e s i h. l .2 .new e s h i;
+          there = l .2 .there;
+          full = l .2 .full;
           below = λ f. look-free vol m st name (l .1) f .below;
           vacant = λ f. free-view vol st (look-free vol m st name (l .1) f);
         },

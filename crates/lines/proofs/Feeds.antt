@@ -18,7 +18,7 @@ use Rattle.lines.specs.declared.input.Gathered.{Gathered}
 use Rattle.lines.specs.declared.Passed.{Passed}
 use Rattle.lines.specs.Text.{saidText, Put, Few}
 use Rattle.lines.specs.Input.{keptOf, Gathering, gatherOf, GatheredAt}
-use Rattle.lines.specs.Program.{lineTurn, lineText, Held, held, afterLine, Piece, pieceOf, PassedAt, FedPart, saying, feedOf, lastText}
+use Rattle.lines.specs.Program.{lineTurn, lineText, Held, held, afterLine, Piece, pieceOf, PassedAt, FedPart, saying, feedOf, lastText, turnsAfter}
 use Rattle.lines.proofs.Pens.{put-none}
 use Rattle.lines.proofs.Counts.{step-few}
 
@@ -96,3 +96,13 @@ module _ (vol : List ℕ) (s : Session) (line out : List ℕ) where
   pub last-line : (length line ≡ 0 → ⊥) → {after : List ℕ} {n : ℕ} → Put 0 (lineText vol s line) out after n → Put 0 (lastText (held vol s line)) out after n
   unfolding lastText pick
   last-line e p = rw (ne-eqb (length line) 0 e) p
+
+-- ---- the turns of the loop that reads
+
+pub turns-none : (turns n : ℕ) → n ≡ 0 → 0 ≡ turnsAfter turns n
+unfolding turnsAfter pick
+turns-none turns n e = rw (eq-eqb n 0 e)
+
+pub turns-one : (turns n : ℕ) → (n ≡ 0 → ⊥) → turns - 1 ≡ turnsAfter turns n
+unfolding turnsAfter pick
+turns-one turns n e = rw (ne-eqb n 0 e)

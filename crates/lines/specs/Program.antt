@@ -1,6 +1,6 @@
 -- 01, "Hosts", the line program: what it prints for an input, over a zeroed volume of 128 sectors. Then the same as the program goes, which gets the
 -- input in parts and keeps little of it: proofs/Whole has that the two are one. Assumes nothing.
-use Prim.Native.Nat.{ℕ}
+use Prim.Native.Nat.{ℕ, _-_}
 use mathlib.Core.Path.{_≡_}
 use mathlib.Core.Bool.{Bool}
 use mathlib.Core.List.{List, [], _∷_, _++_}
@@ -84,3 +84,7 @@ heldFirst = held (zeros 65536) startOf []
 abbrev pub PassedAt : Passed → List ℕ → List ℕ → List ℕ → List ℕ → List ℕ → Piece → Type 0
 PassedAt r vol bytes line before after p =
     (held vol (r .session) (take (r .fill) line) ≡ p .held) × Put 0 (p .text) before after (r .count) × (drop (r .at) bytes ≡ p .rest)
+
+-- the turns left of the loop that reads, after a read of n bytes: none at the end of the input
+unfoldable pub turnsAfter : ℕ → ℕ → ℕ
+turnsAfter turns n = pick (eqb n 0) 0 (turns - 1)

@@ -8,7 +8,7 @@ use session::Session;
 ghost use mathlib.Core.Path.{_≡_};
 ghost use Prim.Native.Nat.{_≤_, _<_};
 ghost use lib.ListN.{length, take, drop};
-ghost use Rattle.lines.specs.Program.{lineTurn, lineText, held, pieceOf, PassedAt, feedOf, lastText};
+ghost use Rattle.lines.specs.Program.{lineTurn, lineText, held, pieceOf, PassedAt, feedOf, lastText, turnsAfter};
 ghost use Rattle.lines.specs.Text.{Put};
 
 // What is held after a line, and how many bytes its answer has.
@@ -143,7 +143,7 @@ fn read_some(bytes: &mut [u8]) -> usize
 // are counted down, from a number that no run uses up.
 fn left_after(turns: u64, n: usize) -> u64
     requires { ⌜ 0 < turns ⌝ }
-    ensures { λ r. ⌜ r < turns ⌝ }
+    ensures { λ r. ⌜ (r ≡ turnsAfter turns n) × (r < turns) ⌝ }
 {
     if n == 0 {
         return 0;

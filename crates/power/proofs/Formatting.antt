@@ -2,7 +2,7 @@
 use Prim.Native.Nat.{ℕ}
 use mathlib.Core.Path.{_≡_, refl, sym, subst, _∙_}
 use mathlib.Core.Bool.{true}
-use mathlib.Core.List.{List, []}
+use mathlib.Core.List.{List, [], _∷_}
 use Rattle.le.specs.Choice.{pick}
 use Rattle.medium.specs.declared.Error.{Error}
 use Rattle.medium.specs.declared.Medium.{Medium}
@@ -10,7 +10,7 @@ use Rattle.medium.specs.declared.Outcome.{Outcome}
 use Rattle.medium.specs.declared.Outcome.the-variants.{Done, No}
 use Rattle.medium.specs.Refusal.{onDone}
 use Rattle.handles.specs.declared.Store.{Store}
-use Rattle.plan.specs.Copy.{Out, stepsOf}
+use Rattle.plan.specs.Copy.{formatted, Out, stepsOf}
 use Rattle.format.specs.Format.{formatOf}
 use Rattle.safe.specs.Inv.{FormatStopped, FormatMade}
 use Rattle.safe.proofs.Invs.{readable-still}
@@ -54,6 +54,11 @@ module _ (m : Medium) (size seed : ℕ) (w : World) (b : Book) where
   refused-book : {e : Error} → out .ans .outcome ≡ No e → written (format m size seed) (fedBy w (format m size seed)) b ≡ b
   unfolding written fedBy ran formatCall stepsOf onDone enteredAll beforeSteps afterSteps pick
   refused-book q = rw q
+
+  pub format-run : out .ans .outcome ≡ Done
+      → (ran w (format m size seed) .accepted ≡ true) × (ran w (format m size seed) .steps ≡ (record { kind = formatted; skipped = out .skipped }) ∷ [])
+  unfolding ran formatCall stepsOf onDone
+  format-run q = rw q (refl, refl)
 
   abbrev emptied : Book
   emptied = record { next = 1; files = []; file = b .file; rollover = b .rollover; unwritten = b .unwritten }

@@ -28,6 +28,11 @@ pub mod Reopening
 pub mod History
 pub mod Spends
 pub mod FirstCommit
+pub mod Enough
+pub mod Rooms
+pub mod Creating
+pub mod Going
+pub mod Growing
 pub mod FirstCreate
 pub mod Starting
 pub mod Running
@@ -36,3 +41,5 @@ pub mod Sanity
 pub mod Undone
 pub mod Positions
 pub mod Near
+pub mod Staged
+pub mod Rolled

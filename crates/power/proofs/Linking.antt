@@ -57,13 +57,13 @@ marks-few true records n size h k e = let f : n ≡ size → ⊥ = e .1 in omega
 
 -- what linking gives, by the commit's ending
 module _ (vol : List ℕ) (m : Medium) (st : Store) (a : Appender) (partial : Bool) (records c : ℕ) where
-  abbrev commit : Out
+  abbrev pub commit : Out
   commit = commitOf (Extend (a .slot) (a .position) c (a .chunk) partial records) [] vol m st
 
-  abbrev step : Step
+  abbrev pub step : Step
   step = record { kind = extended; skipped = commit .skipped }
 
-  abbrev moved : AppOut
+  abbrev pub moved : AppOut
   moved = done (commit .vol) (commit .ans .medium) (commit .ans .store) (movedTo c a)
 
   pub link-made : commit .ans .outcome ≡ Done → linkOut vol m st a partial records c ≡ after (step ∷ []) moved

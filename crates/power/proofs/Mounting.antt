@@ -4,7 +4,7 @@ use Rattle.medium.specs.declared.Medium.{Medium}
 use Rattle.medium.specs.Sector.{Readable}
 use Rattle.power.specs.Calls.{mount}
 use Rattle.power.specs.Book.{Book, enteredAll, beforeSteps, afterSteps, written}
-use Rattle.power.specs.History.{World, ifOk, ran, fedBy}
+use Rattle.power.specs.History.{World, ran, fedBy}
 use Rattle.power.proofs.Whole.{Keeps}
 use Rattle.power.proofs.Stays.{owns-none}
 use Rattle.power.proofs.Shown.{asMounted, mount-gives, whole-mounted}
@@ -16,7 +16,7 @@ mount-book m w b = pick-same _ b
 
 mount-world : (m : Medium) (w : World) (b : Book) → Keeps w b → Readable (w .vol) m
     → ran w (mount m) .world ≡ record { vol = w .vol; store = asMounted (w .store); appender = w .appender; medium = m }
-unfolding ran ifOk
+unfolding ran
 mount-world m w b k r = rw (mount-gives (w .vol) m (w .store) (k .whole .inv) r)
 
 pub mount-keeps : (m : Medium) (w : World) (b : Book) → Keeps w b → Readable (w .vol) m → Keeps (ran w (mount m) .world) (written (mount m) (fedBy w (mount m)) b)

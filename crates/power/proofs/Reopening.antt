@@ -1,7 +1,7 @@
 -- open_append keeps the invariant: it changes nothing on the volume, and the appender that it opens stands at the end of the file found. Assumes nothing.
 use Prim.Native.Nat.{ℕ, zero, suc, _+_, _-_, _*_, _≤_, _<_}
 use mathlib.Core.Path.{_≡_, refl, sym, ap, subst, _∙_}
-use mathlib.Core.Bool.{Bool}
+use mathlib.Core.Bool.{Bool, true}
 use mathlib.Core.List.{List, [], _∷_, List·Memᴰ·head, List·Memᴰ·tail}
 use native.Mathlib.Nat.{le-refl}
 use native.Mathlib.Omega.{arith}
@@ -20,7 +20,7 @@ use Rattle.medium.specs.declared.Outcome.{Outcome}
 use Rattle.medium.specs.declared.Outcome.the-variants.{Done, No}
 use Rattle.medium.specs.Refusal.{onDone}
 use Rattle.medium.specs.Sector.{sectorsOf, sectorAt, Readable}
-use Rattle.medium.proofs.Laws.{length-sector}
+use Rattle.medium.proofs.Laws.{onDone-done, length-sector}
 use Rattle.handles.specs.declared.Store.{Store}
 use Rattle.directory.specs.declared.Found.{Found}
 use Rattle.directory.specs.declared.Found.the-variants as found
@@ -45,7 +45,7 @@ use Rattle.layout.proofs.Facts.{case, one-place, same-id}
 use Rattle.layout.proofs.Judged.{stored-judged, judged-other}
 use Rattle.views.proofs.Stays.{writer-unchanged}
 use Rattle.folds.proofs.Chains.{chain-view}
-use Rattle.folds.proofs.Named.{find-view}
+use Rattle.folds.proofs.Named.{find-there, find-view}
 use Rattle.store.specs.Asked.{askedOf}
 use Rattle.store.specs.Opening.{openFine, rolloverOf, opening, openCall}
 use Rattle.power.specs.Calls.{openAppend}
@@ -56,6 +56,7 @@ use Rattle.power.proofs.Members.{Mem}
 use Rattle.power.proofs.Checks.{inv-checked}
 use Rattle.power.proofs.Unmade.{whole-same}
 use Rattle.power.proofs.Asks.{Directed, asked-opens}
+use Rattle.power.proofs.Shown.{asked}
 use Rattle.power.proofs.Queries.{keeps-medium}
 
 -- ---- the book's file with a name
@@ -261,3 +262,17 @@ module _ (left : ℕ) (name : List ℕ) (rolls : Bool) (dir : List ℕ) (w : Wor
 
   pub open-keeps : Kept
   open-keeps = by-asked (askedOf (w .vol) (w .store) (openFine name rolls dir)) refl
+
+  -- a file that is there is opened, with no step; the header stays
+  module _ (s id : ℕ) (h : s < 64) (e : diskOf (w .vol) (w .store) .entry s ≡ named name id) (fine : openFine name rolls dir ≡ true) where
+    out-is : out ≡ opened (w .vol) m (w .store) (k .layout) b (k .whole) (k .readable) roll s id
+    unfolding reopenOf onFound
+    out-is =
+        onDone-done _ _ (asked (w .vol) m (w .store) (k .layout) b (k .whole) (k .readable) (openFine name rolls dir) fine)
+        ∙ rw (find-there (w .vol) m (w .store) (inv-checked m (k .whole .inv) (k .readable)) (k .layout) (k .whole .good) name s id h e)
+        (file-opens (w .vol) m (w .store) (k .layout) b (k .whole) (k .readable) roll s name id h e)
+
+    pub open-run : (ran w (openAppend left name rolls dir) .accepted ≡ true) × (ran w (openAppend left name rolls dir) .steps ≡ [])
+        × (ran w (openAppend left name rolls dir) .world .store .head ≡ w .store .head)
+    unfolding ran openCall opening ifOk openedOut
+    open-run = rw out-is (refl, refl, refl)

@@ -1,6 +1,6 @@
--- What append, sync and delete give in a history, where it can be told: an appender at the start of its file keeps fewer bytes than a record takes, and a
+-- What append, sync and delete give in a history, where it can be told: an appender keeps fewer bytes than a record takes, and at the start of its file a
 -- sync writes them by one write; and a delete with one write left makes no step. Assumes nothing.
-use Prim.Native.Nat.{ℕ, _+_, _-_, _≤_, _<_}
+use Prim.Native.Nat.{ℕ, _+_, _≤_, _<_}
 use mathlib.Core.Path.{_≡_, refl, subst, _∙_}
 use mathlib.Core.Bool.{true, false}
 use mathlib.Core.List.{List, [], _∷_}
@@ -24,7 +24,7 @@ use Rattle.remove.specs.Remove.{removeOf}
 use Rattle.append.specs.declared.Tail.the-variants.{At}
 use Rattle.append.specs.Appender.{writes, isClosed}
 use Rattle.append.specs.Calls.{callOf, mayWrite, offered, appendCall, syncCall}
-use Rattle.append.specs.Flush.{withRun, onTail, recordOut, writeOut, flushOf, syncOf}
+use Rattle.append.specs.Flush.{withRun, onTail, filed, recordOut, writeOut, flushOf, syncOf}
 use Rattle.append.proofs.Runs.{run-short}
 use Rattle.views.proofs.Commits.{inv-sane}
 use Rattle.store.specs.Writing.{deleteCall}
@@ -36,19 +36,19 @@ use Rattle.power.proofs.Spends.{write-some}
 use Rattle.power.proofs.FirstCommit.{commit-few}
 use Rattle.power.proofs.Appends.{stands-may}
 
--- ---- an appender at the start of its file, with n bytes unwritten
+-- ---- an appender whose next record is number i of its chunk, with n bytes unwritten
 
-pub record Ready (w : World) (n : ℕ) : Type 0 where
+pub record Ready (w : World) (i n : ℕ) : Type 0 where
   pub writer : w .store .writer ≡ Open (w .appender .token) (w .appender .id)
-  pub tail : w .appender .tail ≡ At 0
+  pub tail : w .appender .tail ≡ At i
   pub fill : w .appender .fill ≡ n
 
-module _ {w : World} {b : Book} {n : ℕ} (k : Keeps w b) (y : Ready w n) where
+module _ {w : World} {b : Book} {i n : ℕ} (k : Keeps w b) (y : Ready w i n) where
   not-closed : isClosed (w .appender .tail) ≡ false
   unfolding isClosed
   not-closed = rw (y .tail)
 
-  stands : Stands (w .vol) (w .store) (w .appender) (k .layout) b [] × (w .appender .fill < 486)
+  pub stands : Stands (w .vol) (w .store) (w .appender) (k .layout) b [] × (w .appender .fill < 486)
   stands =
       subst (λ (x : Writer). Writes x (w .appender) (Stands (w .vol) (w .store) (w .appender) (k .layout) b [] × (w .appender .fill < 486))) (y .writer) (k .owns .writes) .2 not-closed
 
@@ -56,7 +56,7 @@ module _ {w : World} {b : Book} {n : ℕ} (k : Keeps w b) (y : Ready w n) where
   unfolding writes
   own-token = eq-eqb (w .appender .token) (w .appender .token) refl
 
-  may : mayWrite (w .vol) (w .store) (w .appender) ≡ Done
+  pub may : mayWrite (w .vol) (w .store) (w .appender) ≡ Done
   may = stands-may (k .whole) (stands .0) (stands .1) (Open (w .appender .token) (w .appender .id)) (y .writer) own-token not-closed
 
   -- fewer bytes than a record takes are kept
@@ -71,15 +71,18 @@ module _ {w : World} {b : Book} {n : ℕ} (k : Keeps w b) (y : Ready w n) where
       let f : w .appender .fill + length bytes < 486 = rw (y .fill) h in
       rw (onDone-done (callOf _) _ may, run-short bytes (w .vol) (withLeft left (w .medium)) (w .store) (w .appender) (stands .0 .buffer) f)
 
-  -- and written by one write
+-- and written by one write
+module _ {w : World} {b : Book} {n : ℕ} (k : Keeps w b) (y : Ready w 0 n) where
   module _ (left : ℕ) (some : 1 ≤ n) (one : 1 ≤ left) where
     abbrev given : Medium
     given = withLeft left (w .medium)
 
     record-steps : (recordOut 0 (w .vol) given (w .store) (w .appender) .ans .outcome ≡ Done)
         × (recordOut 0 (w .vol) given (w .store) (w .appender) .steps ≡ (record { kind = recorded; skipped = [] }) ∷ [])
+        × (recordOut 0 (w .vol) given (w .store) (w .appender) .ans .store ≡ w .store)
+        × (recordOut 0 (w .vol) given (w .store) (w .appender) .ans .appender ≡ filed 0 (w .appender))
     unfolding recordOut
-    record-steps = rw (onDone-done _ _ (write-some (w .vol) given _ _ one .0)) (refl, refl)
+    record-steps = rw (onDone-done _ _ (write-some (w .vol) given _ _ one .0)) (refl, refl, refl, refl)
 
     write-is : writeOut (w .vol) given (w .store) (w .appender) ≡ recordOut 0 (w .vol) given (w .store) (w .appender)
     unfolding writeOut onTail
@@ -93,7 +96,12 @@ module _ {w : World} {b : Book} {n : ℕ} (k : Keeps w b) (y : Ready w n) where
 
     pub sync-run : (ran w (sync left) .accepted ≡ true) × (ran w (sync left) .steps ≡ (record { kind = recorded; skipped = [] }) ∷ [])
     unfolding ran syncCall offered
-    sync-run = rw (onDone-done (callOf _) _ may, sync-is, record-steps .0) (refl, record-steps .1)
+    sync-run = rw (onDone-done (callOf _) _ (may k y), sync-is, record-steps .0) (refl, record-steps .1)
+
+    -- the store is as it was, and the appender after its first record
+    pub sync-leaves : (ran w (sync left) .world .store ≡ w .store) × (ran w (sync left) .world .appender ≡ filed 0 (w .appender))
+    unfolding ran syncCall offered
+    sync-leaves = rw (onDone-done (callOf _) _ (may k y), sync-is) (record-steps .2, record-steps .3)
 
 -- ---- a delete with one write left, or none
 

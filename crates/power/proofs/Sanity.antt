@@ -187,8 +187,8 @@ module _ (n size seed : ℕ) (m : Medium) (ap₀ : Appender) (enough : 64 ≤ n 
       unfolding Given
       keeps₂ = subst (Keeps w₂) create-book (call-keeps making start newBook start-keeps tt (create-steps Distinct))
 
-      ready₂ : Ready w₂ 0
-      ready₂ = subst (λ (x : Ran). Ready (x .world) 0) (sym create-run) (record { writer = refl; tail = refl; fill = refl })
+      ready₂ : Ready w₂ 0 0
+      ready₂ = subst (λ (x : Ran). Ready (x .world) 0 0) (sym create-run) (record { writer = refl; tail = refl; fill = refl })
 
       -- ---- a batch shorter than a record takes, then a sync, a delete with one write left, and a mount
 
@@ -215,9 +215,9 @@ module _ (n size seed : ℕ) (m : Medium) (ap₀ : Appender) (enough : 64 ≤ n 
         unfolding Given
         keeps₃ = subst (Keeps w₃) append-book (call-keeps (append 0 bytes) w₂ (with [] []) keeps₂ tt (append-steps Distinct))
 
-        ready₃ : Ready w₃ (length bytes)
+        ready₃ : Ready w₃ 0 (length bytes)
         ready₃ =
-            subst (λ (x : Ran). Ready (x .world) (length bytes)) (sym appended)
+            subst (λ (x : Ran). Ready (x .world) 0 (length bytes)) (sym appended)
             (record { writer = ready₂ .writer; tail = ready₂ .tail; fill = ap (λ (k : ℕ). k + length bytes) (ready₂ .fill) ∙ zero-add (length bytes) })
 
         synced : (ran w₃ (sync 1) .accepted ≡ true) × (ran w₃ (sync 1) .steps ≡ (record { kind = recorded; skipped = [] }) ∷ [])

@@ -5,7 +5,7 @@ use mathlib.Core.Logic.{_≢_}
 use mathlib.Core.Bool.{Bool, true, false}
 use mathlib.Core.List.{List, [], List·Memᴰ}
 use native.Mathlib.Omega.{arith}
-use borrow.Author.Tests.{le-ltb, ltb-true, ltb-false}
+use borrow.Author.Tests.{ltb-true, ltb-false}
 use lib.Dec.{ltb}
 use lib.ListN.{length}
 use Rattle.le.specs.Choice.{pick}
@@ -41,7 +41,7 @@ use Rattle.reading.specs.Gives.{Gives}
 use Rattle.reading.proofs.Reading.{reads-all}
 use Rattle.store.specs.Asked.{askedOf}
 use Rattle.store.specs.Reading.{StoreCall, mountCall, ListCall, listAt, listCall, readerAnswer, readerCall}
-use Rattle.store.proofs.Lists.{short, rows-told}
+use Rattle.store.proofs.Lists.{long-enough, rows-told}
 use Rattle.power.specs.Book.{File, Book}
 use Rattle.power.specs.Claim.{Shows, Holds}
 use Rattle.power.proofs.Whole.{fileOf, Whole}
@@ -67,9 +67,6 @@ whole-mounted {vol} {st} w = whole-same w (inv-writer refl refl (w .inv)) (write
 root : true ≡ dirOk []
 unfolding dirOk
 root = refl
-
-roomy : (counts rows : List ℕ) → 64 ≤ length counts → 3072 ≤ length rows → short counts rows ≡ false
-roomy counts rows c r = rw (le-ltb (length rows) 3072 r, le-ltb (length counts) 64 c)
 
 -- two rows of a listing that are alike are one
 one-row : {P : ℕ → ℕ → Type 0} (n : ℕ) → ((j k : ℕ) → P j k → P k j) → ((j k : ℕ) → j < k → k < n → P j k → ⊥) → (j k : ℕ) → j < n → k < n → P j k → j ≡ k
@@ -99,7 +96,7 @@ module _ (vol : List ℕ) (m : Medium) (st : Store) (G : ℕ → List Segment) (
 
     list-gives : listAt m Done (made .made .count) (counted .counts) (made .made .rows) ≡ listCall vol m st [] counts rows
     list-gives =
-        rows-told vol m st [] counts rows (roomy counts rows counters room) root (sym (asked true refl)) refl refl (sym (all-rows .counted), refl) refl
+        rows-told vol m st [] counts rows (long-enough counts rows counters room) root (sym (asked true refl)) refl refl (sym (all-rows .counted), refl) refl
         (ap (λ (o : Outcome). rowsTold (record { outcome = o; count = made .made .count }) (made .made .rows)) (sym (all-rows .made)))
 
     pub lists : Shows (listCall vol m st [] counts rows) (b .files)

@@ -37,8 +37,10 @@ use Rattle.format.proofs.Numbers.{copy-lt, chunks-most}
 use Rattle.medium.specs.Sector.{sectorsOf, sectorAt, Readable}
 use Rattle.medium.specs.Frame.{Kept}
 use Rattle.safe.specs.Copy.{Good}
-use Rattle.safe.specs.Inv.{FormatMade}
+use Rattle.safe.specs.Inv.{Inv, FormatMade}
 use Rattle.safe.proofs.Copy.{copy-frame}
+use Rattle.safe.proofs.Current.{stands-headers}
+use Rattle.safe.proofs.Format.{newest-is}
 use Rattle.safe.proofs.Invs.{reads}
 use Rattle.safe.proofs.Mounts.{beside}
 use Rattle.store.specs.Writing.{formatCall}
@@ -96,6 +98,16 @@ module _ (size seed : ℕ) (vol : List ℕ) (m : Medium) (done : formatOf size s
   pub format-chunks : out .ans .store .head .chunks ≡ chunksOf (sectorsOf vol) size
   unfolding formatHead
   format-chunks = ap (λ (s : Store). s .head .chunks) (facts .store)
+
+-- ---- a format over a store, with enough writes left
+
+pub again-done : (size seed : ℕ) (vol : List ℕ) (m : Medium) {st : Store} → Inv vol st → Readable vol m → 1 ≤ size → size ≤ 512
+    → (chunksOf (sectorsOf vol) size ≡ 0 → ⊥) → (st .head .generation ≡ 2 ^ 64 - 1 → ⊥) → bodyOf (chunksOf (sectorsOf vol) size) + 2 ≤ m .left
+    → formatOf size seed vol m .ans .outcome ≡ Done
+again-done size seed vol m {st} inv r least most some less left =
+    let e : 64 ≤ sectorsOf vol = inv .sound .stands .enough in
+    let h = stands-headers vol (st .head) m (reads m vol r 0 (omega arith)) (reads m vol r 32 (omega arith)) (st .copy) (inv .sound .stands) in
+    format-done size seed vol m (rw h refl) least most some (λ q. less (sym (newest-is vol (st .head) (st .copy) (inv .sound .stands) (inv .newer)) ∙ (rw h at q))) left
 
 -- ---- a zeroed volume
 

@@ -48,15 +48,16 @@ ifOk (refused n) new old = old
 abbrev pub withLeft : ℕ → Medium → Medium
 withLeft left m = record { left = left; unreadable = m .unreadable; entropy = m .entropy; token = m .token }
 
--- a refused mount or format hands back no store
+-- a mount writes nothing and makes no step
 abbrev pub ranMount : World → StoreCall → Ran
 ranMount w c =
     record {
-      world = record { vol = w .vol; store = ifOk (c .answer) (c .store) (w .store); appender = w .appender; medium = c .medium };
+      world = record { vol = w .vol; store = c .store; appender = w .appender; medium = c .medium };
       accepted = isOk (c .answer);
       steps = [];
     }
 
+-- a refused format hands back no store
 abbrev pub ranFormat : World → WriteCall → Ran
 ranFormat w c =
     record {

@@ -62,9 +62,12 @@ module _ (vol : List ℕ) (h : Header) where
   not-foreign (suc (suc c)) s = absurd (let f : ⊥ = omega (arith, s .number) in f)
 
   module _ (m : Medium) (a : readOf m 0 ≡ Done) (b : readOf m 32 ≡ Done) where
+    pub stands-headers : (c : ℕ) → Stands vol c h → headersOf vol m ≡ bothOf (copyOf vol 0) (copyOf vol 32)
+    stands-headers c s = let n = not-foreign c s in headers-read vol m (s .enough) a b (n .0) (n .1)
+
     pub stands-current : (c : ℕ) → Stands vol c h → currentOf vol m ≡ takenOf c h (copyOf vol (baseOf (1 - c)) .head) (isOurs (copyOf vol (baseOf (1 - c)) .kind))
     unfolding currentOf onDone
-    stands-current c s = let n = not-foreign c s in rw (headers-read vol m (s .enough) a b (n .0) (n .1)) (stands-choice c s)
+    stands-current c s = rw (stands-headers c s) (stands-choice c s)
 
     pub stands-mount : (c : ℕ) → Stands vol c h → mountOf vol m ≡ record { outcome = Done; store = record { copy = c; head = h; writer = Nobody } }
     unfolding mountOf takenOf onDone

@@ -86,6 +86,13 @@ module _ (vol : List ℕ) (h : Header) where
   copy-other (suc zero) s newer = rw (newest-b s newer)
   copy-other (suc (suc c)) s newer = absurd (let f : ⊥ = omega (arith, s .number) in f)
 
+  -- and its generation the newest
+  pub newest-is : (c : ℕ) → Stands vol c h → Newer c → newestOf (both vol) ≡ h .generation
+  unfolding newestOf baseOf pick
+  newest-is zero s newer = rw (newest-a s newer, s .found)
+  newest-is (suc zero) s newer = rw (newest-b s newer, s .found)
+  newest-is (suc (suc c)) s newer = absurd (let f : ⊥ = omega (arith, s .number) in f)
+
 same-id : (h g : Header) → sameStore h g ≡ true → h .id ≡ g .id
 unfolding sameStore
 same-id h g t = eqb-true (h .id) (g .id) (and-true (eqb (h .id) (g .id)) _ t .0)

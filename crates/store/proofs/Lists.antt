@@ -3,7 +3,7 @@ use mathlib.Core.Path.{_≡_}
 use mathlib.Core.Bool.{Bool, true, false, _||_}
 use mathlib.Core.List.{List}
 use Prim.Native.Nat.{ℕ, _≤_}
-use borrow.Author.Tests.{ltb-false}
+use borrow.Author.Tests.{le-ltb, ltb-false}
 use lib.Dec.{ltb, lit≤}
 use lib.ListN.{length}
 use Rattle.le.specs.Choice.{pick}
@@ -32,6 +32,9 @@ short counts rows = ltb (length rows) 3072 || ltb (length counts) 64
 
 pub roomy : (counts rows : List ℕ) → short counts rows ≡ false → (3072 ≤ length rows) × (64 ≤ length counts)
 roomy counts rows e = let p = or-false _ _ e in (ltb-false _ _ (p .0), ltb-false _ _ (p .1))
+
+pub long-enough : (counts rows : List ℕ) → 64 ≤ length counts → 3072 ≤ length rows → short counts rows ≡ false
+long-enough counts rows c r = rw (le-ltb (length rows) 3072 r, le-ltb (length counts) 64 c)
 
 module _ (vol : List ℕ) (m : Medium) (st : Store) (dir counts rows : List ℕ) where
   pub short-refused : short counts rows ≡ true → {r : ListAnswer} → r ≡ notListed m Range → listAnswer r counts rows ≡ listCall vol m st dir counts rows

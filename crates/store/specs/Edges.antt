@@ -1,7 +1,7 @@
 -- 01, "Edges": the starred rows, made of the definitions. One statement has them all; proofs/Starred proves it. Assumes nothing.
 use Prim.Native.Nat.{ℕ, _+_, _-_, _/_, _^_, _≤_, _<_}
 use mathlib.Core.Path.{_≡_}
-use mathlib.Core.Bool.{true, false}
+use mathlib.Core.Bool.{Bool, true, false}
 use mathlib.Core.List.{List, [], _∷_, _++_}
 use lib.ListN.{length, replicate}
 use Rattle.le.specs.Part.{zeros}
@@ -22,8 +22,9 @@ use Rattle.format.specs.Format.{newestOf}
 use Rattle.append.specs.declared.Appender.{Appender}
 use Rattle.append.specs.declared.Tail.the-variants.{At}
 use Rattle.append.specs.Calls.{mayWrite, AppCall, appendCall, roomCall}
-use Rattle.store.specs.Reading.{mountCall, findCall}
-use Rattle.store.specs.Writing.{formatCall, oldestCall}
+use Rattle.store.specs.Reading.{mountCall, findCall, listCall, readerCall}
+use Rattle.store.specs.Writing.{formatCall, deleteCall, oldestCall}
+use Rattle.store.specs.Opening.{createCall, openCall}
 
 -- n bytes `a`
 abbrev pub letters : ℕ → List ℕ
@@ -48,6 +49,22 @@ pub record Ready (vol : List ℕ) (m : Medium) (st : Store) (ap : Appender) : Ty
   pub room : index < st .head .chunk
   pub left : 1 ≤ m .left
 
+-- every call that takes a name refuses this one with 1
+pub record NameRefused (vol : List ℕ) (m : Medium) (st : Store) (name : List ℕ) : Type 0 where
+  pub create : (rolls : Bool) (dir : List ℕ) → createCall vol m st name rolls dir .call .answer ≡ refused 1
+  pub open-append : (rolls : Bool) (dir : List ℕ) → openCall vol m st name rolls dir .call .answer ≡ refused 1
+  pub find : findCall vol m st name .answer ≡ refused 1
+  pub reader : readerCall vol m st name .answer ≡ refused 1
+  pub delete : deleteCall vol m st name .call .answer ≡ refused 1
+
+-- every call that takes a directory refuses this one with 1: create and open_append where it is their rollover's, list where its buffers are long enough,
+-- since 2 comes first
+pub record DirRefused (vol : List ℕ) (m : Medium) (st : Store) (dir : List ℕ) : Type 0 where
+  pub create : (name : List ℕ) → createCall vol m st name true dir .call .answer ≡ refused 1
+  pub open-append : (name : List ℕ) → openCall vol m st name true dir .call .answer ≡ refused 1
+  pub delete-oldest : oldestCall vol m st dir .call .answer ≡ refused 1
+  pub list : (counts rows : List ℕ) → 64 ≤ length counts → 3072 ≤ length rows → listCall vol m st dir counts rows .answer ≡ refused 1
+
 pub record Starred : Type 0 where
   -- empty name: 1; empty directory: root
   pub empty-name : nameOk [] ≡ false
@@ -64,9 +81,9 @@ pub record Starred : Type 0 where
   pub forty-one-dir : dirOk (letters 40 ++ (47 ∷ [])) ≡ false
   -- and that is 1: a name or a directory that fails its rule, of a store value that passes
   pub bad-name : (vol : List ℕ) (m : Medium) (st : Store) (name : List ℕ) → storeOk st (sectorsOf vol) ≡ true → nameOk name ≡ false
-      → findCall vol m st name .answer ≡ refused 1
+      → NameRefused vol m st name
   pub bad-dir : (vol : List ℕ) (m : Medium) (st : Store) (dir : List ℕ) → storeOk st (sectorsOf vol) ≡ true → dirOk dir ≡ false
-      → oldestCall vol m st dir .call .answer ≡ refused 1
+      → DirRefused vol m st dir
   -- size 512, S 575: 2; 576: one chunk
   pub small : (vol : List ℕ) (m : Medium) (seed : ℕ) → headersOf vol m .outcome ≡ Done → sectorsOf vol ≡ 575
       → formatCall vol m 512 seed .call .answer ≡ refused 2

@@ -1,0 +1,104 @@
+-- Where the store value is current, every sector reads and enough writes are left, a commit is done, whatever the other copy is; and it takes at most a
+-- write for each body sector, and two. Assumes nothing.
+use Prim.Native.Nat.{ℕ, zero, suc, _+_, _-_, _^_, _≤_, _<_}
+use mathlib.Core.Path.{_≡_, refl, sym, ap, subst, _∙_}
+use mathlib.Core.Bool.{false}
+use mathlib.Core.List.{List}
+use native.Mathlib.Omega.{arith}
+use lib.ListN.{length}
+use Rattle.le.proofs.Choices.{pick-keeps, pick-false}
+use Rattle.medium.specs.declared.Medium.{Medium}
+use Rattle.medium.specs.declared.Outcome.{Outcome}
+use Rattle.medium.specs.declared.Outcome.the-variants.{Done}
+use Rattle.medium.specs.Sector.{Readable, WriteOut}
+use Rattle.medium.proofs.Laws.{onDone-done}
+use Rattle.medium.specs.Frame.{Kept}
+use Rattle.medium.proofs.Frame.{kept-more, kept-wide, write-spends, write-kept}
+use Rattle.handles.specs.declared.Header.{Header}
+use Rattle.handles.specs.declared.Store.{Store}
+use Rattle.handles.specs.Handles.{bodyOf, baseOf}
+use Rattle.handles.proofs.Laws.{base-most}
+use Rattle.header.specs.Header.{encodeOf}
+use Rattle.plan.specs.declared.Edit.{Edit}
+use Rattle.plan.specs.Edit.{headAfter}
+use Rattle.plan.specs.Copy.{Plan, Move, unread, matched, put, bad, BodyOut, Out, isFormat, dueMove, moveOf, actOf, bodySectorOf, bodyFrom, lastOf, firstOf, copyOut}
+use Rattle.plan.proofs.Keeps.{Stays, sector-stays, ready-still}
+use Rattle.commit.specs.Commit.{commitPlan, commitOf}
+use Rattle.safe.specs.Copy.{target, bodyCount, Good}
+use Rattle.safe.specs.Inv.{Inv, planOf}
+use Rattle.safe.proofs.Moves.{move-before, good-ready}
+use Rattle.safe.proofs.Invs.{inv-check}
+use Rattle.safe.proofs.Commit.{plan-good}
+use Rattle.power.proofs.Spends.{write-some}
+use Rattle.power.proofs.FirstCommit.{commit-is}
+
+-- done, by at most n writes
+abbrev pub Within : ℕ → Medium → Outcome → Medium → Type 0
+Within n m o u = (o ≡ Done) × (m .left ≤ u .left + n)
+
+-- a move that is no refusal
+abbrev Fine : Move → Type 0
+Fine unread = Unit {0}
+Fine (matched c) = Unit {0}
+Fine (put c bytes) = Unit {0}
+Fine (bad e) = ⊥
+
+act-within : (p : Plan) (mv : Move) (v : List ℕ) (u : Medium) (h : Header) (k : ℕ) → Fine mv → 1 ≤ u .left
+    → Within 1 u (actOf p mv v u h k .ans .outcome) (actOf p mv v u h k .ans .medium)
+unfolding actOf
+act-within p unread v u h k f l = (refl, omega arith)
+act-within p (matched c) v u h k f l = (refl, omega arith)
+act-within p (put c bytes) v u h k f l = let w = write-some v u (baseOf (p .copy) + 1 + k) bytes l in (w .0, omega (arith, w .1))
+act-within p (bad e) v u h k f l = absurd f
+
+module _ (p : Plan) (vol : List ℕ) (m : Medium) (good : Good p vol) (fine : (k : ℕ) → k < bodyCount p → Fine (moveOf p vol m k)) where
+  sector-within : (v : List ℕ) (u : Medium) (h : Header) (k : ℕ) → k < bodyCount p → Kept (target p) 25 vol v → u .unreadable ≡ m .unreadable → 1 ≤ u .left
+      → Within 1 u (bodySectorOf p v u h k .ans .outcome) (bodySectorOf p v u h k .ans .medium)
+  unfolding bodySectorOf
+  sector-within v u h k l kept same some =
+      act-within p (moveOf p v u k) v u h k
+      (subst Fine (sym (move-before p vol good k (omega (arith, good .chunks)) kept m u same)) (fine k l)) some
+
+  body-within : (n k : ℕ) (v : List ℕ) (u : Medium) (h : Header) → k + n ≤ bodyCount p → Kept (target p) 25 vol v → u .unreadable ≡ m .unreadable → n ≤ u .left
+      → Within n u (bodyFrom p n k v u h .ans .outcome) (bodyFrom p n k v u h .ans .medium)
+  unfolding bodyFrom
+  body-within zero k v u h fits kept same l = (refl, omega arith)
+  body-within (suc n) k v u h fits kept same l =
+      let s : BodyOut = bodySectorOf p v u h k in
+      let few : k < 24 = omega (arith, good .chunks) in
+      let d = sector-within v u h k (omega arith) kept same (omega arith) in
+      let stays : Stays p k 1 v u h s = sector-stays p v u h k (ready-still p vol v (kept .size) (good-ready good)) few in
+      let more = body-within n (k + 1) (s .vol) (s .ans .medium) (s .ans .head) (omega arith) (kept-more kept (kept-wide (omega arith) (omega arith) (stays .frame)))
+      (stays .medium .unreadable ∙ same) (omega (arith, d .1)) in
+      rw (onDone-done (bodyFrom p n (k + 1) (s .vol) (s .ans .medium) (s .ans .head)) (λ e. s) (d .0)) (more .0, omega (arith, d .1, more .1))
+
+  copy-within : bodyCount p + 2 ≤ m .left → Within (bodyCount p + 2) m (copyOut p vol m .ans .outcome) (copyOut p vol m .ans .medium)
+  unfolding copyOut lastOf
+  copy-within l =
+      let z : WriteOut = firstOf p vol m in
+      let b : BodyOut = bodyFrom p (bodyCount p) 0 (z .vol) (z .ans .medium) (p .head) in
+      let s = write-some vol m (target p) (p .first) (omega arith) in
+      let kept : Kept (target p) 1 vol (z .vol) = write-kept vol m (target p) (p .first) (good .first) (omega (arith, base-most (p .copy), good .enough)) in
+      let t = body-within (bodyCount p) 0 (z .vol) (z .ans .medium) (p .head) (omega arith) (kept-wide (omega arith) (omega arith) kept)
+      (write-spends vol m (target p) (p .first) .unreadable) (omega (arith, s .1)) in
+      let w = write-some (b .vol) (b .ans .medium) (target p) (encodeOf (b .ans .head)) (omega (arith, s .1, t .1)) in
+      let x = onDone-done _ _ (s .0) ∙ onDone-done _ _ (t .0) ∙ onDone-done _ _ (w .0) in
+      (ap (λ (o : Out). o .ans .outcome) x, rw (ap (λ (o : Out). o .ans .medium .left) x) (omega (arith, s .1, t .1, w .1)))
+
+-- the body has its checksums and reads, so no move is a refusal
+module _ (edit : Edit) (name vol : List ℕ) (m : Medium) (st : Store) (inv : Inv vol st) (r : Readable vol m) (plain : isFormat edit ≡ false) where
+  due-fine : (k : ℕ) (bytes : List ℕ) → Fine (dueMove (planOf edit name vol m st) k bytes)
+  unfolding dueMove
+  due-fine k bytes = pick-keeps Fine _ _ _ tt tt
+
+  moves-fine : (k : ℕ) → k < bodyOf (st .head .chunks) → Fine (moveOf (planOf edit name vol m st) vol m k)
+  unfolding moveOf commitPlan
+  moves-fine k l =
+      subst Fine (sym (pick-false _ _ plain))
+      (pick-keeps Fine _ _ _ tt (subst Fine (sym (onDone-done _ _ (inv-check vol m st inv r k l))) (due-fine k _)))
+
+  pub commit-within : length name ≤ 40 → (st .head .generation ≡ 2 ^ 64 - 1 → ⊥) → bodyOf (st .head .chunks) + 2 ≤ m .left
+      → Within (bodyOf (st .head .chunks) + 2) m (commitOf edit name vol m st .ans .outcome) (commitOf edit name vol m st .ans .medium)
+  unfolding commitPlan headAfter
+  commit-within short less l =
+      rw (commit-is edit name vol m st inv r less) (copy-within (planOf edit name vol m st) vol m (plan-good edit name vol m st inv short) moves-fine l)

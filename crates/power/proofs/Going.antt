@@ -1,0 +1,82 @@
+-- The oldest file of a directory removed, where one may go and enough writes and generations are left: it goes. Assumes nothing.
+use Prim.Native.Nat.{ℕ, _+_, _-_, _^_, _≤_, _<_}
+use mathlib.Core.Path.{_≡_, refl, sym, ap, subst, _∙_}
+use mathlib.Core.Bool.{Bool, true, false}
+use mathlib.Core.List.{List, []}
+use lib.Dec.{lit≤}
+use Rattle.le.specs.Part.{part}
+use Rattle.le.proofs.Choices.{pick-true}
+use Rattle.medium.specs.declared.Medium.{Medium}
+use Rattle.medium.specs.declared.Outcome.the-variants.{Done}
+use Rattle.medium.specs.Sector.{Readable}
+use Rattle.medium.proofs.Laws.{onDone-done}
+use Rattle.handles.specs.declared.Header.{Header}
+use Rattle.handles.specs.declared.Store.{Store}
+use Rattle.handles.specs.Handles.{bodyOf}
+use Rattle.directory.specs.declared.Old.{Old}
+use Rattle.directory.specs.declared.OldestFile.the-variants as oldest
+use Rattle.directory.specs.Entry.{entryAt}
+use Rattle.directory.specs.Scan.{oldestOf}
+use Rattle.plan.specs.declared.Edit.the-variants.{Remove}
+use Rattle.plan.specs.Edit.{headAfter}
+use Rattle.plan.specs.Copy.{isFormat, Out}
+use Rattle.commit.specs.Commit.{commitOf}
+use Rattle.commit.proofs.Keeps.{commit-keeps}
+use Rattle.remove.specs.Remove.{closedFor, removeOf, GoneOut, goneOf, oldestGone, removeOldestOf}
+use Rattle.layout.specs.Views.{named, diskOf}
+use Rattle.layout.specs.Segments.{Segment}
+use Rattle.folds.proofs.Oldest.{Goes, Olds, oldest-view}
+use Rattle.power.specs.Book.{Book}
+use Rattle.power.proofs.Whole.{Whole}
+use Rattle.power.proofs.Checks.{inv-checked}
+use Rattle.power.proofs.Enough.{Within, commit-within}
+
+-- a file went, by at most the writes of a commit: the shape is as it was, with a generation more
+pub record Goer (m : Medium) (st : Store) (g : GoneOut) : Type 0 where
+  pub within : Within (bodyOf (st .head .chunks) + 2) m (g .ans .outcome) (g .ans .medium)
+  pub any : g .ans .any ≡ true
+  pub chunks : g .ans .store .head .chunks ≡ st .head .chunks
+  pub size : g .ans .store .head .chunk ≡ st .head .chunk
+  pub generation : g .ans .store .head .generation ≡ st .head .generation + 1
+
+not-format : (s : ℕ) → isFormat (Remove s) ≡ false
+unfolding isFormat
+not-format s = refl
+
+module _ (vol : List ℕ) (m : Medium) (st : Store) (G : ℕ → List Segment) (b : Book) (w : Whole vol st G b) (r : Readable vol m)
+    (gens : st .head .generation ≡ 2 ^ 64 - 1 → ⊥) (enough : bodyOf (st .head .chunks) + 2 ≤ m .left) where
+  abbrev commit : ℕ → Out
+  commit slot = commitOf (Remove slot) [] vol m st
+
+  within : (slot : ℕ) → Within (bodyOf (st .head .chunks) + 2) m (commit slot .ans .outcome) (commit slot .ans .medium)
+  within slot = commit-within (Remove slot) [] vol m st (w .inv) r (not-format slot) (lit≤ tt) gens enough
+
+  remove-is : (slot id : ℕ) → removeOf vol m st slot id ≡ record {
+    vol = commit slot .vol;
+    ans = record { outcome = Done; medium = commit slot .ans .medium; store = closedFor id (commit slot .ans .store) };
+    skipped = commit slot .skipped;
+  }
+  unfolding removeOf
+  remove-is slot id = onDone-done _ _ (within slot .0)
+
+  goer : (name : List ℕ) (len slot id : ℕ) → Goer m st (goneOf name len (removeOf vol m st slot id))
+  unfolding goneOf headAfter
+  goer name len slot id =
+      let k = commit-keeps (Remove slot) [] vol m st (w .inv .ok) (w .inv .range .count) (lit≤ tt) in
+      let h = k .accepted (within slot .0) .1 in
+      subst (Goer m st) (sym (ap (goneOf name len) (remove-is slot id) ∙ onDone-done _ _ refl))
+      (record { within = (refl, within slot .1); any = refl; chunks = k .chunks; size = k .chunk; generation = ap (λ (x : Header). x .generation) h })
+
+  module _ (dir : List ℕ) (keeping : Bool) (kept : ℕ) where
+    pub oldest-goes : (s : ℕ) → s < 64 → (name : List ℕ) (id : ℕ) → diskOf vol st .entry s ≡ named name id → Goes dir keeping kept name id
+        → Goer m st (removeOldestOf vol m st dir keeping kept)
+    unfolding removeOldestOf oldestGone
+    oldest-goes s h name id e goes =
+        let f = oldest-view vol m st (inv-checked m (w .inv) r) G (w .good) dir keeping kept in
+        go (f .0) (f .1) (f .2) (f .0 .any) refl
+      where
+        go : (old : Old) → oldestOf vol m st dir keeping kept ≡ oldest.Done old → Olds vol st dir keeping kept 64 old → (t : Bool) → old .any ≡ t
+            → Goer m st (removeOldestOf vol m st dir keeping kept)
+        go old q p false t = absurd (p .none t s h name id e goes)
+        go old q p true t =
+            subst (Goer m st) (sym (ap (oldestGone vol m st) q ∙ pick-true _ _ t)) (goer (part 0 40 (entryAt vol st (old .slot))) (old .len) (old .slot) (old .id))

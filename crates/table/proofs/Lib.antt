@@ -1,5 +1,6 @@
 pub mod Numbers
 pub mod Walks
+pub mod Last
 pub mod Nearest
 pub mod Clears
 pub mod Edges

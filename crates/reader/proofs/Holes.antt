@@ -22,7 +22,7 @@ use Rattle.reader.specs.declared.Next.the-variants as found
 use Rattle.reader.specs.declared.Taken.{Taken}
 use Rattle.reader.specs.Next.{isLast, limitOf, arriveOf, recordHere, searchOf, holeOf, NextOut, takeOf, nextOf}
 use Rattle.reader.proofs.Facts.{Reads}
-use Rattle.reader.proofs.Moves.{Arrives, arrive-reads}
+use Rattle.reader.proofs.Moves.{arrive-reads}
 use Rattle.reader.proofs.Finds.{Search, search-range, onSearched-keeps}
 
 module _ (vol : List ℕ) (m : Medium) (st : Store) (rd : Reader) where
@@ -96,5 +96,6 @@ module _ (vol : List ℕ) (m : Medium) (st : Store) (rd : Reader) (out : List �
   pub next-hole : {a b : ℕ} → nextOf vol m st rd out .ans .next ≡ found.Hole a b → HoleIs vol m st (came .reader) a b
   next-hole e = subst (Tells vol m st (came .reader) (came .more)) e next-tells
 
-  pub next-last : nextOf vol m st rd out .ans .next ≡ found.End → came .more ≡ true → (isLast (came .reader .end) ≡ true) × (Invalid vol m st (came .reader) (limit vol m st (came .reader)))
+  pub next-last : nextOf vol m st rd out .ans .next ≡ found.End → came .more ≡ true
+      → (isLast (came .reader .end) ≡ true) × (Invalid vol m st (came .reader) (limit vol m st (came .reader)))
   next-last e = subst (Tells vol m st (came .reader) (came .more)) e next-tells

@@ -68,7 +68,8 @@ module _ (vol : List ℕ) (m : Medium) (st : Store) (slot : ℕ) where
     met = go (higher l s) refl
       where
         go : (b : Bool) → higher l s ≡ b
-            → Largest (n + 1) (record { count = s .count + 1; first = firstStep n l (s .first); top = pick b (l .position) (s .top); last = pick b n (s .last) })
+            → Largest (n + 1)
+            (record { count = s .count + 1; first = firstStep n l (s .first); top = pick b (l .position) (s .top); last = pick b n (s .last) })
         go true t =
             record {
               none = λ z. absurd (omega arith);
@@ -110,7 +111,7 @@ module _ (vol : List ℕ) (m : Medium) (st : Store) (slot : ℕ) where
   unfolding chainOf chainEnd
   last-ok =
       table-keeps (chainV slot) vol m st Largest LastOk
-      (λ k t e p. tt)
+      (λ k t e p q. tt)
       (λ k t p q. unchanged k link.Past q (λ l e o. let z : _≡_ {A = ℕ} 0 1 = cc in omega arith) t p)
       (λ k t p h q. unchanged k link.Free q (λ l e o. let z : _≡_ {A = ℕ} 0 1 = cc in omega arith) t p)
       (λ k l t p h d q. met-or-not k l t p q)

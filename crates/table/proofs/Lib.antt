@@ -5,3 +5,4 @@ pub mod Nearest
 pub mod Clears
 pub mod Edges
 pub mod Decides
+pub mod Stale

@@ -15,7 +15,8 @@ use Rattle.medium.specs.declared.Medium.{Medium}
 use Rattle.medium.specs.declared.Outcome.the-variants.{Done}
 use Rattle.medium.specs.Sector.{sectorsOf, WriteOut}
 use Rattle.medium.proofs.Laws.{onDone-keeps, not-done}
-use Rattle.medium.proofs.Frame.{write-spends, write-kept}
+use Rattle.medium.specs.Frame.{Kept}
+use Rattle.medium.proofs.Frame.{kept-rest, write-spends, write-kept}
 use Rattle.handles.specs.declared.Store.{Store}
 use Rattle.handles.specs.Handles.{isOpen, openId}
 use Rattle.handles.proofs.Laws.{Held, store-facts}
@@ -119,10 +120,13 @@ module _ (vol : List ℕ) (m : Medium) (st : Store) (a : Appender) (good : Good 
       let bytes : List ℕ = recordOf (st .head .id) (a .id) number payload in
       let n : length bytes ≡ 512 = length-record (st .head .id) (a .id) number payload (payload-short (a .fill) (a .buffer) (fit .fill)) in
       let w : WriteOut = writeRecordOf vol m st (a .id) (a .chunk) index number payload in
-      let size : length (w .vol) ≡ length vol = write-kept vol m at bytes n (data-inside st (a .chunk) index (sectorsOf vol) (fit .chunk) h (held .head .room)) .size in
+      let inside : at < sectorsOf vol = data-inside st (a .chunk) index (sectorsOf vol) (fit .chunk) h (held .head .room) in
+      let kept : Kept at 1 vol (w .vol) = write-kept vol m at bytes n inside in
+      let size : length (w .vol) ≡ length vol = kept .size in
       let k : Stands vol m st (w .vol) (w .ans .medium) st =
       record {
         size = size;
+        rest = kept-rest (omega arith) kept;
         medium = write-spends vol m at bytes;
         good = record { ok = rw size (good .ok); count = good .count };
         id = refl;

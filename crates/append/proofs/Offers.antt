@@ -13,7 +13,7 @@ use Rattle.medium.specs.declared.Outcome.the-variants.{Done, No}
 use Rattle.medium.specs.Sector.{sectorsOf}
 use Rattle.medium.proofs.Laws.{onDone-keeps, onDone-no, onDone-done}
 use Rattle.medium.specs.Frame.{Spends}
-use Rattle.medium.proofs.Frame.{spends-none}
+use Rattle.medium.proofs.Frame.{restOf, spends-none}
 use Rattle.handles.specs.declared.Store.{Store}
 use Rattle.handles.specs.Handles.{storeOk}
 use Rattle.remove.proofs.Keeps.{Good, Stands}
@@ -84,3 +84,22 @@ module _ (vol : List ℕ) (m : Medium) (st : Store) (a : Appender) (good : Good 
   pub sync-hands : Hands vol m st a (syncCall vol m st a)
   unfolding syncCall
   sync-hands = hands (syncOf vol m st a) (λ y. (sync-puts vol m st a good (y .fit) (y .room), sync-owned vol m st a good))
+
+-- ---- the bytes past the last whole sector are as they were, accepted, refused or stopped, whatever the handles (a header's checksums are 24 and an
+-- appender's bytes 486 by their types)
+
+module _ (vol : List ℕ) (m : Medium) (st : Store) (a : Appender) (count : length (st .head .crcs) ≡ 24) (full : length (a .buffer) ≡ 486) where
+  rests : (o : AppOut) → (Good vol st → May vol st a → Puts vol m st o) → restOf (offered vol m st a o .vol) ≡ restOf vol
+  unfolding offered
+  rests o f =
+      onDone-keeps (λ (c : AppCall). restOf (c .vol) ≡ restOf vol) (mayWrite vol st a) _ _
+      (λ q. let y : May vol st a = may-facts vol st a full q in f (record { ok = y .ok; count = count }) y .goes .0 .rest)
+      (λ _ _. refl)
+
+  pub append-rest : (bytes : List ℕ) → restOf (appendCall vol m st a bytes .vol) ≡ restOf vol
+  unfolding appendCall
+  append-rest bytes = rests (appendOf bytes vol m st a) (λ g y. append-puts bytes vol m st a g (y .fit) (y .room))
+
+  pub sync-rest : restOf (syncCall vol m st a .vol) ≡ restOf vol
+  unfolding syncCall
+  sync-rest = rests (syncOf vol m st a) (λ g y. sync-puts vol m st a g (y .fit) (y .room))

@@ -17,11 +17,11 @@ use Rattle.medium.specs.declared.Outcome.the-variants.{Done, No}
 use Rattle.medium.specs.Sector.{sectorsOf}
 use Rattle.medium.proofs.Laws.{onDone-keeps, not-done}
 use Rattle.medium.specs.Frame.{Spends}
-use Rattle.medium.proofs.Frame.{spends-none}
+use Rattle.medium.proofs.Frame.{restOf, kept-rest, spends-none}
 use Rattle.handles.specs.declared.Header.{Header}
 use Rattle.handles.specs.declared.Store.{Store}
 use Rattle.handles.specs.Handles.{saneOf, storeOk}
-use Rattle.handles.proofs.Laws.{Sane, Held, store-facts}
+use Rattle.handles.proofs.Laws.{base-most, Sane, Held, store-facts}
 use Rattle.header.specs.declared.answers.Current.{Current}
 use Rattle.header.specs.Copies.{currentOf}
 use Rattle.header.specs.Header.{withCrcs}
@@ -86,6 +86,7 @@ ok-from st sectors c s = rw (lt-ltb _ _ c) s
 
 pub record Kept (edit : Edit) (vol : List ℕ) (m : Medium) (st : Store) (o : Out) : Type 0 where
   pub size : length (o .vol) ≡ length vol
+  pub rest : restOf (o .vol) ≡ restOf vol
   pub medium : Spends m (o .ans .medium)
   pub ok : storeOk (o .ans .store) (sectorsOf (o .vol)) ≡ true
   pub copy : o .ans .store .copy < 2
@@ -98,10 +99,12 @@ pub record Kept (edit : Edit) (vol : List ℕ) (m : Medium) (st : Store) (o : Ou
   pub accepted : o .ans .outcome ≡ Done → (o .ans .store .copy ≡ 1 - st .copy) × (o .ans .store .head ≡ withCrcs (headAfter edit (st .head)) (o .ans .store .head .crcs))
 
 module _ (edit : Edit) (name vol : List ℕ) (m : Medium) (st : Store) (ok : storeOk st (sectorsOf vol) ≡ true) (count : length (st .head .crcs) ≡ 24) where
-  old : (o : Out) {e : Error} → length (o .vol) ≡ length vol → Spends m (o .ans .medium) → o .ans .store ≡ st → o .ans .outcome ≡ No e → Kept edit vol m st o
-  old o t u s q =
+  old : (o : Out) {e : Error} → length (o .vol) ≡ length vol → restOf (o .vol) ≡ restOf vol → Spends m (o .ans .medium) → o .ans .store ≡ st
+      → o .ans .outcome ≡ No e → Kept edit vol m st o
+  old o t r u s q =
       record {
         size = t;
+        rest = r;
         medium = u;
         ok = rw (t, s) ok;
         copy = rw s (store-facts st (sectorsOf vol) ok .copy);
@@ -118,8 +121,11 @@ module _ (edit : Edit) (name vol : List ℕ) (m : Medium) (st : Store) (ok : sto
   unfolding commitPlan headAfter
   copied c o k = go (o .ans .outcome) refl
     where
+      past : restOf (o .vol) ≡ restOf vol
+      past = kept-rest (omega (arith, base-most (1 - st .copy), store-facts st (sectorsOf vol) ok .enough)) (k .frame)
+
       go : (r : Outcome) → o .ans .outcome ≡ r → Kept edit vol m st o
-      go (No e) q = old o (k .frame .size) (k .medium) (k .refused e q) q
+      go (No e) q = old o (k .frame .size) past (k .medium) (k .refused e q) q
       go Done q =
           let f : Held st (sectorsOf vol) = store-facts st (sectorsOf vol) ok in
           let n : o .ans .store .head ≡ withCrcs (headAfter edit (st .head)) (o .ans .store .head .crcs) = k .numbers q in
@@ -127,6 +133,7 @@ module _ (edit : Edit) (name vol : List ℕ) (m : Medium) (st : Store) (ok : sto
           let p : o .ans .store .copy < 2 = rw (k .copy q) (omega arith) in
           record {
             size = k .frame .size;
+            rest = past;
             medium = k .medium;
             ok = rw (k .frame .size) (ok-from (o .ans .store) (sectorsOf vol) p s);
             copy = p;
@@ -147,7 +154,7 @@ module _ (edit : Edit) (name vol : List ℕ) (m : Medium) (st : Store) (ok : sto
       let same : Spends m m = spends-none m in
       onDone-keeps (Kept edit vol m st) (c .outcome) _ _
       (λ _. pick-keeps (Kept edit vol m st) (isCurrent c st) _ _
-      (pick-keeps (Kept edit vol m st) (eqb (st .head .generation) (2 ^ 64 - 1)) _ _ (old _ refl same refl refl)
+      (pick-keeps (Kept edit vol m st) (eqb (st .head .generation) (2 ^ 64 - 1)) _ _ (old _ refl refl same refl refl)
       (copied c _ (copy-copied (commitPlan c edit name st) vol m (record { short = short; enough = f .enough }) (f .head .chunks-most) count (length-zeros 512))))
-      (old _ refl same refl refl))
-      (λ _ _. old _ refl same refl refl)
+      (old _ refl refl same refl refl))
+      (λ _ _. old _ refl refl same refl refl)

@@ -2,3 +2,4 @@ pub mod Absent
 pub mod Steps
 pub mod Commits
 pub mod Keeps
+pub mod Current

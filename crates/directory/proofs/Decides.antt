@@ -9,10 +9,10 @@ use Rattle.directory.specs.declared.Looked.the-variants as looked
 use Rattle.directory.specs.declared.Seen.{Seen}
 use Rattle.directory.specs.Scan.{onFound, onLooked}
 
-pub onFound-keeps : {A : Type 0} (P : A → Type 0) (x : Found) (f : Error → A) (g : ℕ → ℕ → A) → ((e : Error) → P (f e))
+pub onFound-keeps : {A : Type 0} (P : A → Type 0) (x : Found) (f : Error → A) (g : ℕ → ℕ → A) → ((e : Error) → x ≡ found.Refused e → P (f e))
     → ((slot id : ℕ) → x ≡ found.At slot id → P (g slot id)) → P (onFound x f g)
 unfolding onFound
-onFound-keeps P (found.Refused e) f g p q = p e
+onFound-keeps P (found.Refused e) f g p q = p e refl
 onFound-keeps P (found.At slot id) f g p q = q slot id refl
 
 pub onLooked-keeps : {A : Type 0} (P : A → Type 0) (x : Looked) (f : Error → A) (g : Seen → A) → ((e : Error) → P (f e))

@@ -6,3 +6,4 @@ pub mod RowParts
 pub mod Ranges
 pub mod Edges
 pub mod Decides
+pub mod Stale

@@ -83,7 +83,7 @@ module _ (vol : List ℕ) (m : Medium) (st : Store) where
   unfolding findOf
   find-name name e =
       subst (FindQ name) e
-      (scan-keeps (finding name) vol m st (λ i t. Unit) (FindQ name) (λ i t e h p. tt) (λ i t h p q. tt)
+      (scan-keeps (finding name) vol m st (λ i t. Unit) (FindQ name) (λ i t e h p q. tt) (λ i t h p q. tt)
       (λ i t id len h p q.
       pick-keeps-by (Left (λ u. Unit) (FindQ name)) (sameBytes name (part 0 len (entryAt vol st i))) _ _
       (λ same. rw (same-true name (part 0 len (entryAt vol st i)) same) (file-at vol m st i id len h q))
@@ -111,7 +111,7 @@ module _ (vol : List ℕ) (m : Medium) (st : Store) where
   unfolding lookOf
   look-free name e =
       subst LookQ e
-      (scan-keeps (looking name) vol m st (λ i s. LookP s) LookQ (λ i s e h p. tt)
+      (scan-keeps (looking name) vol m st (λ i s. LookP s) LookQ (λ i s e h p q. tt)
       (λ i s h p q. free-kept i s (record { below = h; entry = slot-free vol m st i q }) p)
       (λ i s id len h p q. file-kept _ s p) (λ s p. p) _ (λ no. absurd (false≢true no)))
 
@@ -147,7 +147,7 @@ module _ (vol : List ℕ) (m : Medium) (st : Store) where
     unfolding oldestOf
     oldest-file e =
         subst OldQ e
-        (scan-keeps (seeking dir keeping keep) vol m st (λ i o. OldP o) OldQ (λ i o e h p. tt) (λ i o h p q. p)
+        (scan-keeps (seeking dir keeping keep) vol m st (λ i o. OldP o) OldQ (λ i o e h p q. tt) (λ i o h p q. p)
         (λ i o id len h p q. old-kept i id (part 0 len (entryAt vol st i)) o (file-at vol m st i id len h q) p) (λ o p. p) _ (λ no. absurd (false≢true no)))
 
   -- ---- the rows
@@ -179,7 +179,7 @@ module _ (vol : List ℕ) (m : Medium) (st : Store) where
     pub rows-made : (dir counts : List ℕ) → MadeFrom rows 64 (rowsOf vol m st dir counts rows .made)
     unfolding rowsOf
     rows-made dir counts =
-        scan-keeps (listing dir counts) vol m st (MadeFrom rows) (λ r. MadeFrom rows 64 (r .made)) (λ i s e h p. most (omega arith) p) (λ i s h p q. more p)
+        scan-keeps (listing dir counts) vol m st (MadeFrom rows) (λ r. MadeFrom rows 64 (r .made)) (λ i s e h p q. most (omega arith) p) (λ i s h p q. more p)
         (λ i s id len h p q.
         pick-keeps (MadeFrom rows (i + 1)) (inDir dir (part 0 len (entryAt vol st i))) _ _
         (row-kept i id _ (part 0 len (entryAt vol st i)) s h (file-at vol m st i id len h q .short) p) (more p))

@@ -26,12 +26,12 @@ Left P Q (next t) = P t
 Left P Q (stop r) = Q r
 
 module _ {S R : Type 0} (v : Visitor S R) (vol : List ℕ) (m : Medium) (st : Store) (P : ℕ → S → Type 0) (Q : R → Type 0)
-    (refuses : (i : ℕ) (t : S) (e : Error) → i < 64 → P i t → Q (v .refuse e t))
+    (refuses : (i : ℕ) (t : S) (e : Error) → i < 64 → P i t → slotAt vol m st i ≡ slot.Refused e → Q (v .refuse e t))
     (frees : (i : ℕ) (t : S) → i < 64 → P i t → slotAt vol m st i ≡ slot.Free → Left (P (i + 1)) Q (v .free i t))
     (files : (i : ℕ) (t : S) (id len : ℕ) → i < 64 → P i t → slotAt vol m st i ≡ slot.File id len → Left (P (i + 1)) Q (v .file i id (part 0 len (entryAt vol st i)) t))
     (ends : (t : S) → P 64 t → Q (v .done t)) where
   visit : (i : ℕ) (t : S) → i < 64 → P i t → (x : Slot) → slotAt vol m st i ≡ x → Left (P (i + 1)) Q (onSlot v (entryAt vol st) i t x)
-  visit i t h p (slot.Refused e) q = refuses i t e h p
+  visit i t h p (slot.Refused e) q = refuses i t e h p q
   visit i t h p slot.Free q = frees i t h p q
   visit i t h p (slot.File id len) q = files i t id len h p q
 

@@ -5,6 +5,7 @@ pub mod Writes
 pub mod Ways
 pub mod Numbers
 pub mod Kept
+pub mod Stale
 pub mod Accepted
 pub mod Enough
 pub mod Edges

@@ -12,10 +12,13 @@ use Rattle.le.proofs.Bools.{and-true}
 use Rattle.medium.specs.declared.Medium.{Medium}
 use Rattle.medium.specs.declared.Outcome.{Outcome}
 use Rattle.medium.specs.declared.Outcome.the-variants.{Done}
+use Rattle.medium.specs.Sector.{readOf}
+use Rattle.medium.proofs.Laws.{onDone-keeps}
+use Rattle.medium.proofs.Stale.{NotStale, no-stale, read-not-stale}
 use Rattle.handles.specs.declared.Header.{Header}
 use Rattle.handles.specs.declared.Store.{Store}
 use Rattle.handles.specs.Handles.{baseOf, saneOf, storeOk}
-use Rattle.handles.specs.Body.{checkOf, dueOf}
+use Rattle.handles.specs.Body.{bodyAt, checkOf, dueOf}
 
 -- the product of two numbers of 32 bits, and 64 more, fit 64 bits
 pub product-fits : (a b : ℕ) → a < 2 ^ 32 → b < 2 ^ 32 → 64 + a * b < 2 ^ 64
@@ -81,3 +84,13 @@ store-facts st sectors e =
 pub due-done : (vol : List ℕ) (m : Medium) (st : Store) (enters : Bool) (k : ℕ) → checkOf vol m st k ≡ Done → dueOf vol m st enters k ≡ Done
 unfolding dueOf
 due-done vol m st enters k e = pick-keeps (λ (o : Outcome). o ≡ Done) enters _ _ e refl
+
+-- the check of a sector never gives 11
+pub check-not-stale : (vol : List ℕ) (m : Medium) (st : Store) (k : ℕ) → NotStale (checkOf vol m st k)
+unfolding checkOf
+check-not-stale vol m st k =
+    onDone-keeps NotStale (readOf m (bodyAt st k)) _ _ (λ _. pick-keeps NotStale _ _ _ tt refl) (λ e q. no-stale (read-not-stale m (bodyAt st k)) q)
+
+pub due-not-stale : (vol : List ℕ) (m : Medium) (st : Store) (enters : Bool) (k : ℕ) → NotStale (dueOf vol m st enters k)
+unfolding dueOf
+due-not-stale vol m st enters k = pick-keeps NotStale enters _ _ (check-not-stale vol m st k) tt

@@ -4,4 +4,5 @@ pub mod RoundTrip
 pub mod Ways
 pub mod Range
 pub mod Accepted
+pub mod Stale
 pub mod Edges

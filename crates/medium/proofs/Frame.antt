@@ -2,11 +2,13 @@
 use mathlib.Core.Path.{_≡_, refl, sym, ap, _∙_}
 use mathlib.Core.List.{List}
 use mathlib.Core.Logic.{_⊎_, inl, inr, ⊎-elim}
-use Prim.Native.Nat.{ℕ, _+_, _<_, _≤_}
+use Prim.Native.Nat.{ℕ, _+_, _*_, _<_, _≤_}
 use native.Mathlib.Nat.{le-refl, le-trans}
 use native.Mathlib.Omega.{arith}
 use lib.Dec.{eqb}
-use lib.ListN.{length}
+use lib.ListN.{length, drop, length-drop}
+use lib.Seq.{take-all}
+use Rattle.le.specs.Part.{part}
 use Rattle.le.proofs.Choices.{pick-keeps}
 use Rattle.medium.specs.declared.Error.{Error}
 use Rattle.medium.specs.declared.Medium.{Medium}
@@ -31,6 +33,18 @@ kept-wide {lo} {n} {lo′} {n′} a b k =
 -- as many sectors as before
 pub kept-sectors : {lo n : ℕ} {vol v : List ℕ} → Kept lo n vol v → sectorsOf v ≡ sectorsOf vol
 kept-sectors k = rw (k .size)
+
+-- the bytes past the last whole sector: what sector S has
+abbrev pub restOf : List ℕ → List ℕ
+restOf vol = drop (512 * sectorsOf vol) vol
+
+sector-rest : (vol : List ℕ) → sectorAt vol (sectorsOf vol) ≡ restOf vol
+unfolding sectorAt part
+sector-rest vol = take-all 512 (restOf vol) (simp length-drop (omega arith))
+
+-- writes below S leave them
+pub kept-rest : {lo n : ℕ} {vol v : List ℕ} → lo + n ≤ sectorsOf vol → Kept lo n vol v → restOf v ≡ restOf vol
+kept-rest {vol = vol} {v = v} h k = sym (sector-rest v) ∙ ap (sectorAt v) (kept-sectors k) ∙ k .same (sectorsOf vol) (inr h) ∙ sector-rest vol
 
 pub spends-none : (m : Medium) → Spends m m
 spends-none m = record { left = le-refl (m .left); unreadable = refl; entropy = refl; token = refl }

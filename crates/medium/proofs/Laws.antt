@@ -6,9 +6,9 @@ use Prim.Native.Nat.{ℕ, _+_, _-_, _*_, _<_, _≤_}
 use native.Mathlib.Nat.{zero-add}
 use native.Mathlib.Omega.{arith}
 use lib.ListN.{length, take, drop, length-take, length-drop}
-use lib.Seq.{drop-drop, drop-length}
+use lib.Seq.{drop-length}
 use Rattle.le.specs.Part.{part, over}
-use Rattle.le.proofs.Parts.{length-part, length-over, part-over, part-before, part-after, drop-over, over-back}
+use Rattle.le.proofs.Parts.{length-part, length-over, part-over, part-before, part-after, over-back}
 use Rattle.medium.specs.declared.Error.{Error}
 use Rattle.medium.specs.declared.Medium.{Medium}
 use Rattle.medium.specs.declared.Outcome.{Outcome}
@@ -41,13 +41,6 @@ module _ (vol : List ℕ) (k : ℕ) (bytes : List ℕ) (size : length bytes ≡ 
       ⊎-elim
       (λ (h : j < k). part-before (512 * k) bytes vol fits (512 * j) 512 (omega arith))
       (λ (h : k < j). part-after (512 * k) bytes vol fits (512 * j) 512 (rw size (omega arith)))
-
-  -- and so are the bytes past the last whole sector
-  pub rest-same : drop (512 * sectorsOf vol) (writeAt vol k bytes) ≡ drop (512 * sectorsOf vol) vol
-  unfolding writeAt
-  rest-same =
-      let e : 512 * sectorsOf vol ≡ 512 * k + length bytes + (512 * sectorsOf vol - (512 * k + length bytes)) = rw size (omega arith) in
-      rw (e, ← drop-drop (512 * sectorsOf vol - (512 * k + length bytes)) (512 * k + length bytes) (over (512 * k) bytes vol), drop-over (512 * k) bytes vol fits, drop-drop)
 
 -- a sector copied whole into a buffer of its size
 pub read-whole : (vol s : List ℕ) (k : ℕ) → k < sectorsOf vol → length s ≡ 512 → over 0 (take (512 * k + 512 - 512 * k) (drop (512 * k) vol)) s ≡ sectorAt vol k

@@ -73,7 +73,7 @@ module _ (w : World) (b : Book) (k : Keeps w b) (left : ℕ) where
 
     delete-stood : Stood t (leftBy w (deletion .vol) (deletion .call .medium) (deletion .call .store)) (deletion .steps)
     unfolding deleteCall
-    delete-stood = onDone-keeps StoodAs _ _ _ (λ d. onFound-keeps StoodAs _ _ _ refused-stood named-stood) (λ e d. refused-stood e)
+    delete-stood = onDone-keeps StoodAs _ _ _ (λ d. onFound-keeps StoodAs _ _ _ (λ e _. refused-stood e) named-stood) (λ e d. refused-stood e)
 
   -- ---- delete_oldest: the open file is spared
 

@@ -9,7 +9,6 @@ use borrow.Author.Tests.{eq-eqb, ne-eqb}
 use lib.Dec.{eqb}
 use lib.ListN.{length}
 use Rattle.le.proofs.Choices.{pick-true, pick-false, pick-keeps}
-use Rattle.runs.proofs.Tests.{same-self}
 use Rattle.checksum.specs.Crc.{crc32Of}
 use Rattle.medium.specs.declared.Error.the-variants.{Media}
 use Rattle.medium.specs.declared.Medium.{Medium}
@@ -26,7 +25,8 @@ use Rattle.header.proofs.Accepted.{copy-valid}
 use Rattle.plan.specs.declared.Edit.{Edit}
 use Rattle.plan.specs.Edit.{changesOf, headAfter}
 use Rattle.plan.specs.Copy.{Plan, isFormat, dueBytes, lists, dueMove, moveOf, BodyOut, bodyFrom, Out, lastOf, firstOf, copyOut}
-use Rattle.commit.specs.Commit.{sameHead, isCurrent, commitPlan, commitOf}
+use Rattle.commit.specs.Commit.{isCurrent, commitPlan, commitOf}
+use Rattle.commit.proofs.Current.{same-head}
 use Rattle.medium.specs.Sector.{sectorsOf, WriteOut, Readable}
 use Rattle.medium.specs.Frame.{Kept}
 use Rattle.medium.proofs.Frame.{kept-wide, write-spends, write-kept}
@@ -43,19 +43,6 @@ use Rattle.power.proofs.Spends.{write-some, write-media, AllPut, copy-e
 and-no : (a b : Bool) → b ≡ false → (a && b) ≡ false
 and-no true b e = e
 and-no false b e = refl
-
-same-head : (h : Header) → sameHead h h ≡ true
-unfolding sameHead
-same-head h =
-    rw (
-      eq-eqb (h .id) (h .id) refl,
-      eq-eqb (h .generation) (h .generation) refl,
-      eq-eqb (h .«next_id») (h .«next_id») refl,
-      eq-eqb (h .cursor) (h .cursor) refl,
-      eq-eqb (h .chunks) (h .chunks) refl,
-      eq-eqb (h .chunk) (h .chunk) refl,
-    )
-    (same-self (h .crcs))
 
 module _ (edit : Edit) (name vol : List ℕ) (m : Medium) (st : Store) (inv : Inv vol st) (r : Readable vol m) where
   abbrev other : ℕ

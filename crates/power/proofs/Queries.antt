@@ -47,7 +47,7 @@ module _ (vol : List ℕ) (m : Medium) (st : Store) where
   unfolding readerCall
   reader-medium name =
       onDone-keeps Same _ _ _
-      (λ _. onFound-keeps Same _ _ _ (λ e. refl) (λ slot id _. onChain-keeps Same _ _ _ (λ e. refl) (λ p _. refl)))
+      (λ _. onFound-keeps Same _ _ _ (λ e _. refl) (λ slot id _. onChain-keeps Same _ _ _ (λ e. refl) (λ p _. refl)))
       (λ _ _. refl)
 
   next-medium : (rd : Reader) (out : List ℕ) → nextCall vol m st rd out .medium ≡ m

@@ -119,7 +119,7 @@ pub delete-stopped : {w : World} {b : Book} → Keeps w b → (left : ℕ) (name
 unfolding ran deleteCall
 delete-stopped {w} k left name few =
     onDone-keeps None _ _ _
-    (λ _. onFound-keeps None _ _ _ (λ e. no-steps deleted (refusedOut (w .store) (w .vol) m e) refl)
+    (λ _. onFound-keeps None _ _ _ (λ e _. no-steps deleted (refusedOut (w .store) (w .vol) m e) refl)
     (λ slot id _. removed-none (w .vol) m (w .store) slot id (commit-few (Remove slot) [] (w .vol) m (w .store) (k .whole .inv) (lit≤ tt) few)))
     (λ e _. no-steps deleted (refusedOut (w .store) (w .vol) m e) refl)
   where

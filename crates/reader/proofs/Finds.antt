@@ -7,6 +7,7 @@ use Prim.Native.Nat.{ℕ, _+_, _-_, _*_, _≤_, _<_}
 use native.Mathlib.Nat.{le-refl, add-sub-cancel-left}
 use native.Mathlib.Omega.{arith}
 use borrow.Author.Tests.{eq-eqb}
+use borrow.Author.Count.{below-more}
 use lib.Dec.{eqb}
 use lib.ListN.{length, take, drop}
 use Rattle.le.specs.Choice.{pick}
@@ -14,7 +15,7 @@ use Rattle.le.specs.Part.{part, over}
 use Rattle.le.proofs.Choices.{pick-keeps-by}
 use Rattle.le.proofs.Parts.{length-part, length-over}
 use Rattle.le.proofs.Turns.{told}
-use Rattle.walk.specs.Walk.{stop, visits}
+use Rattle.walk.specs.Walk.{next, stop, visits}
 use Rattle.walk.proofs.Laws.{walk-keeps}
 use Rattle.medium.specs.declared.Error.{Error}
 use Rattle.medium.specs.declared.Medium.{Medium}
@@ -67,24 +68,49 @@ module _ (vol : List ℕ) (m : Medium) (st : Store) (rd : Reader) (i : ℕ) wher
 -- ---- the search
 
 module _ (vol : List ℕ) (m : Medium) (st : Store) (rd : Reader) (from limit : ℕ) where
-  -- what it finds lies between its start and the limit
+  -- it has come to k: no record before is valid
+  pub record Passed (k : ℕ) : Type 0 where
+    pub low : from ≤ k
+    pub before : (j : ℕ) → from ≤ j → j < k → recordHere vol m st rd j ≡ judged.Other
+
+  -- what it finds lies between its start and the limit, with no valid record before it; below the limit it is a valid one
+  pub record Search (i : ℕ) : Type 0 where
+    pub passed : Passed i
+    pub most : i ≤ limit
+    pub there : i < limit → (n : ℕ) × (recordHere vol m st rd i ≡ judged.Valid n)
+
   abbrev Within : Searched → Type 0
   Within (searched.Refused e) = Unit {0}
-  Within (searched.At i) = (from ≤ i) × (i ≤ limit)
+  Within (searched.At i) = Search i
 
-  stops : (k : ℕ) (s : Unit {0}) (j : Judged) (r : Searched) → k < limit → from ≤ k → searchStep k s j ≡ stop r → Within r
-  unfolding onJudged
-  stops k s (judged.Refused e) r h p q = let z : searched.Refused e ≡ r = cc in subst Within z tt
-  stops k s (judged.Valid n) r h p q = let z : searched.At k ≡ r = cc in subst Within z (p, omega arith)
-  stops k s judged.Other r h p q = absurd (let z : _≡_ {A = ℕ} 0 1 = cc in omega arith)
+  module _ (k : ℕ) (s : Unit {0}) (p : Passed k) where
+    goes : (j : Judged) (t : Unit {0}) → recordHere vol m st rd k ≡ j → searchStep k s j ≡ next t → Passed (k + 1)
+    unfolding onJudged
+    goes (judged.Refused e) t r q = absurd (let z : _≡_ {A = ℕ} 0 1 = cc in omega arith)
+    goes (judged.Valid n) t r q = absurd (let z : _≡_ {A = ℕ} 0 1 = cc in omega arith)
+    goes judged.Other t r q =
+        let l : from ≤ k = p .low in
+        record {
+          low = omega arith;
+          before = λ j a b. below-more (λ (i : ℕ). from ≤ i → recordHere vol m st rd i ≡ judged.Other) k (λ i c d. p .before i d c) (λ _. r) j b a;
+        }
+
+    stops : (j : Judged) (r : Searched) → recordHere vol m st rd k ≡ j → k < limit → searchStep k s j ≡ stop r → Within r
+    unfolding onJudged
+    stops (judged.Refused e) r f h q = let z : searched.Refused e ≡ r = cc in subst Within z tt
+    stops (judged.Valid n) r f h q = let z : searched.At k ≡ r = cc in subst Within z (record { passed = p; most = omega arith; there = λ _. (n, f) })
+    stops judged.Other r f h q = absurd (let z : _≡_ {A = ℕ} 0 1 = cc in omega arith)
 
   within : from ≤ limit → Within (searchOf vol m st rd from limit)
   unfolding searchOf visits
   within h =
-      walk-keeps (λ k t. searchStep k t (recordHere vol m st rd k)) (λ s. searched.At limit) limit (λ k t. from ≤ k) Within
-      (λ k t u b p q. omega arith) (λ k t r b p q. stops k t (recordHere vol m st rd k) r b p q) (λ t p. (p, le-refl limit)) from tt h (le-refl from)
+      walk-keeps (λ k t. searchStep k t (recordHere vol m st rd k)) (λ s. searched.At limit) limit (λ k t. Passed k) Within
+      (λ k t u b p q. goes k t p (recordHere vol m st rd k) u refl q)
+      (λ k t r b p q. stops k t p (recordHere vol m st rd k) r refl b q)
+      (λ t p. record { passed = p; most = le-refl limit; there = λ b. absurd (omega arith) })
+      from tt h (record { low = le-refl from; before = λ j a b. absurd (omega arith) })
 
-  pub search-range : {i : ℕ} → from ≤ limit → searchOf vol m st rd from limit ≡ searched.At i → (from ≤ i) × (i ≤ limit)
+  pub search-range : {i : ℕ} → from ≤ limit → searchOf vol m st rd from limit ≡ searched.At i → Search i
   search-range h e = subst Within e (within h)
 
 -- ---- the hole
@@ -94,7 +120,7 @@ module _ (vol : List ℕ) (m : Medium) (st : Store) (rd : Reader) {limit : ℕ} 
   pub hole-within : {to : ℕ} → Reads rd st → rd .index < limitOf (rd .end) (st .head .chunk) → s ≡ searched.At to → to ≤ st .head .chunk
   hole-within r b q =
       let w = search-range vol m st rd (rd .index + 1) limit (omega arith) (told asked q) in
-      omega (arith, w .1, limit-most (rd .end) (st .head .chunk) (r .end))
+      omega (arith, w .most, limit-most (rd .end) (st .head .chunk) (r .end))
 
   pub hole-refused : {e : Error} → s ≡ searched.Refused e → tells (found.Refused e) rd ≡ holeOf vol m st rd
   unfolding holeOf onSearched
@@ -211,7 +237,7 @@ module _ (vol : List ℕ) (m : Medium) (st : Store) (out : List ℕ) (ok : store
           kept = payload-kept n (l .1);
           size = λ k w. let z : n ≡ k = cc in subst (λ (x : ℕ). (1 ≤ x) × (x ≤ 486)) z l;
         })
-        hole-finds
+        (λ q. hole-finds)
 
   pub next-finds : (rd : Reader) → Reads rd st → Finds st out (nextOf vol m st rd out)
   unfolding nextOf

@@ -1,4 +1,5 @@
 pub mod Facts
 pub mod Moves
 pub mod Finds
+pub mod Holes
 pub mod Offers

@@ -19,11 +19,11 @@ use Rattle.record.specs.Record.{mark, unsealedOf, recordOf, onJudged, da
 -- ---- a judged record
 
 pub onJudged-keeps : {A : Type 0} (P : A → Type 0) (j : Judged) (f : Error → A) (g : ℕ → A) (a : A) → ((e : Error) → P (f e)) → ((n : ℕ) → j ≡ judged.Valid n → P (g n))
-    → P a → P (onJudged j f g a)
+    → (j ≡ judged.Other → P a) → P (onJudged j f g a)
 unfolding onJudged
 onJudged-keeps P (judged.Refused e) f g a p q r = p e
 onJudged-keeps P (judged.Valid n) f g a p q r = q n refl
-onJudged-keeps P judged.Other f g a p q r = r
+onJudged-keeps P judged.Other f g a p q r = r refl
 
 -- ---- the place of a record: chunk × size + index
 

@@ -11,7 +11,8 @@ use Rattle.medium.specs.declared.Medium.{Medium}
 use Rattle.medium.specs.Sector.{sectorsOf}
 use Rattle.medium.specs.Frame.{Spends}
 use Rattle.medium.proofs.Laws.{onDone-keeps}
-use Rattle.medium.proofs.Frame.{spends-none, spends-more}
+use Rattle.medium.proofs.Frame.{restOf, spends-none, spends-more}
+use Rattle.medium.proofs.Stale.{NotStale}
 use Rattle.handles.specs.declared.Store.{Store}
 use Rattle.handles.specs.declared.Writer.{Writer}
 use Rattle.handles.specs.declared.Writer.the-variants.{Nobody, Open}
@@ -24,8 +25,10 @@ use Rattle.directory.proofs.Ranges.{oldest-file}
 use Rattle.plan.specs.declared.Edit.{Edit}
 use Rattle.plan.specs.declared.Edit.the-variants.{Remove}
 use Rattle.plan.specs.Copy.{Out}
-use Rattle.commit.specs.Commit.{commitOf}
+use Rattle.header.specs.Copies.{currentOf}
+use Rattle.commit.specs.Commit.{isCurrent, commitOf}
 use Rattle.commit.proofs.Keeps.{Kept, commit-keeps}
+use Rattle.commit.proofs.Current.{commit-not-stale}
 use Rattle.remove.specs.Remove.{writerWithout, closedFor, removeOf, GoneOut, goneOf, oldestGone, removeOldestOf}
 
 -- a store value that passes refusal 3, with its 24 checksums
@@ -33,9 +36,11 @@ pub record Good (vol : List ℕ) (st : Store) : Type 0 where
   pub ok : storeOk st (sectorsOf vol) ≡ true
   pub count : length (st .head .crcs) ≡ 24
 
--- what stands after one or more commits: the volume's length, the medium record but for writes left, and the store's id and sizes
+-- what stands after one or more commits: the volume's length and its bytes past the last whole sector, the medium record but for writes left, and the
+-- store's id and sizes
 pub record Stands (vol : List ℕ) (m : Medium) (st : Store) (v : List ℕ) (n : Medium) (s : Store) : Type 0 where
   pub size : length v ≡ length vol
+  pub rest : restOf v ≡ restOf vol
   pub medium : Spends m n
   pub good : Good v s
   pub id : s .head .id ≡ st .head .id
@@ -43,12 +48,13 @@ pub record Stands (vol : List ℕ) (m : Medium) (st : Store) (v : List ℕ) (n :
   pub chunk : s .head .chunk ≡ st .head .chunk
 
 pub stands-none : (vol : List ℕ) (m : Medium) (st : Store) → Good vol st → Stands vol m st vol m st
-stands-none vol m st g = record { size = refl; medium = spends-none m; good = g; id = refl; chunks = refl; chunk = refl }
+stands-none vol m st g = record { size = refl; rest = refl; medium = spends-none m; good = g; id = refl; chunks = refl; chunk = refl }
 
 pub stands-more : {vol v w : List ℕ} {m n k : Medium} {st s t : Store} → Stands vol m st v n s → Stands v n s w k t → Stands vol m st w k t
 stands-more p q =
     record {
       size = q .size ∙ p .size;
+      rest = q .rest ∙ p .rest;
       medium = spends-more (p .medium) (q .medium);
       good = q .good;
       id = q .id ∙ p .id;
@@ -60,7 +66,15 @@ pub commit-stands : (edit : Edit) (name vol : List ℕ) (m : Medium) (st : Store
     → Stands vol m st (commitOf edit name vol m st .vol) (commitOf edit name vol m st .ans .medium) (commitOf edit name vol m st .ans .store)
 commit-stands edit name vol m st g short =
     let k : Kept edit vol m st (commitOf edit name vol m st) = commit-keeps edit name vol m st (g .ok) (g .count) short in
-    record { size = k .size; medium = k .medium; good = record { ok = k .ok; count = k .count }; id = k .id; chunks = k .chunks; chunk = k .chunk }
+    record {
+      size = k .size;
+      rest = k .rest;
+      medium = k .medium;
+      good = record { ok = k .ok; count = k .count };
+      id = k .id;
+      chunks = k .chunks;
+      chunk = k .chunk;
+    }
 
 -- the open appender is no part of what refusal 3 tests
 closed-good : (vol : List ℕ) (st : Store) (id : ℕ) → Good vol st → Good vol (closedFor id st)
@@ -76,8 +90,24 @@ remove-stands vol m st slot id g =
     let o : Out = commitOf (Remove slot) [] vol m st in
     let k : OutStands vol m st o = commit-stands (Remove slot) [] vol m st g (lit≤ tt) in
     onDone-keeps (OutStands vol m st) (o .ans .outcome) _ _
-    (λ _. record { size = k .size; medium = k .medium; good = closed-good (o .vol) (o .ans .store) id (k .good); id = k .id; chunks = k .chunks; chunk = k .chunk })
+    (λ _. record {
+      size = k .size;
+      rest = k .rest;
+      medium = k .medium;
+      good = closed-good (o .vol) (o .ans .store) id (k .good);
+      id = k .id;
+      chunks = k .chunks;
+      chunk = k .chunk;
+    })
     (λ _ _. k)
+
+-- a current store is not refused with 11
+pub remove-not-stale : (vol : List ℕ) (m : Medium) (st : Store) (slot id : ℕ) → isCurrent (currentOf vol m) st ≡ true
+    → NotStale (removeOf vol m st slot id .ans .outcome)
+unfolding removeOf
+remove-not-stale vol m st slot id c =
+    onDone-keeps (λ (o : Out). NotStale (o .ans .outcome)) (commitOf (Remove slot) [] vol m st .ans .outcome) _ _ (λ _. tt)
+    (λ _ _. commit-not-stale (Remove slot) [] vol m st c)
 
 abbrev pub GoneStands : List ℕ → Medium → Store → GoneOut → Type 0
 GoneStands vol m st o = Stands vol m st (o .vol) (o .ans .medium) (o .ans .store)

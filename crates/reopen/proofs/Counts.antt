@@ -77,7 +77,7 @@ few : (vol : List ℕ) (m : Medium) (st : Store) (id chunk position n size : ℕ
 unfolding recordsFrom
 few vol m st id chunk position zero size h = h
 few vol m st id chunk position (suc n) size h =
-    onJudged-keeps (Few size) (recordAt vol m st id chunk position n) _ _ _ (λ e. tt) (λ k q. h) (few vol m st id chunk position n size (omega arith))
+    onJudged-keeps (Few size) (recordAt vol m st id chunk position n) _ _ _ (λ e. tt) (λ k q. h) (λ q. few vol m st id chunk position n size (omega arith))
 
 pub count-most : (vol : List ℕ) (m : Medium) (st : Store) (id chunk position : ℕ) {n : ℕ} → recordsFrom vol m st id chunk position (st .head .chunk) ≡ records.Are n → n ≤ st .head .chunk
 count-most vol m st id chunk position e = subst (Few (st .head .chunk)) e (few vol m st id chunk position (st .head .chunk) (st .head .chunk) (le-refl (st .head .chunk)))

@@ -86,7 +86,7 @@ module _ (name : List ℕ) (rollover : Rollover) (vol : List ℕ) (m : Medium) (
     reopen-leaves : Leaves (reopenOf name rollover vol m st)
     unfolding reopenOf fileOut
     reopen-leaves =
-        onFound-keeps Leaves (findOf vol m st name) _ _ no
+        onFound-keeps Leaves (findOf vol m st name) _ _ (λ e _. no e)
         (λ slot id f. onChain-keeps Leaves (chainOf vol m st slot) _ _ no
         (λ p c. onRecords-keeps Leaves (recordsFrom vol m st id (p .last) (p .count - 1) (st .head .chunk)) _ _ no
         (λ n q. opened slot id p n f c (count-most vol m st id (p .last) (p .count - 1) q))))

@@ -6,3 +6,5 @@ pub mod Opens
 pub mod Appends
 pub mod Live
 pub mod Starred
+pub mod Rests
+pub mod Stale

@@ -106,7 +106,7 @@ module _ (vol : List ℕ) (m : Medium) (st : Store) where
   unfolding freeOf
   free-nearest =
       table-keeps (freeV (st .head .cursor) (st .head .chunks)) vol m st Nearest (Nearest (linksOf (st .head .chunks)))
-      (λ k t e p. tt)
+      (λ k t e p q. tt)
       (λ k t p q. other k t link.Past q (λ e. let z : _≡_ {A = ℕ} 0 1 = cc in omega arith) p)
       (λ k t p h q. met k t p q)
       (λ k l t p h d q. other k t (link.Linked l) q (λ e. let z : _≡_ {A = ℕ} 0 1 = cc in omega arith) p)

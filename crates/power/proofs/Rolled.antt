@@ -32,7 +32,7 @@ use Rattle.power.proofs.Whole.{Keeps}
 use Rattle.power.proofs.Shown.{shown}
 use Rattle.power.proofs.Sanity as sanity
 use Rattle.power.proofs.Rooms.{Single, single-none, single-one}
-use Rattle.power.proofs.Staged.{Stage, Tells, Next, told, told-more, told-end, book-more, book-end, told-fed, create-next, append-next, sync-next, spares, grow-tells, grow-stage, open-tells, open-stage, format-tells}
+use Rattle.power.proofs.Staged.{Stage, Tells, Next, told, told-more, told-end, book-more, book-end, told-fed, create-next, append-next, sync-next, spares, grow-next, open-next, format-tells}
 use Rattle.power.proofs.History.{call-keeps}
 
 -- 66 sectors with chunks of 1 are two chunks, with a body of 9
@@ -291,32 +291,29 @@ module _ (seed : ℕ) (m : Medium) (ap₀ : Appender) (left : 11 ≤ m .left) (r
         apart : _≡_ {A = ℕ} 1 2 → ⊥
         apart e = omega (arith, e)
 
-        tells₈ : Tells w₇ (sync 23) (rolledOver ∷ extended ∷ recorded ∷ [])
-        tells₈ =
-            grow-tells stage₇ (next₇ .ready) (hz .least) refl (file-a (x ∷ [])) (file-b 1 (y ∷ [])) (List·Memᴰ·head refl) (List·Memᴰ·tail (List·Memᴰ·head refl)) refl apart single
-            (omega arith) (parts .each₈)
+        next₈ : Tells w₇ (sync 23) (rolledOver ∷ extended ∷ recorded ∷ []) × Stage w₈ (written (sync 23) (fedBy w₇ (sync 23)) (with-both (y ∷ []) z)) 5
+        next₈ =
+            grow-next stage₇ (next₇ .ready) (hz .least) refl (file-a (x ∷ [])) (file-b 1 (y ∷ [])) (List·Memᴰ·head refl) (List·Memᴰ·tail (List·Memᴰ·head refl)) refl
+            apart single (omega arith) (parts .each₈)
 
         book₈ : written (sync 23) (fedBy w₇ (sync 23)) (with-both (y ∷ []) z) ≡ with-b
         unfolding written termsOf enteredAll entered beforeSteps afterSteps pick onFile
-        book₈ = rw (told-fed w₇ (sync 23) tells₈, spares stage₇ (next₇ .ready) (hz .least), remains, takes hz, leaves hz)
+        book₈ = rw (told-fed w₇ (sync 23) (next₈ .0), spares stage₇ (next₇ .ready) (hz .least), remains, takes hz, leaves hz)
 
         stage₈ : Stage w₈ with-b 5
-        stage₈ =
-            subst (λ (b : Book). Stage w₈ b 5) book₈
-            (grow-stage stage₇ (next₇ .ready) (hz .least) refl (file-a (x ∷ [])) (file-b 1 (y ∷ [])) (List·Memᴰ·head refl) (List·Memᴰ·tail (List·Memᴰ·head refl)) refl apart single
-            (omega arith) (parts .each₈))
+        stage₈ = subst (λ (b : Book). Stage w₈ b 5) book₈ (next₈ .1)
 
         -- ---- it is opened again
 
-        tells₉ : Tells w₈ open-b []
-        tells₉ = open-tells stage₈ (file-b 2 (y ∷ z ∷ [])) (List·Memᴰ·head refl) true [] fine-b
+        next₉ : Tells w₈ open-b [] × (EachStep Distinct (ran w₈ open-b .steps) → Stage w₉ (written open-b (fedBy w₈ open-b) with-b) 5)
+        next₉ = open-next stage₈ (file-b 2 (y ∷ z ∷ [])) (List·Memᴰ·head refl) true [] fine-b
 
         book₉ : written open-b (fedBy w₈ open-b) with-b ≡ with-b
         unfolding written termsOf enteredAll beforeSteps afterSteps pick idOf sameBytes
-        book₉ = rw (told-fed w₈ open-b tells₉)
+        book₉ = rw (told-fed w₈ open-b (next₉ .0))
 
         stage₉ : Stage w₉ with-b 5
-        stage₉ = subst (λ (b : Book). Stage w₉ b 5) book₉ (open-stage stage₈ (file-b 2 (y ∷ z ∷ [])) (List·Memᴰ·head refl) true [] fine-b (parts .each₉))
+        stage₉ = subst (λ (b : Book). Stage w₉ b 5) book₉ (next₉ .1 (parts .each₉))
 
         -- ---- and a second format is accepted
 
@@ -351,8 +348,8 @@ module _ (seed : ℕ) (m : Medium) (ap₀ : Appender) (left : 11 ≤ m .left) (r
             (told-more w₄ (append 0 y) _ (next₅ .tells)
             (told-more w₅ (sync 1) _ (next₆ .tells)
             (told-more w₆ (append 0 z) _ (next₇ .tells)
-            (told-more w₇ (sync 23) _ tells₈
-            (told-more w₈ open-b _ tells₉
+            (told-more w₇ (sync 23) _ (next₈ .0)
+            (told-more w₈ open-b _ (next₉ .0)
             (told-more w₉ format-again [] tells₁₀ (told-end (ran w₉ format-again .world)))))))))))
 
       -- each call is accepted, with the steps above; before the second format the volume holds b with two chunks and both batches, after it no file

@@ -30,27 +30,27 @@ single-one f e =
     }
 
 module _ {vol : List ℕ} {st : Store} {G : ℕ → List Segment} {b : Book} (w : Whole vol st G b) where
-  abbrev File-at : ℕ → Type 0
-  File-at s = (n : List ℕ) × ((i : ℕ) × (diskOf vol st .entry s ≡ named n i))
+  abbrev FileAt : ℕ → Type 0
+  FileAt s = (n : List ℕ) × ((i : ℕ) × (diskOf vol st .entry s ≡ named n i))
 
-  slot-is : (s : ℕ) → s < 64 → (diskOf vol st .entry s ≡ vacant) ⊎ File-at s
+  slot-is : (s : ℕ) → s < 64 → (diskOf vol st .entry s ≡ vacant) ⊎ FileAt s
   slot-is s h = go (diskOf vol st .entry s) refl
     where
-      go : (e : Entry) → diskOf vol st .entry s ≡ e → (diskOf vol st .entry s ≡ vacant) ⊎ File-at s
+      go : (e : Entry) → diskOf vol st .entry s ≡ e → (diskOf vol st .entry s ≡ vacant) ⊎ FileAt s
       go vacant q = inl q
       go broken q = absurd (w .good .whole s h q)
       go (named n i) q = inr (n, (i, q))
 
   -- a slot with a segment is a file's
-  held-by : (s p : ℕ) → s < 64 → p < length (G s) → File-at s
+  held-by : (s p : ℕ) → s < 64 → p < length (G s) → FileAt s
   held-by s p h l = go (slot-is s h)
     where
-      go : (diskOf vol st .entry s ≡ vacant) ⊎ File-at s → File-at s
+      go : (diskOf vol st .entry s ≡ vacant) ⊎ FileAt s → FileAt s
       go (inl v) = let z : length (G s) ≡ 0 = ap length (w .good .free s h v) in absurd (omega (arith, z))
       go (inr f) = f
 
   module _ (x : Single (b .files)) where
-    same-slot : (s t : ℕ) → s < 64 → t < 64 → File-at s → File-at t → s ≡ t
+    same-slot : (s t : ℕ) → s < 64 → t < 64 → FileAt s → FileAt t → s ≡ t
     same-slot s t h k f g =
         w .good .ids s t (f .0) (g .0) (f .1 .0) (g .1 .0) h k (f .1 .1) (g .1 .1)
         (ap (λ (y : File). y .id) (x .one _ _ (w .ties .into s (f .0) (f .1 .0) h (f .1 .1)) (w .ties .into t (g .0) (g .1 .0) k (g .1 .1))))
@@ -58,7 +58,7 @@ module _ {vol : List ℕ} {st : Store} {G : ℕ → List Segment} {b : Book} (w 
     pub vacancy : (s : ℕ) × (s < 64) × (diskOf vol st .entry s ≡ vacant)
     vacancy = go (slot-is 0 (omega arith)) (slot-is 1 (omega arith))
       where
-        go : (diskOf vol st .entry 0 ≡ vacant) ⊎ File-at 0 → (diskOf vol st .entry 1 ≡ vacant) ⊎ File-at 1 → (s : ℕ) × (s < 64) × (diskOf vol st .entry s ≡ vacant)
+        go : (diskOf vol st .entry 0 ≡ vacant) ⊎ FileAt 0 → (diskOf vol st .entry 1 ≡ vacant) ⊎ FileAt 1 → (s : ℕ) × (s < 64) × (diskOf vol st .entry s ≡ vacant)
         go (inl v) y = (0, omega arith, v)
         go (inr f) (inl v) = (1, omega arith, v)
         go (inr f) (inr g) = let z : _≡_ {A = ℕ} 0 1 = same-slot 0 1 (omega arith) (omega arith) f g in absurd (omega (arith, z))

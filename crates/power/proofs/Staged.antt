@@ -155,18 +155,17 @@ module _ {w : World} {b : Book} {n : ℕ} (s : Stage w b n) where
       grown =
           sync-grows (s .keeps) y 23 bytes (rw (s .size) (lit≤ tt)) (s .chunks) root f g other own mine apart single (omega (arith, s .generation, gens)) (rw (s .chunks) (lit≤ tt)) each
 
-      pub grow-tells : Tells w (sync 23) (rolledOver ∷ extended ∷ recorded ∷ [])
-      grow-tells = (grown .accepted, rw (grown .steps) refl)
-
-      pub grow-stage : Stage (ran w (sync 23) .world) (written (sync 23) (fedBy w (sync 23)) b) (n + 2)
+      pub grow-next : Tells w (sync 23) (rolledOver ∷ extended ∷ recorded ∷ []) × Stage (ran w (sync 23) .world) (written (sync 23) (fedBy w (sync 23)) b) (n + 2)
       unfolding Given
-      grow-stage =
-          record {
-            keeps = call-keeps (sync 23) w b (s .keeps) tt each;
-            chunks = grown .chunks ∙ s .chunks;
-            size = grown .size ∙ s .size;
-            generation = grown .generation ∙ ap (λ (j : ℕ). j + 2) (s .generation);
-          }
+      grow-next = (
+        (grown .accepted, rw (grown .steps) refl),
+        record {
+          keeps = call-keeps (sync 23) w b (s .keeps) tt each;
+          chunks = grown .chunks ∙ s .chunks;
+          size = grown .size ∙ s .size;
+          generation = grown .generation ∙ ap (λ (j : ℕ). j + 2) (s .generation);
+        },
+      )
 
   -- ---- open_append of a file of the book
 
@@ -177,18 +176,17 @@ module _ {w : World} {b : Book} {n : ℕ} (s : Stage w b n) where
     opens : (ran w opening .accepted ≡ true) × (ran w opening .steps ≡ []) × (ran w opening .world .store .head ≡ w .store .head)
     opens = let x = s .keeps .whole .ties .from f has in open-run 0 (f .name) rolls dir w b (s .keeps) (x .0) (f .id) (x .1) (x .2) fine
 
-    pub open-tells : Tells w opening []
-    open-tells = (opens .0, rw (opens .1) refl)
-
-    pub open-stage : EachStep Distinct (ran w opening .steps) → Stage (ran w opening .world) (written opening (fedBy w opening) b) n
+    pub open-next : Tells w opening [] × (EachStep Distinct (ran w opening .steps) → Stage (ran w opening .world) (written opening (fedBy w opening) b) n)
     unfolding Given
-    open-stage e =
-        record {
-          keeps = call-keeps opening w b (s .keeps) tt e;
-          chunks = rw (opens .2) (s .chunks);
-          size = rw (opens .2) (s .size);
-          generation = rw (opens .2) (s .generation);
-        }
+    open-next = (
+      (opens .0, rw (opens .1) refl),
+      λ e. record {
+        keeps = call-keeps opening w b (s .keeps) tt e;
+        chunks = rw (opens .2) (s .chunks);
+        size = rw (opens .2) (s .size);
+        generation = rw (opens .2) (s .generation);
+      },
+    )
 
   -- ---- a second format, with enough writes left
 

@@ -16,6 +16,9 @@ pub trait Side {
     fn create(&mut self, name: &str, rollover: Option<&str>);
     fn open_append(&mut self, name: &str);
     fn append(&mut self, bytes: &[u8]);
+    /// Mounts, opens the file and appends the same bytes so many times: one call of the side, so that nothing
+    /// crosses between the appends. How many were accepted.
+    fn append_times(&mut self, name: &str, bytes: &[u8], times: u32) -> u32;
     fn sync(&mut self);
     fn delete(&mut self, name: &str);
     fn reader(&mut self, name: &str);
@@ -135,6 +138,17 @@ impl Side for Rust {
         fine(a.append(s, &mut self.medium, bytes, &mut self.sector));
     }
     #[inline(never)]
+    fn append_times(&mut self, name: &str, bytes: &[u8], times: u32) -> u32 {
+        let (medium, sector) = (&mut self.medium, &mut self.sector);
+        let mut store = fine(mount(medium, sector));
+        let mut appender = fine(store.open_append(medium, &fine(Name::new(name)), None, sector));
+        let mut accepted = 0;
+        for _ in 0..times {
+            accepted += u32::from(appender.append(&mut store, medium, bytes, sector).is_ok());
+        }
+        accepted
+    }
+    #[inline(never)]
     fn sync(&mut self) {
         let (a, s) = (self.appender.as_mut().unwrap(), self.store.as_mut().unwrap());
         fine(a.sync(s, &mut self.medium, &mut self.sector));
@@ -234,6 +248,10 @@ unsafe extern "C" {
 #[link(name = "bench_port", kind = "static")]
 unsafe extern "C" {
     fn port_crc32(bytes: *const u8, length: usize) -> u32;
+    fn port_append_times(
+        volume: *mut u8, length: usize, left: u32, unreadable: u64, entropy: u64,
+        name: *const u8, name_length: usize, bytes: *const u8, bytes_length: usize, times: u32,
+    ) -> u32;
 }
 
 pub struct Port {
@@ -340,6 +358,16 @@ impl Side for Port {
                 bytes.as_ptr(), bytes.len(),
             )
         });
+    }
+    #[inline(never)]
+    fn append_times(&mut self, name: &str, bytes: &[u8], times: u32) -> u32 {
+        let Port { volume, medium: [left, unreadable, entropy, _], .. } = self;
+        unsafe {
+            port_append_times(
+                volume.as_mut_ptr(), volume.len(), *left as u32, *unreadable, *entropy, name.as_ptr(), name.len(),
+                bytes.as_ptr(), bytes.len(), times,
+            )
+        }
     }
     #[inline(never)]
     fn sync(&mut self) {

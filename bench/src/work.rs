@@ -82,7 +82,7 @@ fn checksum<S: Side>(name: &'static str, n: usize, ops: u32) -> Work<S> {
 /// Every workload of the table.
 pub fn table<S: Side>() -> Vec<Work<S>> {
     let record = bytes(486);
-    let (one, short, brief) = (record.clone(), bytes(16), bytes(16));
+    let (one, short, inside, brief) = (record.clone(), bytes(16), bytes(16), bytes(16));
     let many = bytes(64 * 486);
     let rolling = record.clone();
     vec![
@@ -111,6 +111,9 @@ pub fn table<S: Side>() -> Vec<Work<S>> {
         work("append 16 bytes a call", 128, SIZE, 2048, |s: &mut S| written(s, 0), move |s: &mut S| {
             (0..2048).for_each(|_| s.append(&short));
         }),
+        work("append 16 bytes, loop inside", 128, SIZE, 2048, |s: &mut S| written(s, 0), move |s: &mut S| {
+            assert_eq!(s.append_times("log", &inside, 2048), 2048);
+        }),
         work("append 16 bytes and sync", 128, SIZE, 512, |s: &mut S| written(s, 0), move |s: &mut S| {
             for _ in 0..512 {
                 s.append(&brief);
@@ -135,6 +138,9 @@ pub fn table<S: Side>() -> Vec<Work<S>> {
         }),
         work("boundary: append of no bytes", 128, SIZE, 2000, |s: &mut S| written(s, 0), |s: &mut S| {
             (0..2000).for_each(|_| s.append(&[]));
+        }),
+        work("boundary: no bytes, loop inside", 128, SIZE, 2000, |s: &mut S| written(s, 0), |s: &mut S| {
+            assert_eq!(s.append_times("log", &[], 2000), 2000);
         }),
     ]
 }

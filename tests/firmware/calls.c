@@ -4,7 +4,7 @@
 #include <stdlib.h>
 #include <string.h>
 
-enum { GUARD = 64 };
+enum { GUARD = 64, STACK = 8192 };
 
 long checks, failures;
 const char *part = "";
@@ -111,11 +111,46 @@ static uint32_t told(enum call call, uint32_t code)
     return code;
 }
 
+/* Each call by itself, for on_stack: its arguments are above and here. */
+static struct { uint32_t size, code; uint64_t seed; } now;
+size_t deepest[4];
+
+static void mount_now(void)
+{
+    now.code = store_mount(at(&volume), volume.length, medium.left, medium.unreadable, medium.entropy);
+}
+
+static void format_now(void)
+{
+    now.code = store_format(at(&volume), volume.length, medium.left, medium.unreadable, medium.entropy, now.size, now.seed);
+}
+
+static void delete_now(void)
+{
+    now.code = store_delete(at(&volume), volume.length, medium.left, medium.unreadable, medium.entropy, at(&name), name.length);
+}
+
+static void list_now(void)
+{
+    now.code = store_list(at(&volume), volume.length, medium.left, medium.unreadable, medium.entropy, at(&name), name.length,
+                          at(&rows), rows.length);
+}
+
+static uint32_t answer_of(enum call call)
+{
+    static void (*const calls[])(void) = {mount_now, format_now, delete_now, list_now};
+    size_t used = on_stack(calls[call]);
+    CHECK(used <= STACK);
+    if (used > deepest[call])
+        deepest[call] = used;
+    return now.code;
+}
+
 uint32_t do_mount(void)
 {
     uint32_t code;
     copy_to(&before, &volume);
-    code = store_mount(at(&volume), volume.length, medium.left, medium.unreadable, medium.entropy);
+    code = answer_of(MOUNT);
     CHECK(same(&before, &volume));
     return told(MOUNT, code);
 }
@@ -125,7 +160,9 @@ uint32_t do_format(uint32_t size, uint64_t seed)
     size_t past = volume.length % STORE_SECTOR;
     uint32_t code;
     copy_to(&before, &volume);
-    code = store_format(at(&volume), volume.length, medium.left, medium.unreadable, medium.entropy, size, seed);
+    now.size = size;
+    now.seed = seed;
+    code = answer_of(FORMAT);
     /* a refusal other than 4, and no write left: not a byte changes; bytes past the last sector never do */
     if ((code < STORE_ACCEPTED && code != STORE_E_MEDIA) || medium.left == 0)
         CHECK(same(&before, &volume));
@@ -139,7 +176,7 @@ uint32_t do_delete(const void *text, size_t length)
     copy_to(&before, &volume);
     lend(&name, length);
     memcpy(at(&name), text, length);
-    code = store_delete(at(&volume), volume.length, medium.left, medium.unreadable, medium.entropy, at(&name), length);
+    code = answer_of(DELETE);
     if ((code < STORE_ACCEPTED && code != STORE_E_MEDIA && code != STORE_E_CORRUPT) || medium.left == 0)
         CHECK(same(&before, &volume));
     CHECK(guarded(&name) && memcmp(at(&name), text, length) == 0);
@@ -156,8 +193,7 @@ uint32_t do_list(const void *text, size_t length, size_t rows_length)
     lend(&rows, rows_length);
     for (i = 0; i < rows_length; i++)
         at(&rows)[i] = row_byte(i);
-    code = store_list(at(&volume), volume.length, medium.left, medium.unreadable, medium.entropy, at(&name), length,
-                      at(&rows), rows_length);
+    code = answer_of(LIST);
     CHECK(same(&before, &volume));
     CHECK(guarded(&name) && memcmp(at(&name), text, length) == 0);
     CHECK(guarded(&rows));

@@ -48,6 +48,12 @@ uint32_t do_list(const void *text, size_t length, size_t rows_length);
 /* Each call gave every refusal that it can give. */
 void check_every_refusal(void);
 
+/* The most stack that each call used, of those made: mount, format, delete, list. */
+extern size_t deepest[4];
+
+/* stack.c: makes the call, and how many bytes of stack it used. */
+size_t on_stack(void (*call)(void));
+
 /* ---- the two halves of the run */
 
 void rules(void);                 /* rules.c: written from document 01 */

@@ -17,6 +17,9 @@ int main(int argc, char **argv)
         printf("%ld of %ld checks failed\n", failures, checks);
         return 1;
     }
-    printf("%ld checks; %ld calls answered as the Rust did\n", own, calls);
+    printf("%ld checks; %ld calls answered as the Rust did", own, calls);
+    if (deepest[0] != 0)
+        printf("; stack at most: mount %zu, format %zu, delete %zu, list %zu bytes", deepest[0], deepest[1], deepest[2], deepest[3]);
+    puts("");
     return 0;
 }

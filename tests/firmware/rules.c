@@ -192,6 +192,35 @@ static void files(void)
     CHECK(list_in("") == STORE_ACCEPTED);
 }
 
+/* 64 files with names of 40 bytes and 32 chunks each: 2,048 chunks, all taken. */
+static void full(void)
+{
+    char text[] = "aaaaaaaaaabbbbbbbbbbccccccccccddddddddxx";
+    size_t i;
+    part = "full";
+    all_allowed();
+    lend(&volume, (64 + 2048) * STORE_SECTOR);
+    CHECK(do_format(1, 1) == STORE_ACCEPTED + 2048);
+    for (i = 0; i < 64; i++) {
+        text[38] = (char)('0' + i / 10);
+        text[39] = (char)('0' + i % 10);
+        forge_file(i, text, (uint32_t)i + 1, i);
+    }
+    for (i = 64; i < 2048; i++) {
+        put(sector(9) + 4 * i, 2, i % 64 + 1);
+        put(sector(9) + 4 * i + 2, 2, i / 64);
+    }
+    for (i = 8; i < 24; i++)
+        list_body(0, i);
+    CHECK(do_mount() == STORE_ACCEPTED + 2048);
+    CHECK(list_in("") == STORE_ACCEPTED + 64);
+    CHECK(row_is(63, text, 64, 32));
+    CHECK(delete_named(text) == STORE_ACCEPTED);
+    CHECK(list_in("") == STORE_ACCEPTED + 63);
+    CHECK(delete_named(text) == STORE_E_NOT_FOUND);
+    CHECK(do_format(512, 1) == STORE_ACCEPTED + 4);
+}
+
 /* A stop after n writes: the old store, until all are done. Copy B is absent, so a delete writes
  * its header, the 9 sectors of its body and the header again. */
 static void stops(void)
@@ -311,6 +340,7 @@ void rules(void)
     range();
     names();
     files();
+    full();
     stops();
     unreadable();
     damaged_and_foreign();

@@ -1,10 +1,9 @@
-// The same appender, elsewhere: in another chunk, behind a record, closed, or with more bytes.
+// The same appender, elsewhere: in another chunk, behind a record, or closed.
 use super::Appender;
 use super::Tail;
 ghost use mathlib.Core.Path.{_≡_};
-ghost use Prim.Native.Nat.{_+_, _≤_, _<_};
-ghost use lib.ListN.{length};
-ghost use Rattle.append.specs.Flush.{standing, movedTo, filed, closedOf, withRun};
+ghost use Prim.Native.Nat.{_<_};
+ghost use Rattle.append.specs.Flush.{standing, movedTo, filed, closedOf};
 
 impl Appender {
     // In a chunk at a position, its next record by the tail, with so many bytes unwritten; the buffer's bytes stay.
@@ -49,29 +48,5 @@ impl Appender {
         ensures { λ r. ⌜ r ≡ closedOf self ⌝ }
     {
         self.standing(self.chunk, self.position, Tail::Closed, self.fill)
-    }
-
-    // With a run of bytes in its buffer.
-    pub(crate) fn with_run(self, bytes: &[u8]) -> Appender
-        requires { ⌜ self .fill + length (now bytes) ≤ 486 ⌝ }
-        ensures { λ r. ⌜ r ≡ withRun (now (bytes .entry)) self ⌝ }
-    {
-        let fill = self.fill;
-        let tail = self.tail;
-        let dir = self.dir;
-        let mut buffer = self.buffer;
-        runs::put_bytes(&mut buffer, fill, bytes);
-        Appender {
-            token: self.token,
-            slot: self.slot,
-            id: self.id,
-            chunk: self.chunk,
-            position: self.position,
-            tail,
-            fill: fill + bytes.len(),
-            buffer,
-            rolls: self.rolls,
-            dir,
-        }
     }
 }

@@ -10,6 +10,7 @@ ghost use mathlib.Core.Path.{_≡_};
 ghost use mathlib.Core.Bool.{true};
 ghost use Prim.Native.Nat.{_+_, _≤_, _<_};
 ghost use lib.ListN.{length};
+ghost use Rattle.le.specs.Part.{over};
 ghost use Rattle.medium.specs.Sector.{sectorsOf};
 ghost use Rattle.handles.specs.Handles.{storeOk};
 ghost use Rattle.append.specs.Appender.{Fit};
@@ -26,6 +27,14 @@ fn run_of(fill: usize, left: usize) -> usize
     486 - fill
 }
 
+// The run into the buffer, which is lent in its place.
+fn put_at(buffer: &mut [u8; 486], at: usize, bytes: &[u8])
+    requires { ⌜ at + length (now bytes) ≤ 486 ⌝ }
+    ensures { λ _. ⌜ now (buffer .exit) ≡ over at (now (bytes .entry)) (now (buffer .entry)) ⌝ }
+{
+    runs::put_bytes(buffer, at, bytes);
+}
+
 // A run that fits goes into the buffer, and a full buffer is written.
 fn put_run(
     volume: &mut [u8],
@@ -39,7 +48,10 @@ fn put_run(
     ensures { λ r. ⌜ (now (volume .exit) ≡ appendOf (now (bytes .entry)) (now (volume .entry)) medium store appender .vol)
         × (r ≡ appendOf (now (bytes .entry)) (now (volume .entry)) medium store appender .ans) ⌝ }
 {
-    let next = appender.with_run(bytes);
+    let fill = appender.fill;
+    let mut next = appender;
+    put_at(&mut next.buffer, fill, bytes);
+    next.fill = fill + bytes.len();
     if next.fill == 486 {
         return flush(volume, medium, store, next);
     }

@@ -52,7 +52,7 @@ def contract(f, name):
         if m := re.match(r'\s*(pub )?(?:extern "C" )?fn (\w+)', line):
             if m[1] if name is None else m[2] == name:
                 end = next(e for e in range(k, len(f.code)) if f.code[e].strip() == "{")
-                yield from (c for c in range(k, end) if re.match(r"\s*(requires|ensures) ", f.code[c]))
+                yield from range(next((c for c in range(k, end) if re.match(r"\s*(requires|ensures) ", f.code[c])), end), end)
 
 
 def needed(known, homes):

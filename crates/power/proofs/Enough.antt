@@ -101,4 +101,5 @@ module _ (edit : Edit) (name vol : List ℕ) (m : Medium) (st : Store) (inv : In
       → Within (bodyOf (st .head .chunks) + 2) m (commitOf edit name vol m st .ans .outcome) (commitOf edit name vol m st .ans .medium)
   unfolding commitPlan headAfter
   commit-within short less l =
-      rw (commit-is edit name vol m st inv r less) (copy-within (planOf edit name vol m st) vol m (plan-good edit name vol m st inv short) moves-fine l)
+      let good = plan-good edit name vol m st (inv .ok) (inv .range .count) short in
+      rw (commit-is edit name vol m st inv r less) (copy-within (planOf edit name vol m st) vol m good moves-fine l)

@@ -6,7 +6,7 @@
  * Link target/staticlib/libfirmware.a (made by `rt staticlib firmware`).
  *
  * What the archive asks of the program that links it. tests/firmware reads it
- * off the machine code, and fails where it is no longer so:
+ * off the machine code, and fails where more is asked than stands here:
  *   - memcpy and memset, and nothing else: no heap, no global state, no I/O;
  *     17 KB of code and constants.
  *   - x86-64 with SSE2, called as the System V ABI has it. An interrupt handler
@@ -108,7 +108,7 @@ enum store_refusal {
 
 /* Tests that the volume holds a store. Writes nothing. Where the newer of the
  * two headers is damaged, the older one is taken and the answer does not tell:
- * the store is then as it was before its last change.
+ * the files are then those of before the last change of directory or table.
  * Accepted: 256 + its data chunks (1 to 2,048).
  * Refused: 2, 4, 5, 6, 7. */
 uint32_t store_mount(const uint8_t *volume, size_t volume_length,

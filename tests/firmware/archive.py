@@ -1,10 +1,10 @@
 #!/usr/bin/env python3
 """What the archive of the C calls asks of the program that links it, read from its machine code (nm, size and objdump of binutils):
 
-    archive.py ARCHIVE
+    archive.py ARCHIVE HEADER
 
-It fails where the archive needs another symbol than memcpy and memset, has data that is written, has an instruction past plain x86-64 with SSE2, or a
-call can use more than 8,192 bytes of stack. The stack is a bound for every input: no function calls itself, calls through a pointer or moves the stack
+It fails where the archive needs another symbol than memcpy and memset, has data that is written, has an instruction past plain x86-64 with SSE2, uses
+the red zone in another function than the checksum's, or asks for more code or stack than HEADER (include/store.h) says. The stack is a bound for every input: no function calls itself, calls through a pointer or moves the stack
 pointer after its first instructions, so a call uses what the deepest chain of calls adds up to, with the red zone below it. What memcpy and memset use
 themselves is the linked library's."""
 import re
@@ -13,7 +13,7 @@ import sys
 
 NEEDS = {"memcpy", "memset"}
 CALLS = ["store_mount", "store_format", "store_delete", "store_list"]
-STACK = 8192
+RED_ZONE = {"checksum::crc32"}
 
 # the instructions of SSE and SSE2 on its registers, without the ones on floats that compute
 SSE2 = re.compile(
@@ -76,6 +76,17 @@ def strays(archive):
                 yield "%s: a place of %s" % (home, place)
 
 
+def promised(header):
+    """What the header says: the bytes of code and constants, and of stack for each call, at most."""
+    with open(header, encoding="utf-8") as f:
+        text = re.sub(r"\n \*\s*", " ", f.read()).replace(",", "")
+    code = re.search(r"(\d+) KB of code and constants", text)
+    deep = re.search(r"mount (\d+) bytes format (\d+) delete (\d+) list (\d+)", text)
+    if not (code and deep):
+        sys.exit("%s: does not say how much code and stack there is" % header)
+    return 1000 * int(code[1]), dict(zip(CALLS, map(int, deep.groups())))
+
+
 def stack(found, name, above=()):
     """The most that a call of `name` uses, its return address with it."""
     if name in above:
@@ -87,9 +98,9 @@ def stack(found, name, above=()):
 
 
 def main():
-    if len(sys.argv) != 2:
-        sys.exit("usage: archive.py ARCHIVE")
-    archive = sys.argv[1]
+    if len(sys.argv) != 3:
+        sys.exit("usage: archive.py ARCHIVE HEADER")
+    archive, (code, most) = sys.argv[1], promised(sys.argv[2])
     needs = set(re.findall(r"^ +U (\S+)$", said("nm", "-u", archive), re.M))
     sizes = [row.split()[:3] for row in said("size", archive).splitlines()[1:]]
     text, data, bss = (sum(int(row[k]) for row in sizes) for k in range(3))
@@ -98,16 +109,19 @@ def main():
         faults.append("needs also: " + " ".join(sorted(needs - NEEDS)))
     if data or bss:
         faults.append("%d bytes of data and %d of zeros that are written" % (data, bss))
+    if text > code:
+        faults.append("%d bytes of code and constants, %d promised" % (text, code))
+    red = {name for name, f in found.items() if f.red}
+    faults += ["%s: uses the red zone" % name for name in sorted(red - RED_ZONE)]
     faults += strays(archive)
     faults += ["%s: not there" % name for name in CALLS if name not in found]
     if not faults:
         deep = {name: stack(found, name) for name in CALLS}
-        faults += ["%s: %d bytes of stack" % (name, n) for name, n in deep.items() if n > STACK]
+        faults += ["%s: %d bytes of stack, %d promised" % (name, n, most[name]) for name, n in deep.items() if n > most[name]]
     if faults:
         sys.exit("\n".join(faults))
-    red = sorted(name for name, f in found.items() if f.red)
     print("needs %s; %d bytes of code and constants, SSE2; red zone: %s; stack at most: %s bytes" % (
-        " and ".join(sorted(needs)), text, ", ".join(red) or "not used", ", ".join("%s %d" % (n.replace("store_", ""), k) for n, k in deep.items())))
+        " and ".join(sorted(needs)), text, ", ".join(sorted(red)) or "not used", ", ".join("%s %d" % (n.replace("store_", ""), k) for n, k in deep.items())))
 
 
 main()

@@ -29,12 +29,14 @@ use Rattle.safe.specs.Inv.{Inv, planOf}
 use Rattle.safe.proofs.Moves.{move-before, good-ready}
 use Rattle.safe.proofs.Invs.{inv-check}
 use Rattle.safe.proofs.Commit.{plan-good}
+use Rattle.writes.specs.Writes.{Most}
+use Rattle.writes.proofs.Copies.{sector-most, body-most, commit-most}
 use Rattle.power.proofs.Spends.{write-some}
 use Rattle.power.proofs.FirstCommit.{commit-is}
 
 -- done, by at most n writes
 abbrev pub Within : ℕ → Medium → Outcome → Medium → Type 0
-Within n m o u = (o ≡ Done) × (m .left ≤ u .left + n)
+Within n m o u = (o ≡ Done) × Most n m u
 
 -- a move that is no refusal
 abbrev Fine : Move → Type 0
@@ -43,47 +45,47 @@ Fine (matched c) = Unit {0}
 Fine (put c bytes) = Unit {0}
 Fine (bad e) = ⊥
 
-act-within : (p : Plan) (mv : Move) (v : List ℕ) (u : Medium) (h : Header) (k : ℕ) → Fine mv → 1 ≤ u .left
-    → Within 1 u (actOf p mv v u h k .ans .outcome) (actOf p mv v u h k .ans .medium)
+act-done : (p : Plan) (mv : Move) (v : List ℕ) (u : Medium) (h : Header) (k : ℕ) → Fine mv → 1 ≤ u .left → actOf p mv v u h k .ans .outcome ≡ Done
 unfolding actOf
-act-within p unread v u h k f l = (refl, omega arith)
-act-within p (matched c) v u h k f l = (refl, omega arith)
-act-within p (put c bytes) v u h k f l = let w = write-some v u (baseOf (p .copy) + 1 + k) bytes l in (w .0, omega (arith, w .1))
-act-within p (bad e) v u h k f l = absurd f
+act-done p unread v u h k f l = refl
+act-done p (matched c) v u h k f l = refl
+act-done p (put c bytes) v u h k f l = write-some v u (baseOf (p .copy) + 1 + k) bytes l .0
+act-done p (bad e) v u h k f l = absurd f
 
 module _ (p : Plan) (vol : List ℕ) (m : Medium) (good : Good p vol) (fine : (k : ℕ) → k < bodyCount p → Fine (moveOf p vol m k)) where
-  sector-within : (v : List ℕ) (u : Medium) (h : Header) (k : ℕ) → k < bodyCount p → Kept (target p) 25 vol v → u .unreadable ≡ m .unreadable → 1 ≤ u .left
-      → Within 1 u (bodySectorOf p v u h k .ans .outcome) (bodySectorOf p v u h k .ans .medium)
+  sector-done : (v : List ℕ) (u : Medium) (h : Header) (k : ℕ) → k < bodyCount p → Kept (target p) 25 vol v → u .unreadable ≡ m .unreadable → 1 ≤ u .left
+      → bodySectorOf p v u h k .ans .outcome ≡ Done
   unfolding bodySectorOf
-  sector-within v u h k l kept same some =
-      act-within p (moveOf p v u k) v u h k
+  sector-done v u h k l kept same some =
+      act-done p (moveOf p v u k) v u h k
       (subst Fine (sym (move-before p vol good k (omega (arith, good .chunks)) kept m u same)) (fine k l)) some
 
-  body-within : (n k : ℕ) (v : List ℕ) (u : Medium) (h : Header) → k + n ≤ bodyCount p → Kept (target p) 25 vol v → u .unreadable ≡ m .unreadable → n ≤ u .left
-      → Within n u (bodyFrom p n k v u h .ans .outcome) (bodyFrom p n k v u h .ans .medium)
+  body-done : (n k : ℕ) (v : List ℕ) (u : Medium) (h : Header) → k + n ≤ bodyCount p → Kept (target p) 25 vol v → u .unreadable ≡ m .unreadable → n ≤ u .left
+      → bodyFrom p n k v u h .ans .outcome ≡ Done
   unfolding bodyFrom
-  body-within zero k v u h fits kept same l = (refl, omega arith)
-  body-within (suc n) k v u h fits kept same l =
+  body-done zero k v u h fits kept same l = refl
+  body-done (suc n) k v u h fits kept same l =
       let s : BodyOut = bodySectorOf p v u h k in
       let few : k < 24 = omega (arith, good .chunks) in
-      let d = sector-within v u h k (omega arith) kept same (omega arith) in
+      let d = sector-done v u h k (omega arith) kept same (omega arith) in
       let stays : Stays p k 1 v u h s = sector-stays p v u h k (ready-still p vol v (kept .size) (good-ready good)) few in
-      let more = body-within n (k + 1) (s .vol) (s .ans .medium) (s .ans .head) (omega arith) (kept-more kept (kept-wide (omega arith) (omega arith) (stays .frame)))
-      (stays .medium .unreadable ∙ same) (omega (arith, d .1)) in
-      rw (onDone-done (bodyFrom p n (k + 1) (s .vol) (s .ans .medium) (s .ans .head)) (λ e. s) (d .0)) (more .0, omega (arith, d .1, more .1))
+      let one = sector-most p v u h k in
+      rw (onDone-done (bodyFrom p n (k + 1) (s .vol) (s .ans .medium) (s .ans .head)) (λ e. s) d)
+      (body-done n (k + 1) (s .vol) (s .ans .medium) (s .ans .head) (omega arith) (kept-more kept (kept-wide (omega arith) (omega arith) (stays .frame)))
+      (stays .medium .unreadable ∙ same) (omega (arith, one)))
 
-  copy-within : bodyCount p + 2 ≤ m .left → Within (bodyCount p + 2) m (copyOut p vol m .ans .outcome) (copyOut p vol m .ans .medium)
+  copy-done : bodyCount p + 2 ≤ m .left → copyOut p vol m .ans .outcome ≡ Done
   unfolding copyOut lastOf
-  copy-within l =
+  copy-done l =
       let z : WriteOut = firstOf p vol m in
       let b : BodyOut = bodyFrom p (bodyCount p) 0 (z .vol) (z .ans .medium) (p .head) in
       let s = write-some vol m (target p) (p .first) (omega arith) in
       let kept : Kept (target p) 1 vol (z .vol) = write-kept vol m (target p) (p .first) (good .first) (omega (arith, base-most (p .copy), good .enough)) in
-      let t = body-within (bodyCount p) 0 (z .vol) (z .ans .medium) (p .head) (omega arith) (kept-wide (omega arith) (omega arith) kept)
+      let t = body-done (bodyCount p) 0 (z .vol) (z .ans .medium) (p .head) (omega arith) (kept-wide (omega arith) (omega arith) kept)
       (write-spends vol m (target p) (p .first) .unreadable) (omega (arith, s .1)) in
-      let w = write-some (b .vol) (b .ans .medium) (target p) (encodeOf (b .ans .head)) (omega (arith, s .1, t .1)) in
-      let x = onDone-done _ _ (s .0) ∙ onDone-done _ _ (t .0) ∙ onDone-done _ _ (w .0) in
-      (ap (λ (o : Out). o .ans .outcome) x, rw (ap (λ (o : Out). o .ans .medium .left) x) (omega (arith, s .1, t .1, w .1)))
+      let all = body-most p (bodyCount p) 0 (z .vol) (z .ans .medium) (p .head) in
+      let w = write-some (b .vol) (b .ans .medium) (target p) (encodeOf (b .ans .head)) (omega (arith, s .1, all)) in
+      ap (λ (o : Out). o .ans .outcome) (onDone-done _ _ (s .0) ∙ onDone-done _ _ t ∙ onDone-done _ _ (w .0))
 
 -- the body has its checksums and reads, so no move is a refusal
 module _ (edit : Edit) (name vol : List ℕ) (m : Medium) (st : Store) (inv : Inv vol st) (r : Readable vol m) (plain : isFormat edit ≡ false) where
@@ -102,4 +104,5 @@ module _ (edit : Edit) (name vol : List ℕ) (m : Medium) (st : Store) (inv : In
   unfolding commitPlan headAfter
   commit-within short less l =
       let good = plan-good edit name vol m st (inv .ok) (inv .range .count) short in
-      rw (commit-is edit name vol m st inv r less) (copy-within (planOf edit name vol m st) vol m good moves-fine l)
+      let done = copy-done (planOf edit name vol m st) vol m good moves-fine l in
+      (ap (λ (o : Out). o .ans .outcome) (commit-is edit name vol m st inv r less) ∙ done, commit-most edit name vol m st)

@@ -4,17 +4,9 @@ use mathlib.Core.Path.{_≡_, refl}
 use mathlib.Core.Bool.{Bool, true, false}
 use mathlib.Core.List.{List}
 use Rattle.le.specs.Choice.{pick}
-use Rattle.le.proofs.Choices.{pick-keeps}
 use Rattle.medium.specs.declared.Medium.{Medium}
 use Rattle.medium.specs.Sector.{Readable}
-use Rattle.medium.proofs.Laws.{onDone-keeps}
-use Rattle.handles.specs.declared.Store.{Store}
-use Rattle.table.proofs.Decides.{onChain-keeps}
-use Rattle.directory.proofs.Decides.{onFound-keeps}
-use Rattle.reader.specs.declared.Reader.{Reader}
-use Rattle.reader.specs.Calls.{NextCall, nextCall, SeekCall, seekCall}
-use Rattle.store.specs.declared.ReaderAnswer.{ReaderAnswer}
-use Rattle.store.specs.Reading.{findCall, ListCall, listFrom, listCall, readerCall}
+use Rattle.writes.proofs.Nothing.{list-medium, find-medium, reader-medium, next-medium, seek-medium}
 use Rattle.power.specs.Calls.{Query, list, find, reader, next, seek, query}
 use Rattle.power.specs.Book.{Book, enteredAll, beforeSteps, afterSteps, written}
 use Rattle.power.specs.History.{World, answered, ran, fedBy}
@@ -26,38 +18,6 @@ pub pick-same : {A : Type 0} (t : Bool) (x : A) → pick t x x ≡ x
 unfolding pick
 pick-same true x = refl
 pick-same false x = refl
-
--- ---- the medium record comes back as it was
-
-module _ (vol : List ℕ) (m : Medium) (st : Store) where
-  list-medium : (dir counts rows : List ℕ) → listCall vol m st dir counts rows .medium ≡ m
-  unfolding listCall listFrom
-  list-medium dir counts rows =
-      pick-keeps (λ (c : ListCall). c .medium ≡ m) _ _ _ refl
-      (onDone-keeps (λ (c : ListCall). c .medium ≡ m) _ _ _ (λ _. onDone-keeps (λ (c : ListCall). c .medium ≡ m) _ _ _ (λ _. refl) (λ _ _. refl)) (λ _ _. refl))
-
-  find-medium : (name : List ℕ) → findCall vol m st name .medium ≡ m
-  unfolding findCall
-  find-medium name = refl
-
-  abbrev Same : ReaderAnswer → Type 0
-  Same r = r .medium ≡ m
-
-  reader-medium : (name : List ℕ) → readerCall vol m st name .medium ≡ m
-  unfolding readerCall
-  reader-medium name =
-      onDone-keeps Same _ _ _
-      (λ _. onFound-keeps Same _ _ _ (λ e _. refl) (λ slot id _. onChain-keeps Same _ _ _ (λ e. refl) (λ p _. refl)))
-      (λ _ _. refl)
-
-  next-medium : (rd : Reader) (out : List ℕ) → nextCall vol m st rd out .medium ≡ m
-  unfolding nextCall
-  next-medium rd out =
-      pick-keeps (λ (c : NextCall). c .medium ≡ m) _ _ _ refl (onDone-keeps (λ (c : NextCall). c .medium ≡ m) _ _ _ (λ _. refl) (λ _ _. refl))
-
-  seek-medium : (rd : Reader) (number : ℕ) → seekCall vol m st rd number .medium ≡ m
-  unfolding seekCall
-  seek-medium rd number = onDone-keeps (λ (c : SeekCall). c .medium ≡ m) _ _ _ (λ _. refl) (λ _ _. refl)
 
 -- ---- the calls
 

@@ -24,7 +24,7 @@ use Rattle.header.specs.Header.{withCrcs}
 use Rattle.plan.specs.declared.Edit.{Edit}
 use Rattle.plan.specs.Copy.{Plan, Skipped, Distinct, EachSkipped, Out, dueBytes, skips, skippedAt, skippedFrom, lastOf, copyOut}
 use Rattle.plan.specs.Edit.{editedOf, headAfter}
-use Rattle.commit.specs.Commit.{commitPlan, commitOf}
+use Rattle.commit.specs.Commit.{isCurrent, commitPlan, commitOf}
 use Rattle.safe.specs.Copy.{bodyCount, Good}
 use Rattle.safe.specs.Inv.{Inv, planOf, CommitDistinct}
 use Rattle.safe.proofs.Frame.{clash}
@@ -86,24 +86,24 @@ module _ (edit : Edit) (name vol : List ℕ) (m : Medium) (st : Store) (accepted
   abbrev plan : Plan
   plan = planOf edit name vol m st
 
-  -- it read the headers, and wrote the copy
-  commit-copies : (currentOf vol m .outcome ≡ Done) × (commitOf edit name vol m st ≡ copyOut plan vol m)
+  -- it read the headers, found the store current, and wrote the copy
+  pub commit-copies : (currentOf vol m .outcome ≡ Done) × (isCurrent (currentOf vol m) st ≡ true) × (commitOf edit name vol m st ≡ copyOut plan vol m)
   unfolding commitOf
   commit-copies =
       onDone-keeps Right _ _ _
-      (λ d. pick-keeps Right _ _ _ (pick-keeps Right _ _ _ (clash refl) (λ q. (d, refl))) (clash refl))
+      (λ d. pick-keeps-by Right _ _ _ (λ c. pick-keeps Right _ _ _ (clash refl) (λ q. (d, c, refl))) (λ _. clash refl))
       (λ e _. clash refl)
       accepted
     where
       Right : Out → Type 0
-      Right o = o .ans .outcome ≡ Done → (currentOf vol m .outcome ≡ Done) × (o ≡ copyOut plan vol m)
+      Right o = o .ans .outcome ≡ Done → (currentOf vol m .outcome ≡ Done) × (isCurrent (currentOf vol m) st ≡ true) × (o ≡ copyOut plan vol m)
 
   copied : copyOut plan vol m .ans .outcome ≡ Done
-  copied = ap (λ (o : Out). o .ans .outcome) (sym (commit-copies .1)) ∙ accepted
+  copied = ap (λ (o : Out). o .ans .outcome) (sym (commit-copies .2)) ∙ accepted
 
   -- what it lists
   commit-lists : commitOf edit name vol m st .skipped ≡ skippedFrom plan vol m (bodyCount plan) 0
-  commit-lists = ap (λ (o : Out). o .skipped) (commit-copies .1) ∙ copy-lists plan vol m copied
+  commit-lists = ap (λ (o : Out). o .skipped) (commit-copies .2) ∙ copy-lists plan vol m copied
 
   commit-each : (P : Skipped → Type 0) → EachSkipped P (commitOf edit name vol m st .skipped)
       → (k : ℕ) → k < bodyCount plan → skips plan vol m k ≡ true → P (skippedAt plan vol k)
@@ -126,7 +126,7 @@ module _ (edit : Edit) (name vol : List ℕ) (m : Medium) (st : Store) (accepted
       let good : Good plan vol = plan-good edit name vol m st ok count short in
       let done = copy-finished plan vol m good copied in
       let c : copyOut plan vol m .ans .store .copy ≡ 1 - st .copy = ap (λ (s : Store). s .copy) (done .store) in
-      subst (CommitDue edit name vol st) (sym (commit-copies .1))
+      subst (CommitDue edit name vol st) (sym (commit-copies .2))
       (record {
         head = done .head;
         body = λ k l. rw c (finished-due done (commit-each (λ s. s .held ≡ s .due) each) k l);

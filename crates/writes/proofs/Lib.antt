@@ -1,0 +1,9 @@
+pub mod Counts
+pub mod Copies
+pub mod Beside
+pub mod Removals
+pub mod Appends
+pub mod Creates
+pub mod Calls
+pub mod Nothing
+pub mod Edges

@@ -1,0 +1,1 @@
+// A crate of laws: how many sector writes a call makes at most.

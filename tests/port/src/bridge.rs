@@ -156,6 +156,11 @@ impl Told {
         }
     }
 
+    /// The writes that the port has left.
+    pub fn left(&self) -> u64 {
+        self.medium[0]
+    }
+
     /// What differs, in words. `volume`: as the Rust left it.
     pub fn differs(&self, port: &Told, volume: &[u8]) -> Option<String> {
         let first = |a: &[u8], b: &[u8]| a.iter().zip(b).position(|(x, y)| x != y).unwrap_or(a.len().min(b.len()));
@@ -309,7 +314,7 @@ pub fn ask(session: &Session, w: &[&str]) -> Option<Told> {
 }
 
 /// The bytes that append and appendn take.
-fn appended(w: &[&str]) -> Option<Vec<u8>> {
+pub fn appended(w: &[&str]) -> Option<Vec<u8>> {
     let n = |i: usize, none: u64| w.get(i).and_then(|w| num(w)).unwrap_or(none);
     match w[0] {
         "append" => unhex(w.get(1).filter(|w| **w != "\"\"").copied().unwrap_or("")),

@@ -1,6 +1,6 @@
 //! The calls of C firmware (include/store.h, crates/firmware) beside the Rust's own: the
 //! arguments are tested, then the volume is mounted unless the call is format, then the call.
-use driver::script::{Lent, Session, bytes_of, num};
+use driver::script::{Lent, Session, bytes_of, num, words};
 use driver::{Dir, Error, Name, number};
 
 #[link(name = "firmware", kind = "static")]
@@ -105,4 +105,22 @@ pub fn ask(session: &Session, on: &mut Session, w: &[&str]) -> Option<Result<(&'
         }
     }
     Some(Ok((call, if given < 256 { given } else { 0 })))
+}
+
+/// The writes of a C call, which hands no medium record back: the fewest left with which number and
+/// volume are those with all of them.
+pub fn spent(session: &mut Session, line: &str) -> u64 {
+    let w = words(line);
+    let (call, line) = beside(&w).expect("a line with a C call beside it");
+    let argument = bytes_of(w.get(1).copied().unwrap_or("\"\""));
+    let before = session.st.m.left;
+    let mut with = |left: u32| {
+        session.st.m.left = left;
+        let (code, volume, _) = c(session, call, &line, &argument);
+        (code, volume)
+    };
+    let whole = with(u32::MAX);
+    let least = (0..).find(|n| with(*n) == whole).unwrap();
+    session.st.m.left = before;
+    least.into()
 }

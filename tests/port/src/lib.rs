@@ -5,10 +5,12 @@ pub mod bridge;
 pub mod firmware;
 pub mod histories;
 pub mod make;
+pub mod writes;
 use bridge::Told;
 use driver::script::{Session, words};
 use std::collections::{BTreeMap, BTreeSet, VecDeque};
 use std::panic::{AssertUnwindSafe, catch_unwind};
+use writes::{Asked, Writes};
 
 /// The calls that are put to both, with every refusal that each can give.
 pub const CALLS: &[(&str, &[u32])] = &[
@@ -47,6 +49,8 @@ pub struct Tally {
     counts: BTreeMap<(&'static str, u32), u64>,
     /// Sectors, and those of a chunk, of the accepted formats.
     geometries: BTreeSet<(u64, u32)>,
+    /// What the port's calls wrote, beside the laws.
+    pub writes: Writes,
 }
 
 impl Tally {
@@ -71,6 +75,7 @@ impl Tally {
             format!("{name}: {all} calls, {accepted} accepted, refused {}", refused.join(" "))
         };
         let mut text: Vec<_> = CALLS.iter().map(|(call, _)| line(call, &|c| c == *call)).collect();
+        text.extend(self.writes.show());
         text.push(format!("geometries: {}", self.geometries.len()));
         text.push(line("no difference", &|_| true));
         text.join("\n")
@@ -96,20 +101,31 @@ pub struct Stop {
 }
 
 /// A script as it runs on both.
-struct Play<'a> {
-    session: Session,
+pub struct Play<'a> {
+    pub session: Session,
     /// The Rust for the calls of C, which are on copies of the volume.
     copies: Session,
-    tally: &'a mut Tally,
+    pub tally: &'a mut Tally,
+    /// The last call with a law, and what the port wrote in it.
+    pub last: Option<(Asked, u64)>,
 }
 
 impl<'a> Play<'a> {
-    fn new(tally: &'a mut Tally) -> Self {
-        Play { session: Session::new(true), copies: Session::new(true), tally }
+    pub fn new(tally: &'a mut Tally) -> Self {
+        Play { session: Session::new(true), copies: Session::new(true), tally, last: None }
+    }
+
+    /// Holds the port's call to its law. What it spent is what it hands back less than it was given.
+    fn hold(&mut self, w: &[&str], port: &Told) -> Result<(), String> {
+        let asked = Asked::new(&self.session, w).ok_or("a call without a law")?;
+        let left = u64::from(self.session.st.m.left);
+        let spent = left.checked_sub(port.left()).ok_or(format!("{left} writes left, and {} after the call", port.left()))?;
+        self.last = Some((asked, spent));
+        self.tally.writes.hold(&asked, spent)
     }
 
     /// Runs a line; what it prints, or what differs.
-    fn line(&mut self, line: &str) -> Result<String, String> {
+    pub fn line(&mut self, line: &str) -> Result<String, String> {
         let w = words(line);
         match w.first() {
             Some(&"stops") => return self.stops(line),
@@ -122,6 +138,9 @@ impl<'a> Play<'a> {
             self.tally.count(call, refusal);
         }
         let port = w.first().and_then(|_| bridge::ask(&self.session, &w));
+        if let Some(port) = &port {
+            self.hold(&w, port)?;
+        }
         let text = self.session.line(line).unwrap_or_default();
         if let Some(port) = port {
             let refusal = text.strip_prefix("no ").map_or(0, |t| t.split(' ').next().unwrap().parse().unwrap());

@@ -28,11 +28,12 @@ use Rattle.power.specs.Calls.{Call, format, create, openAppend, append, 
 use Rattle.power.specs.Book.{File, Book, newBook, keep, onFile, isSpared, mayGo, smallest, withoutId, withoutOldest, idOf, termsOf, entered, enteredAll, beforeSteps, afterSteps, written}
 use Rattle.power.specs.History.{World, ran, fedBy, after, bookOf, Given, EachStep, Premise}
 use Rattle.power.specs.Claim.{Holds, started}
+use Rattle.power.specs.Room.{Tells}
 use Rattle.power.proofs.Whole.{Keeps}
 use Rattle.power.proofs.Shown.{shown}
 use Rattle.power.proofs.Sanity as sanity
 use Rattle.power.proofs.Rooms.{Single, single-none, single-one}
-use Rattle.power.proofs.Staged.{Stage, Tells, Next, told, told-more, told-end, book-more, book-end, told-fed, create-next, append-next, sync-next, spares, grow-next, open-next, format-tells}
+use Rattle.power.proofs.Staged.{Stage, Next, told, told-more, told-end, book-more, book-end, told-fed, create-next, append-next, sync-next, spares, grow-next, open-next, format-tells}
 use Rattle.power.proofs.History.{call-keeps}
 
 -- 66 sectors with chunks of 1 are two chunks, with a body of 9

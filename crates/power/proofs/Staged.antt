@@ -24,6 +24,7 @@ use Rattle.store.specs.Opening.{openFine}
 use Rattle.power.specs.Calls.{Call, format, create, openAppend, append, sync}
 use Rattle.power.specs.Book.{File, Book, withoutOldest, written}
 use Rattle.power.specs.History.{World, Ran, ran, openOf, fedBy, bookOf, Given, EachStep}
+use Rattle.power.specs.Room.{Tells}
 use Rattle.power.proofs.Whole.{Keeps}
 use Rattle.power.proofs.Running.{Ready, stands, append-run, sync-run, sync-leaves}
 use Rattle.power.proofs.Rooms.{Single, vacancy, room}
@@ -40,10 +41,6 @@ pub record Stage (w : World) (b : Book) (n : ℕ) : Type 0 where
   pub chunks : w .store .head .chunks ≡ 2
   pub size : w .store .head .chunk ≡ 1
   pub generation : w .store .head .generation ≡ n
-
--- a call is accepted, with steps of these kinds
-abbrev pub Tells : World → Call → List Kind → Type 0
-Tells w c kinds = (ran w c .accepted ≡ true) × (map (λ (s : Step). s .kind) (ran w c .steps) ≡ kinds)
 
 -- what each call of a history tells the book: whether it was accepted, and the kinds of its steps
 unfoldable pub told : World → List Call → List (Bool × List Kind)

@@ -1,32 +1,41 @@
 -- Enough is enough: in a history whose generation is not spent, a call with as many writes left as its commit may take is accepted: delete of a file of
--- the book, delete_oldest of any directory, and create of a new name where the book has room. So none of them gives 4. Assumes nothing.
-use Prim.Native.Nat.{ℕ, _+_, _-_, _^_, _≤_, _<_}
+-- the book, delete_oldest of any directory, and create of a new name where the book has room. So is a sync with one write left where the chunk has
+-- room, and a format with its writes left. So none of them gives 4. Assumes nothing.
+use Prim.Native.Nat.{ℕ, zero, suc, _+_, _-_, _^_, _≤_, _<_}
 use mathlib.Core.Path.{_≡_, refl, sym, ap, _∙_}
 use mathlib.Core.Logic.{_⊎_, inl, inr}
 use mathlib.Core.Bool.{Bool, true, false}
 use mathlib.Core.Option.{Option}
-use mathlib.Core.List.{List, [], _∷_, List·Memᴰ}
+use mathlib.Core.List.{List, [], _∷_, _++_, List·Memᴰ}
+use native.Mathlib.Omega.{arith}
 use lib.ListN.{length}
 use Rattle.le.specs.Choice.{pick}
+use Rattle.le.specs.Part.{part}
 use Rattle.names.specs.Names.{nameOk, dirOk}
 use Rattle.medium.specs.declared.Medium.{Medium}
 use Rattle.medium.specs.declared.Outcome.the-variants.{Done}
 use Rattle.medium.specs.Refusal.{onDone}
+use Rattle.medium.specs.Sector.{sectorsOf}
 use Rattle.medium.proofs.Laws.{onDone-done}
+use Rattle.handles.specs.declared.Writer.the-variants.{Open}
 use Rattle.handles.specs.Handles.{isOpen, openId, bodyOf}
+use Rattle.header.specs.Copies.{headersOf}
 use Rattle.directory.specs.declared.Old.{Old}
 use Rattle.directory.specs.Entry.{entryAt}
 use Rattle.directory.specs.Scan.{onFound}
-use Rattle.plan.specs.Copy.{deleted, deletedOldest, created, stepsOf}
+use Rattle.plan.specs.Copy.{formatted, deleted, deletedOldest, created, recorded, stepsOf}
+use Rattle.format.specs.Format.{chunksOf, newestOf}
+use Rattle.format.proofs.Enough.{format-done}
 use Rattle.remove.specs.Remove.{GoneOut, removeOldestOf}
+use Rattle.append.specs.declared.Tail.the-variants.{At}
 use Rattle.layout.proofs.Judged.{named-facts}
 use Rattle.folds.proofs.Named.{find-there}
 use Rattle.folds.proofs.Oldest.{Olds}
 use Rattle.store.specs.Asked.{askedOf}
 use Rattle.store.specs.Writing.{deleteCall, oldestTold, oldestCall}
 use Rattle.store.specs.Opening.{openFine}
-use Rattle.power.specs.Calls.{create, delete, deleteOldest}
-use Rattle.power.specs.Book.{File, Book, mayGo}
+use Rattle.power.specs.Calls.{format, create, sync, delete, deleteOldest}
+use Rattle.power.specs.Book.{File, Book, mayGo, newBook}
 use Rattle.power.specs.History.{World, withLeft, ranOldest, ran, openOf}
 use Rattle.power.specs.Room.{Tells, chunksIn}
 use Rattle.power.proofs.Whole.{fileOf, Keeps}
@@ -35,6 +44,8 @@ use Rattle.power.proofs.Shown.{asked}
 use Rattle.power.proofs.Picks.{sparedBy, goes-may, may-goes}
 use Rattle.power.proofs.Oldest.{spared-open, ways}
 use Rattle.power.proofs.Going.{remove-is, goer}
+use Rattle.power.proofs.Formatting.{format-run}
+use Rattle.power.proofs.Running.{Ready, stands, sync-run}
 use Rattle.power.proofs.Counting.{vacancy, room}
 use Rattle.power.proofs.Creating.{create-makes}
 
@@ -119,3 +130,26 @@ module _ (w : World) (b : Book) (k : Keeps w b) (left : ℕ) (gens : w .store .h
             ⊎ (((f : File) → List·Memᴰ f (b .files) → mayGo dir (openOf (w .store .writer)) f ≡ false) × Tells w (deleteOldest left dir) [])
         go true e x = inl (x .0, x .1, x .2, rw (ran-is, done .0, e) (refl, refl))
         go false e x = inr (x, rw (ran-is, done .0, e) (refl, refl))
+
+-- ---- sync of an open appender with bytes unwritten, whose chunk has room: by one write
+
+some-kept : {bytes : List ℕ} (buffer : List ℕ) (n : ℕ) → bytes ≡ part 0 n buffer ++ [] → (bytes ≡ [] → ⊥) → 1 ≤ n
+unfolding part
+some-kept buffer zero e some = absurd (some e)
+some-kept buffer (suc n) e some = omega arith
+
+pub sync-accepted : (w : World) (b : Book) → Keeps w b → (left i : ℕ) → w .store .writer ≡ Open (w .appender .token) (w .appender .id) → w .appender .tail ≡ At i
+    → i < w .store .head .chunk → (b .unwritten ≡ [] → ⊥) → 1 ≤ left → Tells w (sync left) (recorded ∷ [])
+sync-accepted w b k left i writer tail room some one =
+    let y : Ready w i (w .appender .fill) = record { writer = writer; tail = tail; fill = refl } in
+    let t = sync-run k y left room (some-kept (w .appender .buffer) (w .appender .fill) (stands k y .0 .unwritten) some) one in
+    (t .0, rw (t .1) refl)
+
+-- ---- format of any volume whose headers read, of a size that fits, where the generations there are not spent
+
+pub format-accepted : (w : World) (m : Medium) (size seed : ℕ) → headersOf (w .vol) m .outcome ≡ Done → 1 ≤ size → size ≤ 512
+    → (chunksOf (sectorsOf (w .vol)) size ≡ 0 → ⊥) → (newestOf (headersOf (w .vol) m) ≡ 2 ^ 64 - 1 → ⊥) → bodyOf (chunksOf (sectorsOf (w .vol)) size) + 2 ≤ m .left
+    → Tells w (format m size seed) (formatted ∷ [])
+format-accepted w m size seed headers least most some less enough =
+    let t = format-run m size seed w newBook (format-done size seed (w .vol) m headers least most some less enough) in
+    (t .0, rw (t .1) refl)

@@ -1,4 +1,4 @@
--- What append, sync and delete give in a history, where it can be told: an appender keeps fewer bytes than a record takes, and at the start of its file a
+-- What append, sync and delete give in a history, where it can be told: an appender keeps fewer bytes than a record takes, and where its chunk has room a
 -- sync writes them by one write; and a delete with one write left makes no step. Assumes nothing.
 use Prim.Native.Nat.{ℕ, _+_, _≤_, _<_}
 use mathlib.Core.Path.{_≡_, refl, subst, _∙_}
@@ -26,7 +26,6 @@ use Rattle.append.specs.Appender.{writes, isClosed}
 use Rattle.append.specs.Calls.{callOf, mayWrite, offered, appendCall, syncCall}
 use Rattle.append.specs.Flush.{withRun, onTail, filed, recordOut, writeOut, flushOf, syncOf}
 use Rattle.append.proofs.Runs.{run-short}
-use Rattle.views.proofs.Commits.{inv-sane}
 use Rattle.store.specs.Writing.{deleteCall}
 use Rattle.power.specs.Calls.{append, sync, delete}
 use Rattle.power.specs.Book.{Book}
@@ -71,24 +70,24 @@ module _ {w : World} {b : Book} {i n : ℕ} (k : Keeps w b) (y : Ready w i n) wh
       let f : w .appender .fill + length bytes < 486 = rw (y .fill) h in
       rw (onDone-done (callOf _) _ may, run-short bytes (w .vol) (withLeft left (w .medium)) (w .store) (w .appender) (stands .0 .buffer) f)
 
--- and written by one write
-module _ {w : World} {b : Book} {n : ℕ} (k : Keeps w b) (y : Ready w 0 n) where
-  module _ (left : ℕ) (some : 1 ≤ n) (one : 1 ≤ left) where
+-- and written by one write, where the chunk has room
+module _ {w : World} {b : Book} {i n : ℕ} (k : Keeps w b) (y : Ready w i n) where
+  module _ (left : ℕ) (room : i < w .store .head .chunk) (some : 1 ≤ n) (one : 1 ≤ left) where
     abbrev given : Medium
     given = withLeft left (w .medium)
 
-    record-steps : (recordOut 0 (w .vol) given (w .store) (w .appender) .ans .outcome ≡ Done)
-        × (recordOut 0 (w .vol) given (w .store) (w .appender) .steps ≡ (record { kind = recorded; skipped = [] }) ∷ [])
-        × (recordOut 0 (w .vol) given (w .store) (w .appender) .ans .store ≡ w .store)
-        × (recordOut 0 (w .vol) given (w .store) (w .appender) .ans .appender ≡ filed 0 (w .appender))
+    record-steps : (recordOut i (w .vol) given (w .store) (w .appender) .ans .outcome ≡ Done)
+        × (recordOut i (w .vol) given (w .store) (w .appender) .steps ≡ (record { kind = recorded; skipped = [] }) ∷ [])
+        × (recordOut i (w .vol) given (w .store) (w .appender) .ans .store ≡ w .store)
+        × (recordOut i (w .vol) given (w .store) (w .appender) .ans .appender ≡ filed i (w .appender))
     unfolding recordOut
     record-steps = rw (onDone-done _ _ (write-some (w .vol) given _ _ one .0)) (refl, refl, refl, refl)
 
-    write-is : writeOut (w .vol) given (w .store) (w .appender) ≡ recordOut 0 (w .vol) given (w .store) (w .appender)
+    write-is : writeOut (w .vol) given (w .store) (w .appender) ≡ recordOut i (w .vol) given (w .store) (w .appender)
     unfolding writeOut onTail
-    write-is = rw (y .tail) (pick-true _ _ (lt-ltb 0 (w .store .head .chunk) (omega (arith, inv-sane (k .whole .inv) .size-least))))
+    write-is = rw (y .tail) (pick-true _ _ (lt-ltb i (w .store .head .chunk) room))
 
-    sync-is : syncOf (w .vol) given (w .store) (w .appender) ≡ recordOut 0 (w .vol) given (w .store) (w .appender)
+    sync-is : syncOf (w .vol) given (w .store) (w .appender) ≡ recordOut i (w .vol) given (w .store) (w .appender)
     unfolding syncOf flushOf
     sync-is =
         pick-false _ _ (ne-eqb (w .appender .fill) 0 (λ e. omega (arith, y .fill)))
@@ -98,8 +97,8 @@ module _ {w : World} {b : Book} {n : ℕ} (k : Keeps w b) (y : Ready w 0 n) wher
     unfolding ran syncCall offered
     sync-run = rw (onDone-done (callOf _) _ (may k y), sync-is, record-steps .0) (refl, record-steps .1)
 
-    -- the store is as it was, and the appender after its first record
-    pub sync-leaves : (ran w (sync left) .world .store ≡ w .store) × (ran w (sync left) .world .appender ≡ filed 0 (w .appender))
+    -- the store is as it was, and the appender after its record
+    pub sync-leaves : (ran w (sync left) .world .store ≡ w .store) × (ran w (sync left) .world .appender ≡ filed i (w .appender))
     unfolding ran syncCall offered
     sync-leaves = rw (onDone-done (callOf _) _ (may k y), sync-is) (record-steps .2, record-steps .3)
 

@@ -127,8 +127,8 @@ module _ {w : World} {b : Book} {n : ℕ} (s : Stage w b n) where
   pub sync-next : {k : ℕ} → Ready w 0 k → 1 ≤ k → Next w b (sync 1) (recorded ∷ []) 1 0 n
   unfolding Given
   sync-next y bytes =
-      let t = sync-run (s .keeps) y 1 bytes (lit≤ tt) in
-      let l = sync-leaves (s .keeps) y 1 bytes (lit≤ tt) in
+      let t = sync-run (s .keeps) y 1 (omega (arith, s .size)) bytes (lit≤ tt) in
+      let l = sync-leaves (s .keeps) y 1 (omega (arith, s .size)) bytes (lit≤ tt) in
       record {
         tells = (t .0, rw (t .1) refl);
         ready = record {

@@ -1,16 +1,14 @@
 -- Enough is enough: in a history whose generation is not spent, a call with as many writes left as its commit may take is accepted: delete of a file of
 -- the book, delete_oldest of any directory, and create of a new name where the book has room. So is a sync with one write left where the chunk has
 -- room, and a format with its writes left. So none of them gives 4. Assumes nothing.
-use Prim.Native.Nat.{ℕ, zero, suc, _+_, _-_, _^_, _≤_, _<_}
+use Prim.Native.Nat.{ℕ, _+_, _-_, _^_, _≤_, _<_}
 use mathlib.Core.Path.{_≡_, refl, sym, ap, _∙_}
 use mathlib.Core.Logic.{_⊎_, inl, inr}
 use mathlib.Core.Bool.{Bool, true, false}
 use mathlib.Core.Option.{Option}
-use mathlib.Core.List.{List, [], _∷_, _++_, List·Memᴰ}
-use native.Mathlib.Omega.{arith}
+use mathlib.Core.List.{List, [], _∷_, List·Memᴰ}
 use lib.ListN.{length}
 use Rattle.le.specs.Choice.{pick}
-use Rattle.le.specs.Part.{part}
 use Rattle.names.specs.Names.{nameOk, dirOk}
 use Rattle.medium.specs.declared.Medium.{Medium}
 use Rattle.medium.specs.declared.Outcome.the-variants.{Done}
@@ -45,9 +43,9 @@ use Rattle.power.proofs.Picks.{sparedBy, goes-may, may-goes}
 use Rattle.power.proofs.Oldest.{spared-open, ways}
 use Rattle.power.proofs.Going.{remove-is, goer}
 use Rattle.power.proofs.Formatting.{format-run}
-use Rattle.power.proofs.Running.{Ready, stands, sync-run}
+use Rattle.power.proofs.Running.{Ready, opened, some-kept, sync-run}
 use Rattle.power.proofs.Counting.{vacancy, room}
-use Rattle.power.proofs.Creating.{create-makes}
+use Rattle.power.proofs.Creating.{Made, create-makes}
 
 module _ (w : World) (b : Book) (k : Keeps w b) (left : ℕ) (gens : w .store .head .generation ≡ 2 ^ 64 - 1 → ⊥) (enough : bodyOf (w .store .head .chunks) + 2 ≤ left) where
   abbrev m : Medium
@@ -70,12 +68,15 @@ module _ (w : World) (b : Book) (k : Keeps w b) (left : ℕ) (gens : w .store .h
 
   -- ---- create of a new name, where the book has fewer than 64 files and these have not all chunks
 
-  pub create-accepted : (name : List ℕ) (rolls : Bool) (dir : List ℕ) → openFine name rolls dir ≡ true → ((f : File) → List·Memᴰ f (b .files) → f .name ≡ name → ⊥)
-      → length (b .files) < 64 → chunksIn (b .files) < w .store .head .chunks → (b .next ≡ 2 ^ 32 - 1 → ⊥) → Tells w (create left name rolls dir) (created ∷ [])
-  create-accepted name rolls dir fine new slots chunks ids =
-      let x = create-makes w left name rolls dir k fine (λ s i h e. new _ (k .whole .ties .into s name i h e) refl) (vacancy (k .whole .good) (k .whole .ties) slots)
-      (room (k .whole .good) (k .whole .ties) chunks) (λ e. ids (k .whole .next ∙ e)) gens enough in
-      rw (x .is) (refl, refl)
+  module _ (name : List ℕ) (rolls : Bool) (dir : List ℕ) (fine : openFine name rolls dir ≡ true) (new : (f : File) → List·Memᴰ f (b .files) → f .name ≡ name → ⊥)
+      (slots : length (b .files) < 64) (chunks : chunksIn (b .files) < w .store .head .chunks) (ids : b .next ≡ 2 ^ 32 - 1 → ⊥) where
+    pub create-made : Made w left name rolls dir
+    create-made =
+        create-makes w left name rolls dir k fine (λ s i h e. new _ (k .whole .ties .into s name i h e) refl) (vacancy (k .whole .good) (k .whole .ties) slots)
+        (room (k .whole .good) (k .whole .ties) chunks) (λ e. ids (k .whole .next ∙ e)) gens enough
+
+    pub create-accepted : Tells w (create left name rolls dir) (created ∷ [])
+    create-accepted = rw (create-made .is) (refl, refl)
 
   -- ---- delete_oldest: a file of the book may go and one goes, or none may and no step is made
 
@@ -133,16 +134,11 @@ module _ (w : World) (b : Book) (k : Keeps w b) (left : ℕ) (gens : w .store .h
 
 -- ---- sync of an open appender with bytes unwritten, whose chunk has room: by one write
 
-some-kept : {bytes : List ℕ} (buffer : List ℕ) (n : ℕ) → bytes ≡ part 0 n buffer ++ [] → (bytes ≡ [] → ⊥) → 1 ≤ n
-unfolding part
-some-kept buffer zero e some = absurd (some e)
-some-kept buffer (suc n) e some = omega arith
-
 pub sync-accepted : (w : World) (b : Book) → Keeps w b → (left i : ℕ) → w .store .writer ≡ Open (w .appender .token) (w .appender .id) → w .appender .tail ≡ At i
     → i < w .store .head .chunk → (b .unwritten ≡ [] → ⊥) → 1 ≤ left → Tells w (sync left) (recorded ∷ [])
 sync-accepted w b k left i writer tail room some one =
     let y : Ready w i (w .appender .fill) = record { writer = writer; tail = tail; fill = refl } in
-    let t = sync-run k y left room (some-kept (w .appender .buffer) (w .appender .fill) (stands k y .0 .unwritten) some) one in
+    let t = sync-run k y left room (some-kept k (opened y) some) one in
     (t .0, rw (t .1) refl)
 
 -- ---- format of any volume whose headers read, of a size that fits, where the generations there are not spent

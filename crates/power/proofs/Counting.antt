@@ -1,26 +1,28 @@
--- A slot is vacant where the book has fewer files than there are slots, and a chunk is free where its files have not all of them. Assumes nothing.
+-- A slot is vacant where the book has fewer files than there are slots. A chunk is free where its files have not all of them, and only there. Assumes
+-- nothing.
 use Prim.Native.Nat.{ℕ, zero, suc, _+_, _<_, _≤_}
-use mathlib.Core.Path.{_≡_, refl, ap}
+use mathlib.Core.Path.{_≡_, refl, sym, ap, _∙_}
 use mathlib.Core.Logic.{_⊎_, inl, inr}
 use mathlib.Core.Bool.{Bool, true, false, not, _&&_}
 use mathlib.Core.List.{List, [], _∷_, List·Memᴰ·head, List·Memᴰ·tail, List·Memᴰ·cases-cons, List·Memᴰ·not-nil}
 use native.Mathlib.Omega.{arith}
 use borrow.Author.Count.{below-more, below-none}
-use borrow.Author.Tests.{not-true}
+use borrow.Author.Tests.{not-true, eq-eqb, ne-eqb}
+use lib.Dec.{eqb}
 use lib.ListN.{length}
 use Rattle.le.specs.Choice.{pick}
-use Rattle.le.proofs.Choices.{pick-true}
+use Rattle.le.proofs.Choices.{pick-keeps, pick-true, pick-false}
 use Rattle.le.proofs.Bools.{and-true}
 use Rattle.table.specs.declared.Link.{Link}
 use Rattle.table.specs.declared.LinkAt.the-variants as link
 use Rattle.layout.specs.Views.{Entry, vacant, broken, named, Disk}
 use Rattle.layout.specs.Segments.{Segment, isOf, tally, Good}
-use Rattle.layout.proofs.Facts.{is-of, true≢false}
-use Rattle.layout.proofs.Tallies.{tally-none}
+use Rattle.layout.proofs.Facts.{case, is-of, not-of, free-of, same-id, free≢linked, true≢false}
+use Rattle.layout.proofs.Tallies.{tally-le, tally-none, tally-more}
 use Rattle.folds.specs.Rows.{listedIn}
-use Rattle.power.specs.Book.{File}
+use Rattle.power.specs.Book.{File, keep}
 use Rattle.power.specs.Room.{chunksIn}
-use Rattle.power.proofs.Whole.{Ties}
+use Rattle.power.proofs.Whole.{Apart, Ties}
 use Rattle.power.proofs.Members.{Mem}
 use Rattle.power.proofs.Ties.{named-counts}
 
@@ -52,6 +54,37 @@ tally-split f g (suc n) = go (f n) (g n) (tally f n) (tally g n) (tally (λ c. f
     go true false x y z h = omega arith
     go false true x y z h = omega arith
     go false false x y z h = h
+
+-- those of f are of g, and of the rest of g there are no more
+tally-join : (f g : ℕ → Bool) (n : ℕ) → ((c : ℕ) → c < n → f c ≡ true → g c ≡ true) → tally f n + tally (λ c. g c && not (f c)) n ≤ tally g n
+unfolding tally pick
+tally-join f g zero h = omega arith
+tally-join f g (suc n) h = go (f n) (g n) (tally f n) (tally g n) (tally (λ c. g c && not (f c)) n) (h n (omega arith)) (tally-join f g n (λ c l. h c (omega arith)))
+  where
+    go : (s t : Bool) (x y z : ℕ) → (s ≡ true → t ≡ true) → x + z ≤ y → pick s (x + 1) x + pick (t && not s) (z + 1) z ≤ pick t (y + 1) y
+    go true true x y z i h = omega arith
+    go true false x y z i h = absurd (true≢false (i refl) refl)
+    go false true x y z i h = omega arith
+    go false false x y z i h = h
+
+-- ---- the chunks of the files kept
+
+chunks-kept : (p : File → Bool) (fs : List File) → chunksIn (keep p fs) ≤ chunksIn fs
+unfolding chunksIn keep
+chunks-kept p [] = omega arith
+chunks-kept p (x ∷ fs) =
+    let i = chunks-kept p fs in
+    pick-keeps (λ (l : List File). chunksIn l ≤ x .chunks + chunksIn fs) (p x) (x ∷ keep p fs) (keep p fs) (omega (arith, i)) (omega (arith, i))
+
+-- where a file with a chunk went they are fewer
+pub chunks-fewer : (p : File → Bool) (f : File) (fs : List File) → Mem f fs → p f ≡ false → 1 ≤ f .chunks → chunksIn (keep p fs) < chunksIn fs
+unfolding chunksIn keep
+chunks-fewer p f (x ∷ fs) (List·Memᴰ·head e) gone some =
+    let n : f .chunks ≡ x .chunks = ap (λ (g : File). g .chunks) e in
+    rw (pick-false (x ∷ keep p fs) (keep p fs) (ap p (sym e) ∙ gone)) (omega (arith, n, chunks-kept p fs))
+chunks-fewer p f (x ∷ fs) (List·Memᴰ·tail m) gone some =
+    let i = chunks-fewer p f fs m gone some in
+    pick-keeps (λ (l : List File). chunksIn l < x .chunks + chunksIn fs) (p x) (x ∷ keep p fs) (keep p fs) (omega (arith, i)) (omega (arith, i))
 
 -- ---- slots and chunks
 
@@ -134,3 +167,39 @@ module _ {D : Disk} {G : ℕ → List Segment} {files : List File} (d : Good D G
           let x = tally-all (λ c. true) (D .chunks) (λ c l. refl) in
           let y = held-most files (λ f m. m) (λ c. true) (λ c l e. held all c l) in
           absurd (omega (arith, x, y, few))
+
+  -- ---- and where a chunk is free, they have not all
+
+  own-held : (fs : List File) (x : File) → Mem x fs → (s : ℕ) → s < 64 → D .entry s ≡ named (x .name) (x .id) → (c : ℕ) → c < D .chunks → isOf s (D .link c) ≡ true → Held fs c
+  own-held fs x m s hs e c h own = go (d .either c h)
+    where
+      go : (D .link c ≡ link.Free) ⊎ ((l : Link) × (D .link c ≡ link.Linked l)) → Held fs c
+      go (inl v) = absurd (true≢false own (free-of s v))
+      go (inr (l, q)) =
+          case (l .slot) s (λ z. record { by = l; is = q; below = rw z hs; file = x; among = m; entry = rw z e }) (λ z. absurd (true≢false own (not-of s q z)))
+
+  held-least : (fs : List File) → ((f : File) → Mem f fs → Mem f files) → Apart fs → (p : ℕ → Bool) → ((c : ℕ) → c < D .chunks → Held fs c → p c ≡ true)
+      → chunksIn fs ≤ tally p (D .chunks)
+  unfolding chunksIn
+  held-least [] sub a p h = omega arith
+  held-least (x ∷ fs) sub a p h =
+      let o = t .from x (sub x (List·Memᴰ·head refl)) in
+      let own : ℕ → Bool = λ c. isOf (o .0) (D .link c) in
+      let join = tally-join own p (D .chunks) (λ c l e. h c l (own-held (x ∷ fs) x (List·Memᴰ·head refl) (o .0) (o .1) (o .2) c l e)) in
+      let many : x .chunks ≡ length (G (o .0)) = ap (λ (f : File). f .chunks) (o .3) in
+      let rest = held-least fs (λ f m. sub f (List·Memᴰ·tail m)) (a .1) (λ c. p c && not (own c)) (λ c l y. both (o .0) (o .2) c l y) in
+      omega (arith, join, many, d .counted (o .0) (o .1), rest)
+    where
+      both : (s : ℕ) → D .entry s ≡ named (x .name) (x .id) → (c : ℕ) → c < D .chunks → Held fs c → (p c && not (isOf s (D .link c))) ≡ true
+      both s e c l y =
+          rw (
+            h c l (record { by = y .by; is = y .is; below = y .below; file = y .file; among = List·Memᴰ·tail (y .among); entry = y .entry }),
+            not-of s (y .is) (λ z. a .0 (y .file) (y .among) (same-id e (ap (D .entry) (sym z) ∙ y .entry))),
+          ) refl
+
+  pub free-fewer : (c : ℕ) → c < D .chunks → D .link c ≡ link.Free → chunksIn files < D .chunks
+  free-fewer c h v =
+      let other : ℕ → Bool = λ b. not (eqb b c) in
+      let least = held-least files (λ f m. m) (t .apart) other (λ b l y. rw (ne-eqb b c (λ e. free≢linked v (ap (D .link) (sym e) ∙ y .is))) refl) in
+      let more = tally-more other (λ b. true) (D .chunks) c h (rw (eq-eqb c c refl) refl) refl (λ b l n e. refl) in
+      omega (arith, least, more, tally-le (λ b. true) (D .chunks))

@@ -30,7 +30,6 @@ pub mod Spends
 pub mod FirstCommit
 pub mod Enough
 pub mod Counting
-pub mod Rooms
 pub mod Creating
 pub mod Going
 pub mod Accepted

@@ -7,7 +7,6 @@ use mathlib.Core.Logic.{_⊎_, inl, inr}
 use mathlib.Core.Bool.{Bool, true, false}
 use mathlib.Core.Option.{Option}
 use mathlib.Core.List.{List, [], _∷_, List·Memᴰ}
-use lib.ListN.{length}
 use Rattle.le.specs.Choice.{pick}
 use Rattle.names.specs.Names.{nameOk, dirOk}
 use Rattle.medium.specs.declared.Medium.{Medium}
@@ -35,7 +34,7 @@ use Rattle.store.specs.Opening.{openFine}
 use Rattle.power.specs.Calls.{format, create, sync, delete, deleteOldest}
 use Rattle.power.specs.Book.{File, Book, mayGo, newBook}
 use Rattle.power.specs.History.{World, withLeft, ranOldest, ran, openOf}
-use Rattle.power.specs.Room.{Tells, chunksIn}
+use Rattle.power.specs.Room.{Tells, CanCommit, HasRoom}
 use Rattle.power.proofs.Whole.{fileOf, Keeps}
 use Rattle.power.proofs.Checks.{inv-checked}
 use Rattle.power.proofs.Shown.{asked}
@@ -47,7 +46,7 @@ use Rattle.power.proofs.Running.{Ready, opened, some-kept, sync-run}
 use Rattle.power.proofs.Counting.{vacancy, room}
 use Rattle.power.proofs.Creating.{Made, create-makes}
 
-module _ (w : World) (b : Book) (k : Keeps w b) (left : ℕ) (gens : w .store .head .generation ≡ 2 ^ 64 - 1 → ⊥) (enough : bodyOf (w .store .head .chunks) + 2 ≤ left) where
+module _ (w : World) (b : Book) (k : Keeps w b) (left : ℕ) (can : CanCommit w left) where
   abbrev m : Medium
   m = withLeft left (w .medium)
 
@@ -63,17 +62,17 @@ module _ (w : World) (b : Book) (k : Keeps w b) (left : ℕ) (gens : w .store .h
       rw (
         asks (nameOk (f .name)) (named-facts (entryAt (w .vol) (w .store) (o .0)) (o .2) .fine),
         find-there (w .vol) m (w .store) (inv-checked m (k .whole .inv) (k .readable)) (k .layout) (k .whole .good) (f .name) (o .0) (f .id) (o .1) (o .2),
-        remove-is (w .vol) m (w .store) (k .layout) b (k .whole) (k .readable) gens enough (o .0) (f .id),
+        remove-is (w .vol) m (w .store) (k .layout) b (k .whole) (k .readable) (can .gens) (can .writes) (o .0) (f .id),
       ) (refl, refl)
 
-  -- ---- create of a new name, where the book has fewer than 64 files and these have not all chunks
+  -- ---- create of a new name
 
   module _ (name : List ℕ) (rolls : Bool) (dir : List ℕ) (fine : openFine name rolls dir ≡ true) (new : (f : File) → List·Memᴰ f (b .files) → f .name ≡ name → ⊥)
-      (slots : length (b .files) < 64) (chunks : chunksIn (b .files) < w .store .head .chunks) (ids : b .next ≡ 2 ^ 32 - 1 → ⊥) where
+      (has : HasRoom w b) where
     pub create-made : Made w left name rolls dir
     create-made =
-        create-makes w left name rolls dir k fine (λ s i h e. new _ (k .whole .ties .into s name i h e) refl) (vacancy (k .whole .good) (k .whole .ties) slots)
-        (room (k .whole .good) (k .whole .ties) chunks) (λ e. ids (k .whole .next ∙ e)) gens enough
+        create-makes w left name rolls dir k fine (λ s i h e. new _ (k .whole .ties .into s name i h e) refl) (vacancy (k .whole .good) (k .whole .ties) (has .slots))
+        (room (k .whole .good) (k .whole .ties) (has .chunks)) (λ e. has .ids (k .whole .next ∙ e)) (can .gens) (can .writes)
 
     pub create-accepted : Tells w (create left name rolls dir) (created ∷ [])
     create-accepted = rw (create-made .is) (refl, refl)
@@ -114,7 +113,7 @@ module _ (w : World) (b : Book) (k : Keeps w b) (left : ℕ) (gens : w .store .h
     done : (gone .ans .outcome ≡ Done) × ((any : Bool) × (gone .ans .any ≡ any) × Of any)
     done =
         ways (w .vol) m (w .store) (k .layout) b (k .whole) (k .readable) dir keeping kept (λ (g : GoneOut). (g .ans .outcome ≡ Done) × ((any : Bool) × (g .ans .any ≡ any) × Of any))
-        (λ old o t. let g = goer (w .vol) m (w .store) (k .layout) b (k .whole) (k .readable) gens enough _ _ (old .slot) (old .id) in (g .within .0, (true, g .any, one-may old o t)))
+        (λ old o t. let g = goer (w .vol) m (w .store) (k .layout) b (k .whole) (k .readable) (can .gens) (can .writes) _ _ (old .slot) (old .id) in (g .within .0, (true, g .any, one-may old o t)))
         (λ old o t. (refl, (false, refl, none-may old o t)))
 
     ran-is : ran w (deleteOldest left dir) ≡ ranOldest w (oldestTold gone)

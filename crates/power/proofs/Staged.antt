@@ -85,8 +85,8 @@ module _ {w : World} {b : Book} {n : ℕ} (s : Stage w b n) where
 
     made : Made w 11 name rolls dir
     made =
-        create-made w b (s .keeps) 11 (λ e. omega (arith, s .generation, gens, e)) (rw (s .chunks) (lit≤ tt)) name rolls dir fine new slots (rw (s .chunks) few)
-        (λ e. omega (arith, ids, e))
+        create-made w b (s .keeps) 11 (record { gens = λ e. omega (arith, s .generation, gens, e); writes = rw (s .chunks) (lit≤ tt) }) name rolls dir fine new
+        (record { slots = slots; chunks = rw (s .chunks) few; ids = λ e. omega (arith, ids, e) })
 
     pub create-next : Next w b making (created ∷ []) 0 0 (n + 1)
     unfolding Given

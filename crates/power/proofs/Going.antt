@@ -4,8 +4,6 @@ use mathlib.Core.Path.{_≡_, refl, sym, ap, subst, _∙_}
 use mathlib.Core.Bool.{Bool, true, false}
 use mathlib.Core.List.{List, []}
 use lib.Dec.{lit≤}
-use Rattle.le.specs.Part.{part}
-use Rattle.le.proofs.Choices.{pick-true}
 use Rattle.medium.specs.declared.Medium.{Medium}
 use Rattle.medium.specs.declared.Outcome.the-variants.{Done}
 use Rattle.medium.specs.Sector.{Readable}
@@ -13,22 +11,18 @@ use Rattle.medium.proofs.Laws.{onDone-done}
 use Rattle.handles.specs.declared.Header.{Header}
 use Rattle.handles.specs.declared.Store.{Store}
 use Rattle.handles.specs.Handles.{bodyOf}
-use Rattle.directory.specs.declared.Old.{Old}
-use Rattle.directory.specs.declared.OldestFile.the-variants as oldest
-use Rattle.directory.specs.Entry.{entryAt}
-use Rattle.directory.specs.Scan.{oldestOf}
 use Rattle.plan.specs.declared.Edit.the-variants.{Remove}
 use Rattle.plan.specs.Edit.{headAfter}
 use Rattle.plan.specs.Copy.{isFormat, Out}
 use Rattle.commit.specs.Commit.{commitOf}
 use Rattle.commit.proofs.Keeps.{commit-keeps}
-use Rattle.remove.specs.Remove.{closedFor, removeOf, GoneOut, goneOf, oldestGone, removeOldestOf}
+use Rattle.remove.specs.Remove.{closedFor, removeOf, GoneOut, goneOf, removeOldestOf}
 use Rattle.layout.specs.Views.{named, diskOf}
 use Rattle.layout.specs.Segments.{Segment}
-use Rattle.folds.proofs.Oldest.{Goes, Olds, oldest-view}
+use Rattle.folds.proofs.Oldest.{Goes}
 use Rattle.power.specs.Book.{Book}
 use Rattle.power.proofs.Whole.{Whole}
-use Rattle.power.proofs.Checks.{inv-checked}
+use Rattle.power.proofs.Oldest.{ways}
 use Rattle.power.proofs.Enough.{Within, commit-within}
 
 -- a file went, by at most the writes of a commit: the shape is as it was, with a generation more
@@ -51,7 +45,7 @@ module _ (vol : List ℕ) (m : Medium) (st : Store) (G : ℕ → List Segment) (
   within : (slot : ℕ) → Within (bodyOf (st .head .chunks) + 2) m (commit slot .ans .outcome) (commit slot .ans .medium)
   within slot = commit-within (Remove slot) [] vol m st (w .inv) r (not-format slot) (lit≤ tt) gens enough
 
-  remove-is : (slot id : ℕ) → removeOf vol m st slot id ≡ record {
+  pub remove-is : (slot id : ℕ) → removeOf vol m st slot id ≡ record {
     vol = commit slot .vol;
     ans = record { outcome = Done; medium = commit slot .ans .medium; store = closedFor id (commit slot .ans .store) };
     skipped = commit slot .skipped;
@@ -59,7 +53,7 @@ module _ (vol : List ℕ) (m : Medium) (st : Store) (G : ℕ → List Segment) (
   unfolding removeOf
   remove-is slot id = onDone-done _ _ (within slot .0)
 
-  goer : (name : List ℕ) (len slot id : ℕ) → Goer m st (goneOf name len (removeOf vol m st slot id))
+  pub goer : (name : List ℕ) (len slot id : ℕ) → Goer m st (goneOf name len (removeOf vol m st slot id))
   unfolding goneOf headAfter
   goer name len slot id =
       let k = commit-keeps (Remove slot) [] vol m st (w .inv .ok) (w .inv .range .count) (lit≤ tt) in
@@ -70,13 +64,5 @@ module _ (vol : List ℕ) (m : Medium) (st : Store) (G : ℕ → List Segment) (
   module _ (dir : List ℕ) (keeping : Bool) (kept : ℕ) where
     pub oldest-goes : (s : ℕ) → s < 64 → (name : List ℕ) (id : ℕ) → diskOf vol st .entry s ≡ named name id → Goes dir keeping kept name id
         → Goer m st (removeOldestOf vol m st dir keeping kept)
-    unfolding removeOldestOf oldestGone
     oldest-goes s h name id e goes =
-        let f = oldest-view vol m st (inv-checked m (w .inv) r) G (w .good) dir keeping kept in
-        go (f .0) (f .1) (f .2) (f .0 .any) refl
-      where
-        go : (old : Old) → oldestOf vol m st dir keeping kept ≡ oldest.Done old → Olds vol st dir keeping kept 64 old → (t : Bool) → old .any ≡ t
-            → Goer m st (removeOldestOf vol m st dir keeping kept)
-        go old q p false t = absurd (p .none t s h name id e goes)
-        go old q p true t =
-            subst (Goer m st) (sym (ap (oldestGone vol m st) q ∙ pick-true _ _ t)) (goer (part 0 40 (entryAt vol st (old .slot))) (old .len) (old .slot) (old .id))
+        ways vol m st G b w r dir keeping kept (Goer m st) (λ old o t. goer _ _ (old .slot) (old .id)) (λ old o t. absurd (o .none t s h name id e goes))

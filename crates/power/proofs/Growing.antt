@@ -1,23 +1,22 @@
--- A sync in a history of a store of two chunks, whose file has one and the other file the other, with a rollover over the root: that file goes, the
--- appender's takes its chunk, and the record is written. Assumes nothing.
+-- A sync in a history whose record takes another chunk. Where one is free it is linked and the record written; where none is, with a rollover and a file
+-- that may go, the oldest goes first. Assumes nothing.
 use Prim.Native.Nat.{ℕ, _+_, _-_, _*_, _^_, _≤_, _<_}
-use mathlib.Core.Path.{_≡_, refl, sym, ap, ap₂, subst, _∙_}
-use mathlib.Core.Logic.{_≢_}
+use mathlib.Core.Path.{_≡_, refl, sym, ap, subst, _∙_}
 use mathlib.Core.Bool.{Bool, true, false}
-use mathlib.Core.Option.{Option, some}
+use mathlib.Core.Option.{some}
 use mathlib.Core.List.{List, [], _∷_, List·Memᴰ}
 use native.Mathlib.Omega.{arith}
-use borrow.Author.Tests.{ne-eqb, le-ltb, lt-leb}
-use lib.Dec.{lit≤}
+use borrow.Author.Tests.{le-ltb, lt-leb}
+use lib.Dec.{leb, lit≤}
 use Rattle.le.specs.Choice.{pick}
 use Rattle.le.proofs.Choices.{pick-true, pick-false}
-use Rattle.names.proofs.Laws.{in-root}
 use Rattle.medium.specs.declared.Error.the-variants.{Corrupt}
 use Rattle.medium.specs.declared.Medium.{Medium}
 use Rattle.medium.specs.declared.Outcome.the-variants.{Done}
 use Rattle.medium.proofs.Laws.{onDone-done, onDone-keeps}
 use Rattle.handles.specs.declared.Header.{Header}
 use Rattle.handles.specs.declared.Store.{Store}
+use Rattle.handles.specs.declared.Writer.the-variants.{Open}
 use Rattle.handles.specs.Handles.{isOpen, openId, bodyOf}
 use Rattle.table.specs.declared.LinkAt.the-variants as link
 use Rattle.table.specs.declared.Pick.{Pick}
@@ -30,30 +29,31 @@ use Rattle.plan.specs.Copy.{isFormat, rolledOver, extended, recorded, Skipped, 
 use Rattle.commit.proofs.Keeps.{Kept, commit-keeps}
 use Rattle.remove.specs.Remove.{GoneOut, removeOldestOf}
 use Rattle.append.specs.declared.Appender.{Appender}
-use Rattle.append.specs.declared.Tail.the-variants.{At}
-use Rattle.append.specs.Appender.{dirBytes}
-use Rattle.append.specs.Calls.{callOf, offered, syncCall}
-use Rattle.append.specs.Flush.{AppOut, stopped, after, rolling, andThen, linkOut, rolledOut, extendOf, movedTo, recordOut, onTail, writeOut, flushOf, syncOf}
+use Rattle.append.specs.declared.Tail.{Tail}
+use Rattle.append.specs.declared.Tail.the-variants.{At, Reopened, Closed}
+use Rattle.append.specs.Appender.{dirBytes, isClosed}
+use Rattle.append.specs.Flush.{AppOut, stopped, after, rolling, andThen, linkOut, rolledOut, extendOf, movedTo, recordOut, onTail, writeOut, flushOf}
 use Rattle.append.proofs.Then.{then-done}
 use Rattle.layout.specs.Views.{linkView}
 use Rattle.layout.specs.Segments.{Segment}
 use Rattle.folds.proofs.Chunks.{Free, free-found}
-use Rattle.folds.proofs.Oldest.{Goes}
 use Rattle.medium.specs.Sector.{Readable}
 use Rattle.power.specs.Calls.{sync}
-use Rattle.power.specs.Book.{File, Book, ifSet, withoutOldest}
-use Rattle.power.specs.History.{World, Ran, withLeft, ranAppend, ran, openOf, EachStep}
-use Rattle.power.proofs.Whole.{Whole, Keeps}
+use Rattle.power.specs.Book.{File, Book, keep, mayGo, ifSet}
+use Rattle.power.specs.History.{World, Ran, withLeft, ran, openOf, EachStep}
+use Rattle.power.specs.Room.{Tells, chunksIn, TakesChunk}
+use Rattle.power.proofs.Whole.{fileOf, Whole, Keeps}
+use Rattle.power.proofs.Members.{isNot, not-here}
 use Rattle.power.proofs.Checks.{inv-checked}
-use Rattle.power.proofs.Picks.{sparedBy}
+use Rattle.power.proofs.Picks.{sparedBy, may-goes}
 use Rattle.power.proofs.Removing.{gone-readable}
 use Rattle.power.proofs.Oldest.{Went, spared-open, oldest-made}
 use Rattle.power.proofs.Standing.{position-in}
 use Rattle.power.proofs.Linking.{commit, step, moved, link-made}
 use Rattle.power.proofs.Spends.{write-some}
-use Rattle.power.proofs.Running.{Ready, stands, may}
+use Rattle.power.proofs.Running.{Opened, stands, some-kept, sync-flush, sync-done}
 use Rattle.power.proofs.Enough.{Within, commit-within}
-use Rattle.power.proofs.Rooms.{Single, room, no-room}
+use Rattle.power.proofs.Counting.{chunks-fewer, room, free-fewer}
 use Rattle.power.proofs.Going.{Goer, oldest-goes}
 
 -- ---- the free chunk, where one is, and where none is
@@ -82,16 +82,24 @@ not-format : (s p n l : ℕ) (partial : Bool) (k : ℕ) → isFormat (Extend s p
 unfolding isFormat
 not-format s p n l partial k = refl
 
-set-root : (rolls : Bool) (dir : List ℕ) → some [] ≡ ifSet rolls dir → (rolls ≡ true) × (dir ≡ [])
+set-dir : (rolls : Bool) (bytes dir : List ℕ) → some dir ≡ ifSet rolls bytes → (rolls ≡ true) × (bytes ≡ dir)
 unfolding pick
-set-root true dir e = let q : dir ≡ [] = cc in (refl, q)
-set-root false dir e = let z : _≡_ {A = ℕ} 0 1 = cc in absurd (omega arith)
+set-dir true bytes dir e = let q : bytes ≡ dir = cc in (refl, q)
+set-dir false bytes dir e = let z : _≡_ {A = ℕ} 0 1 = cc in absurd (omega arith)
 
--- no room in the chunk: another one first
-write-next : (vol : List ℕ) (m : Medium) (st : Store) (a : Appender) (i : ℕ) → a .tail ≡ At i → st .head .chunk ≤ i
-    → writeOut vol m st a ≡ andThen (extendOf vol m st a false 0) (recordOut 0)
+takes-live : (t : Tail) (size : ℕ) → TakesChunk t size → isClosed t ≡ false
+unfolding isClosed
+takes-live (At i) size h = refl
+takes-live (Reopened n) size h = refl
+takes-live Closed size h = absurd h
+
+-- another chunk first, and where the last one was reopened it is marked
+write-next : (vol : List ℕ) (m : Medium) (st : Store) (a : Appender) (t : Tail) → a .tail ≡ t → TakesChunk t (st .head .chunk)
+    → (partial : Bool) × ((records : ℕ) × (writeOut vol m st a ≡ andThen (extendOf vol m st a partial records) (recordOut 0)))
 unfolding writeOut onTail
-write-next vol m st a i at h = rw at (pick-false _ _ (le-ltb i (st .head .chunk) h))
+write-next vol m st a (At i) q h = (false, (0, rw q (pick-false _ _ (le-ltb i (st .head .chunk) h))))
+write-next vol m st a (Reopened n) q h = (true, (n, rw q refl))
+write-next vol m st a Closed q h = absurd h
 
 -- the step that a call began with
 rolled-first : (P : Skipped → Type 0) (skipped : List Skipped) (o : AppOut) (next : List ℕ → Medium → Store → Appender → AppOut)
@@ -102,6 +110,36 @@ rolled-first P skipped o next = onDone-keeps (λ (x : AppOut). EachStep P (x .st
 flush-steps : (vol : List ℕ) (m : Medium) (st : Store) (a : Appender) → flushOf vol m st a .steps ≡ writeOut vol m st a .steps
 unfolding flushOf
 flush-steps vol m st a = onDone-keeps (λ (x : AppOut). x .steps ≡ writeOut vol m st a .steps) (writeOut vol m st a .ans .outcome) _ _ (λ _. refl) (λ _ _. refl)
+
+-- ---- a chunk is linked, and the record is written in it
+
+module _ (vol : List ℕ) (m : Medium) (st : Store) {G : ℕ → List Segment} {b : Book} (w : Whole vol st G b) (r : Readable vol m) (a : Appender) (partial : Bool) (records c : ℕ)
+    (gens : st .head .generation ≡ 2 ^ 64 - 1 → ⊥) (enough : bodyOf (st .head .chunks) + 3 ≤ m .left) where
+  abbrev edit : Edit
+  edit = Extend (a .slot) (a .position) c (a .chunk) partial records
+
+  abbrev o : Out
+  o = commit vol m st a partial records c
+
+  within : Within (bodyOf (st .head .chunks) + 2) m (o .ans .outcome) (o .ans .medium)
+  within = commit-within edit [] vol m st (w .inv) r (not-format (a .slot) (a .position) c (a .chunk) partial records) (lit≤ tt) gens (omega (arith, enough))
+
+  linked-is : linkOut vol m st a partial records c ≡ after (step vol m st a partial records c ∷ []) (moved vol m st a partial records c)
+  linked-is = link-made vol m st a partial records c (within .0)
+
+  abbrev last : AppOut
+  last = recordOut 0 (o .vol) (o .ans .medium) (o .ans .store) (movedTo c a)
+
+  last-done : (last .ans .outcome ≡ Done) × (last .steps ≡ (record { kind = recorded; skipped = [] }) ∷ []) × (last .ans .store ≡ o .ans .store)
+  unfolding recordOut
+  last-done = rw (onDone-done _ _ (write-some (o .vol) (o .ans .medium) _ _ (omega (arith, within .1, enough)) .0)) (refl, refl, refl)
+
+  kept : Kept edit vol m st o
+  kept = commit-keeps edit [] vol m st (w .inv .ok) (w .inv .range .count) (lit≤ tt)
+
+  later : o .ans .store .head .generation ≡ st .head .generation + 1
+  unfolding headAfter
+  later = ap (λ (h : Header). h .generation) (kept .accepted (within .0) .1)
 
 -- ---- the call
 
@@ -116,148 +154,157 @@ pub record Grown (w : World) (left : ℕ) : Type 0 where
   pub size : ran w (sync left) .world .store .head .chunk ≡ w .store .head .chunk
   pub generation : ran w (sync left) .world .store .head .generation ≡ w .store .head .generation + 2
 
-module _ {w : World} {b : Book} {i n : ℕ} (k : Keeps w b) (y : Ready w i n) (left : ℕ) (bytes : 1 ≤ n) (full : w .store .head .chunk ≤ i) (two : w .store .head .chunks ≡ 2)
-    (root : b .rollover ≡ some []) (f g : File) (other : List·Memᴰ f (b .files)) (own : List·Memᴰ g (b .files)) (mine : g .id ≡ b .file) (apart : f .id ≢ g .id)
-    (single : Single (withoutOldest (some []) (some (b .file)) (b .files))) (gens : w .store .head .generation + 2 ≤ 2 ^ 64 - 1)
-    (enough : 2 * (bodyOf (w .store .head .chunks) + 2) + 1 ≤ left) where
+module _ {w : World} {b : Book} (k : Keeps w b) (left : ℕ) (writer : w .store .writer ≡ Open (w .appender .token) (w .appender .id))
+    (takes : TakesChunk (w .appender .tail) (w .store .head .chunk)) (some-bytes : b .unwritten ≡ [] → ⊥) where
   abbrev a : Appender
   a = w .appender
 
   abbrev m : Medium
   m = withLeft left (w .medium)
 
-  abbrev x : GoneOut
-  x = removeOldestOf (w .vol) m (w .store) (dirBytes (a .dir)) (isOpen (w .store .writer)) (openId (w .store .writer))
+  y : Opened w
+  y = record { writer = writer; live = takes-live (a .tail) (w .store .head .chunk) takes }
 
-  set : (a .rolls ≡ true) × (dirBytes (a .dir) ≡ [])
-  set = set-root (a .rolls) (dirBytes (a .dir)) (sym root ∙ stands k y .0 .rollover)
+  bytes : 1 ≤ a .fill
+  bytes = some-kept k y some-bytes
 
-  -- ---- the other file goes
+  abbrev next : (partial : Bool) × ((records : ℕ) × (writeOut (w .vol) m (w .store) a ≡ andThen (extendOf (w .vol) m (w .store) a partial records) (recordOut 0)))
+  next = write-next (w .vol) m (w .store) a (a .tail) refl takes
 
-  goes : Goes (dirBytes (a .dir)) (isOpen (w .store .writer)) (openId (w .store .writer)) (f .name) (f .id)
-  goes =
-      record {
-        inside = rw (set .1) (in-root (f .name));
-        unspared = rw (y .writer) (ne-eqb (f .id) (a .id) (λ e. apart (e ∙ sym (stands k y .0 .file) ∙ sym mine)));
-      }
+  abbrev partial : Bool
+  partial = next .0
 
-  gone : Goer m (w .store) x
-  gone =
-      let s = k .whole .ties .from f other in
-      oldest-goes (w .vol) m (w .store) (k .layout) b (k .whole) (k .readable) (λ e. omega (arith, e, gens)) (omega (arith, enough))
-      (dirBytes (a .dir)) (isOpen (w .store .writer)) (openId (w .store .writer)) (s .0) (s .1) (f .name) (f .id) (s .2) goes
+  abbrev records : ℕ
+  records = next .1 .0
 
-  -- what follows it
-  abbrev onward : AppOut
-  onward =
-      onPick (freeOf (x .vol) (x .ans .medium) (x .ans .store)) (stopped (x .vol) (x .ans .medium) (x .ans .store) a) (stopped (x .vol) (x .ans .medium) (x .ans .store) a Corrupt)
-      (linkOut (x .vol) (x .ans .medium) (x .ans .store) a false 0)
+  low : leb 32767 (a .position) ≡ false
+  low = lt-leb 32767 (a .position) (omega (arith, position-in (k .whole) (stands k y .0)))
 
-  extend-is : extendOf (w .vol) m (w .store) a false 0 ≡ after (rolling (x .skipped)) onward
-  unfolding extendOf rolledOut onPick
-  extend-is =
-      pick-false _ _ (lt-leb 32767 (a .position) (omega (arith, position-in (k .whole) (stands k y .0))))
-      ∙ rw (none-found (w .vol) m (w .store) (k .whole) (k .readable) (no-room (k .whole) f g other own apart two))
-      (pick-true _ _ (set .0) ∙ onDone-done _ _ (gone .within .0) ∙ pick-true _ _ (gone .any))
+  -- ---- a chunk is free
 
-  write-is : writeOut (w .vol) m (w .store) a ≡ andThen (after (rolling (x .skipped)) onward) (recordOut 0)
-  write-is = write-next (w .vol) m (w .store) a i (y .tail) full ∙ ap (λ (o : AppOut). andThen o (recordOut 0)) extend-is
+  module _ (room-left : chunksIn (b .files) < w .store .head .chunks) (gens : w .store .head .generation ≡ 2 ^ 64 - 1 → ⊥) (enough : bodyOf (w .store .head .chunks) + 3 ≤ left) where
+    free-here : (c : ℕ) × (freeOf (w .vol) m (w .store) ≡ free.At c)
+    free-here = found (w .vol) m (w .store) (k .whole) (k .readable) (room (k .whole .good) (k .whole .ties) room-left)
 
-  sync-is : syncOf (w .vol) m (w .store) a ≡ flushOf (w .vol) m (w .store) a
-  unfolding syncOf
-  sync-is = pick-false _ _ (ne-eqb (a .fill) 0 (λ e. omega (arith, y .fill, e, bytes)))
+    extend-links : extendOf (w .vol) m (w .store) a partial records ≡ linkOut (w .vol) m (w .store) a partial records (free-here .0)
+    unfolding extendOf onPick
+    extend-links = pick-false _ _ low ∙ rw (free-here .1) refl
 
-  ran-is : ran w (sync left) ≡ ranAppend (callOf (flushOf (w .vol) m (w .store) a))
-  unfolding ran syncCall offered
-  ran-is = ap ranAppend (onDone-done _ _ (may k y) ∙ ap callOf sync-is)
+    abbrev both : AppOut
+    both = after (step (w .vol) m (w .store) a partial records (free-here .0) ∷ []) (last (w .vol) m (w .store) (k .whole) (k .readable) a partial records (free-here .0) gens enough)
 
-  -- ---- then a chunk is free, under the premise on the sectors that the removal left unwritten
+    both-is : writeOut (w .vol) m (w .store) a ≡ both
+    both-is =
+        next .1 .1 ∙ ap (λ (o : AppOut). andThen o (recordOut 0)) (extend-links ∙ linked-is (w .vol) m (w .store) (k .whole) (k .readable) a partial records (free-here .0) gens enough)
+        ∙ then-done (after (step (w .vol) m (w .store) a partial records (free-here .0) ∷ []) (moved (w .vol) m (w .store) a partial records (free-here .0))) (recordOut 0) refl
 
-  module _ (each : EachStep Distinct (ran w (sync left) .steps)) where
-    each-gone : EachSkipped Distinct (x .skipped)
-    each-gone =
-        rolled-first Distinct (x .skipped) onward (recordOut 0)
-        (subst (EachStep Distinct) (ap (λ (r : Ran). r .steps) ran-is ∙ flush-steps (w .vol) m (w .store) a ∙ ap (λ (o : AppOut). o .steps) write-is) each)
+    pub sync-extends : Tells w (sync left) (extended ∷ recorded ∷ [])
+    sync-extends =
+        let d = last-done (w .vol) m (w .store) (k .whole) (k .readable) a partial records (free-here .0) gens enough in
+        rw (sync-done k y left bytes both-is (d .0), d .0, d .1) (refl, refl)
 
-    went : Went (w .vol) m (w .store) (k .layout) b (dirBytes (a .dir)) (isOpen (w .store .writer)) (openId (w .store .writer)) x
-    went =
-        oldest-made (w .vol) m (w .store) (k .layout) b (k .whole) (k .readable) (dirBytes (a .dir)) (isOpen (w .store .writer)) (openId (w .store .writer)) (gone .any) each-gone
+  -- ---- none is, and a file of the rollover's directory may go
 
-    reads : Readable (x .vol) (x .ans .medium)
-    reads = gone-readable (went .gone) (k .readable)
+  module _ (none-left : chunksIn (b .files) ≡ w .store .head .chunks) (dir : List ℕ) (over : b .rollover ≡ some dir) (f : File) (has : List·Memᴰ f (b .files))
+      (goes : mayGo dir (some (b .file)) f ≡ true) (gens : w .store .head .generation + 2 ≤ 2 ^ 64 - 1) (enough : 2 * (bodyOf (w .store .head .chunks) + 2) + 1 ≤ left) where
+    abbrev keeping : Bool
+    keeping = isOpen (w .store .writer)
 
-    files-left : withoutOldest (some (dirBytes (a .dir))) (sparedBy (isOpen (w .store .writer)) (openId (w .store .writer))) (b .files) ≡ withoutOldest (some []) (some (b .file)) (b .files)
-    files-left =
-        ap₂ (λ (d : List ℕ) (s : Option ℕ). withoutOldest (some d) s (b .files)) (set .1)
-        (spared-open (w .store .writer) ∙ ap openOf (y .writer) ∙ ap some (sym (stands k y .0 .file)))
+    abbrev spared : ℕ
+    spared = openId (w .store .writer)
 
-    free-there : (c : ℕ) × (freeOf (x .vol) (x .ans .medium) (x .ans .store) ≡ free.At c)
-    free-there =
-        found (x .vol) (x .ans .medium) (x .ans .store) (went .whole) reads (room (went .whole) (subst Single (sym files-left) single) (gone .chunks ∙ two))
+    abbrev x : GoneOut
+    x = removeOldestOf (w .vol) m (w .store) (dirBytes (a .dir)) keeping spared
 
-    -- ---- it is linked, and the record is written
+    set : (a .rolls ≡ true) × (dirBytes (a .dir) ≡ dir)
+    set = set-dir (a .rolls) (dirBytes (a .dir)) dir (sym over ∙ stands k y .0 .rollover)
 
-    abbrev c : ℕ
-    c = free-there .0
+    spares : some (b .file) ≡ sparedBy keeping spared
+    spares = ap some (stands k y .0 .file) ∙ sym (ap openOf writer) ∙ sym (spared-open (w .store .writer))
 
-    abbrev edit : Edit
-    edit = Extend (a .slot) (a .position) c (a .chunk) false 0
+    gone : Goer m (w .store) x
+    gone =
+        let s = k .whole .ties .from f has in
+        let may : mayGo (dirBytes (a .dir)) (sparedBy keeping spared) f ≡ true = rw (set .1, ← spares) goes in
+        oldest-goes (w .vol) m (w .store) (k .layout) b (k .whole) (k .readable) (λ e. omega (arith, e, gens)) (omega (arith, enough))
+        (dirBytes (a .dir)) keeping spared (s .0) (s .1) (f .name) (f .id) (s .2) (may-goes (dirBytes (a .dir)) keeping spared f may)
 
-    abbrev o : Out
-    o = commit (x .vol) (x .ans .medium) (x .ans .store) a false 0 c
+    -- what follows it
+    abbrev onward : AppOut
+    onward =
+        onPick (freeOf (x .vol) (x .ans .medium) (x .ans .store)) (stopped (x .vol) (x .ans .medium) (x .ans .store) a) (stopped (x .vol) (x .ans .medium) (x .ans .store) a Corrupt)
+        (linkOut (x .vol) (x .ans .medium) (x .ans .store) a partial records)
 
-    within : Within (bodyOf (x .ans .store .head .chunks) + 2) (x .ans .medium) (o .ans .outcome) (o .ans .medium)
-    within =
-        commit-within edit [] (x .vol) (x .ans .medium) (x .ans .store) (went .whole .inv) reads (not-format (a .slot) (a .position) c (a .chunk) false 0) (lit≤ tt)
-        (λ e. omega (arith, e, gone .generation, gens)) (rw (gone .chunks) (omega (arith, gone .within .1, enough)))
+    extend-is : extendOf (w .vol) m (w .store) a partial records ≡ after (rolling (x .skipped)) onward
+    unfolding extendOf rolledOut onPick
+    extend-is =
+        pick-false _ _ low
+        ∙ rw (none-found (w .vol) m (w .store) (k .whole) (k .readable) (λ c h v. omega (arith, none-left, free-fewer (k .whole .good) (k .whole .ties) c h v)))
+        (pick-true _ _ (set .0) ∙ onDone-done _ _ (gone .within .0) ∙ pick-true _ _ (gone .any))
 
-    abbrev linked : AppOut
-    linked = after (step (x .vol) (x .ans .medium) (x .ans .store) a false 0 c ∷ []) (moved (x .vol) (x .ans .medium) (x .ans .store) a false 0 c)
+    write-is : writeOut (w .vol) m (w .store) a ≡ andThen (after (rolling (x .skipped)) onward) (recordOut 0)
+    write-is = next .1 .1 ∙ ap (λ (o : AppOut). andThen o (recordOut 0)) extend-is
 
-    onward-is : onward ≡ linked
-    unfolding onPick
-    onward-is = rw (free-there .1) (link-made (x .vol) (x .ans .medium) (x .ans .store) a false 0 c (within .0))
+    -- then a chunk is free, under the premise on the sectors that the removal left unwritten
+    module _ (each : EachStep Distinct (ran w (sync left) .steps)) where
+      each-gone : EachSkipped Distinct (x .skipped)
+      each-gone =
+          rolled-first Distinct (x .skipped) onward (recordOut 0)
+          (subst (EachStep Distinct) (ap (λ (r : Ran). r .steps) (sync-flush k y left bytes) ∙ flush-steps (w .vol) m (w .store) a ∙ ap (λ (o : AppOut). o .steps) write-is) each)
 
-    abbrev last : AppOut
-    last = recordOut 0 (o .vol) (o .ans .medium) (o .ans .store) (movedTo c a)
+      went : Went (w .vol) m (w .store) (k .layout) b (dirBytes (a .dir)) keeping spared x
+      went = oldest-made (w .vol) m (w .store) (k .layout) b (k .whole) (k .readable) (dirBytes (a .dir)) keeping spared (gone .any) each-gone
 
-    one-left : 1 ≤ o .ans .medium .left
-    one-left = let e : bodyOf (x .ans .store .head .chunks) ≡ bodyOf (w .store .head .chunks) = ap bodyOf (gone .chunks) in omega (arith, within .1, gone .within .1, enough, e)
+      reads : Readable (x .vol) (x .ans .medium)
+      reads = gone-readable (went .gone) (k .readable)
 
-    last-done : (last .ans .outcome ≡ Done) × (last .steps ≡ (record { kind = recorded; skipped = [] }) ∷ []) × (last .ans .store ≡ o .ans .store)
-    unfolding recordOut
-    last-done = rw (onDone-done _ _ (write-some (o .vol) (o .ans .medium) _ _ one-left .0)) (refl, refl, refl)
+      fewer : chunksIn (keep (isNot (went .id)) (b .files)) < x .ans .store .head .chunks
+      fewer =
+          let g : File = fileOf (went .name) (went .id) (k .layout (went .slot)) in
+          let c = chunks-fewer (isNot (went .id)) g (b .files) (k .whole .ties .into (went .slot) (went .name) (went .id) (went .below) (went .gone .was)) (not-here (went .id) g refl)
+          (k .whole .good .held (went .slot) (went .name) (went .id) (went .below) (went .gone .was)) in
+          omega (arith, c, none-left, gone .chunks)
 
-    abbrev all : AppOut
-    all = after ((record { kind = rolledOver; skipped = x .skipped }) ∷ step (x .vol) (x .ans .medium) (x .ans .store) a false 0 c ∷ []) last
+      free-there : (c : ℕ) × (freeOf (x .vol) (x .ans .medium) (x .ans .store) ≡ free.At c)
+      free-there = found (x .vol) (x .ans .medium) (x .ans .store) (went .whole) reads (room (went .gone .whole .good) (went .gone .whole .ties) fewer)
 
-    written-is : writeOut (w .vol) m (w .store) a ≡ all
-    written-is =
-        write-is ∙ ap (λ (z : AppOut). andThen (after (rolling (x .skipped)) z) (recordOut 0)) onward-is
-        ∙ then-done (after (rolling (x .skipped)) linked) (recordOut 0) refl
+      abbrev c : ℕ
+      c = free-there .0
 
-    flush-is : flushOf (w .vol) m (w .store) a ≡ all
-    unfolding flushOf
-    flush-is = onDone-done _ _ (ap (λ (z : AppOut). z .ans .outcome) written-is ∙ last-done .0) ∙ written-is
+      fresh : x .ans .store .head .generation ≡ 2 ^ 64 - 1 → ⊥
+      fresh e = omega (arith, e, gone .generation, gens)
 
-    run-is : ran w (sync left) ≡ ranAppend (callOf all)
-    run-is = ran-is ∙ ap (λ (z : AppOut). ranAppend (callOf z)) flush-is
+      ample : bodyOf (x .ans .store .head .chunks) + 3 ≤ x .ans .medium .left
+      ample = rw (gone .chunks) (omega (arith, gone .within .1, enough))
 
-    kept : Kept edit (x .vol) (x .ans .medium) (x .ans .store) o
-    kept = commit-keeps edit [] (x .vol) (x .ans .medium) (x .ans .store) (went .whole .inv .ok) (went .whole .inv .range .count) (lit≤ tt)
+      -- it is linked, and the record is written
+      abbrev all : AppOut
+      all =
+          after ((record { kind = rolledOver; skipped = x .skipped }) ∷ step (x .vol) (x .ans .medium) (x .ans .store) a partial records c ∷ [])
+          (last (x .vol) (x .ans .medium) (x .ans .store) (went .whole) reads a partial records c fresh ample)
 
-    later : o .ans .store .head .generation ≡ x .ans .store .head .generation + 1
-    unfolding headAfter
-    later = ap (λ (h : Header). h .generation) (kept .accepted (within .0) .1)
+      onward-is : onward ≡ after (step (x .vol) (x .ans .medium) (x .ans .store) a partial records c ∷ []) (moved (x .vol) (x .ans .medium) (x .ans .store) a partial records c)
+      unfolding onPick
+      onward-is = rw (free-there .1) (linked-is (x .vol) (x .ans .medium) (x .ans .store) (went .whole) reads a partial records c fresh ample)
 
-    pub sync-grows : Grown w left
-    sync-grows =
-        record {
-          accepted = rw (run-is, last-done .0) refl;
-          rolled = x .skipped;
-          linked = o .skipped;
-          steps = rw (run-is, last-done .1) refl;
-          chunks = rw (run-is, last-done .2) (kept .chunks ∙ gone .chunks);
-          size = rw (run-is, last-done .2) (kept .chunk ∙ gone .size);
-          generation = rw (run-is, last-done .2) (omega (arith, later, gone .generation));
-        }
+      written-is : writeOut (w .vol) m (w .store) a ≡ all
+      written-is =
+          write-is ∙ ap (λ (z : AppOut). andThen (after (rolling (x .skipped)) z) (recordOut 0)) onward-is
+          ∙ then-done (after (rolling (x .skipped)) (after (step (x .vol) (x .ans .medium) (x .ans .store) a partial records c ∷ []) (moved (x .vol) (x .ans .medium) (x .ans .store) a partial records c)))
+          (recordOut 0) refl
+
+      pub sync-grows : Grown w left
+      sync-grows =
+          let d = last-done (x .vol) (x .ans .medium) (x .ans .store) (went .whole) reads a partial records c fresh ample in
+          let s = kept (x .vol) (x .ans .medium) (x .ans .store) (went .whole) reads a partial records c fresh ample in
+          let g = later (x .vol) (x .ans .medium) (x .ans .store) (went .whole) reads a partial records c fresh ample in
+          let q = sync-done k y left bytes written-is (d .0) in
+          record {
+            accepted = rw (q, d .0) refl;
+            rolled = x .skipped;
+            linked = commit (x .vol) (x .ans .medium) (x .ans .store) a partial records c .skipped;
+            steps = rw (q, d .1) refl;
+            chunks = rw (q, d .2) (s .chunks ∙ gone .chunks);
+            size = rw (q, d .2) (s .chunk ∙ gone .size);
+            generation = rw (q, d .2) (omega (arith, g, gone .generation));
+          }

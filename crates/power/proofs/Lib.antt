@@ -29,9 +29,10 @@ pub mod History
 pub mod Spends
 pub mod FirstCommit
 pub mod Enough
-pub mod Rooms
+pub mod Counting
 pub mod Creating
 pub mod Going
+pub mod Accepted
 pub mod Growing
 pub mod FirstCreate
 pub mod Starting

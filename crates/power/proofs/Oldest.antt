@@ -74,9 +74,11 @@ module _ (vol : List ℕ) (m : Medium) (st : Store) (G : ℕ → List Segment) (
   abbrev idle : GoneOut
   idle = noneOut (record { vol = vol; ans = record { outcome = Done; medium = m; store = st }; skipped = [] })
 
-  ways : (P : GoneOut → Type 0) → ((old : Old) → Olds vol st dir keeping kept 64 old → old .any ≡ true → P (removing old)) → P idle → P (removeOldestOf vol m st dir keeping kept)
+  -- a file is picked, or none may go
+  pub ways : (P : GoneOut → Type 0) → ((old : Old) → Olds vol st dir keeping kept 64 old → old .any ≡ true → P (removing old))
+      → ((old : Old) → Olds vol st dir keeping kept 64 old → old .any ≡ false → P idle) → P (removeOldestOf vol m st dir keeping kept)
   unfolding removeOldestOf oldestGone
-  ways P f n = rw (found .1) (pick-keeps-by P (found .0 .any) _ _ (λ e. f (found .0) (found .2) e) (λ e. n))
+  ways P f n = rw (found .1) (pick-keeps-by P (found .0 .any) _ _ (λ e. f (found .0) (found .2) e) (λ e. n (found .0) (found .2) e))
 
   pub oldest-stopped : {e : Error} → removeOldestOf vol m st dir keeping kept .ans .outcome ≡ No e
       → Unmade vol m st G b (removeOldestOf vol m st dir keeping kept .vol) (removeOldestOf vol m st dir keeping kept .ans .medium) (removeOldestOf vol m st dir keeping kept .ans .store)
@@ -87,7 +89,7 @@ module _ (vol : List ℕ) (m : Medium) (st : Store) (G : ℕ → List Segment) (
       (λ old o t. onDone-keeps (λ (x : GoneOut). x .ans .outcome ≡ No e → Unmade vol m st G b (x .vol) (x .ans .medium) (x .ans .store) × (x .ans .any ≡ false)) (removal old .ans .outcome) _ _
       (λ d q. clash q refl)
       (λ x d q. (remove-stopped vol m st G b w (old .slot) (old .id) (o .some t .below) q, refl)))
-      (λ q. clash q refl)
+      (λ old o t q. clash q refl)
 
   -- none may go: nothing is done
   pub oldest-none : removeOldestOf vol m st dir keeping kept .ans .outcome ≡ Done → removeOldestOf vol m st dir keeping kept .ans .any ≡ false
@@ -98,7 +100,7 @@ module _ (vol : List ℕ) (m : Medium) (st : Store) (G : ℕ → List Segment) (
       (λ old o t. onDone-keeps (λ (x : GoneOut). x .ans .outcome ≡ Done → x .ans .any ≡ false → (x .vol ≡ vol) × (x .ans .medium ≡ m) × (x .ans .store ≡ st)) (removal old .ans .outcome) _ _
       (λ d q n. absurd (false≢true (sym n)))
       (λ x d q. clash d q))
-      (λ q n. (refl, refl, refl))
+      (λ old o t q n. (refl, refl, refl))
 
   went : (old : Old) → Olds vol st dir keeping kept 64 old → old .any ≡ true → removal old .ans .outcome ≡ Done → EachSkipped Distinct (removal old .skipped)
       → (g : GoneOut) → g .vol ≡ removal old .vol → g .ans .medium ≡ removal old .ans .medium → g .ans .store ≡ removal old .ans .store → Went vol m st G b dir keeping kept g
@@ -125,4 +127,4 @@ module _ (vol : List ℕ) (m : Medium) (st : Store) (G : ℕ → List Segment) (
       (λ old o t. onDone-keeps (λ (x : GoneOut). x .ans .any ≡ true → EachSkipped Distinct (x .skipped) → Went vol m st G b dir keeping kept x) (removal old .ans .outcome) _ _
       (λ d q h. went old o t d h _ refl refl refl)
       (λ x d q. absurd (false≢true q)))
-      (λ q. absurd (false≢true q))
+      (λ old o t q. absurd (false≢true q))

@@ -42,11 +42,11 @@ spared-same true kept i = eqb-swap kept i
 spared-same false kept i = refl
 
 module _ (dir : List ℕ) (keeping : Bool) (kept : ℕ) (f : File) where
-  goes-may : Goes dir keeping kept (f .name) (f .id) → mayGo dir (sparedBy keeping kept) f ≡ true
+  pub goes-may : Goes dir keeping kept (f .name) (f .id) → mayGo dir (sparedBy keeping kept) f ≡ true
   unfolding mayGo
   goes-may g = rw (g .inside, spared-same keeping kept (f .id), g .unspared) refl
 
-  may-goes : mayGo dir (sparedBy keeping kept) f ≡ true → Goes dir keeping kept (f .name) (f .id)
+  pub may-goes : mayGo dir (sparedBy keeping kept) f ≡ true → Goes dir keeping kept (f .name) (f .id)
   unfolding mayGo
   may-goes e =
       let a = and-true (inDir dir (f .name)) (not (isSpared (sparedBy keeping kept) (f .id))) e in

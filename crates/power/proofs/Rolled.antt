@@ -5,7 +5,7 @@ use Prim.Native.Nat.{ℕ, _+_, _/_, _≤_, _<_}
 use mathlib.Core.Path.{_≡_, refl, sym, ap, subst, _∙_}
 use mathlib.Core.Bool.{Bool, true, false}
 use mathlib.Core.Option.{none, some}
-use mathlib.Core.List.{List, [], _∷_, List·Memᴰ, List·Memᴰ·head, List·Memᴰ·tail, List·Memᴰ·eq-of-singleton, List·Memᴰ·not-nil}
+use mathlib.Core.List.{List, [], _∷_, List·Memᴰ, List·Memᴰ·head, List·Memᴰ·eq-of-singleton, List·Memᴰ·not-nil}
 use native.Mathlib.Omega.{arith}
 use lib.Dec.{lit≤}
 use lib.ListN.{length, getD, take, drop, drop-of-length-le}
@@ -28,11 +28,11 @@ use Rattle.power.specs.Calls.{Call, format, create, openAppend, append, 
 use Rattle.power.specs.Book.{File, Book, newBook, keep, onFile, isSpared, mayGo, smallest, withoutId, withoutOldest, idOf, termsOf, entered, enteredAll, beforeSteps, afterSteps, written}
 use Rattle.power.specs.History.{World, ran, fedBy, after, bookOf, Given, EachStep, Premise}
 use Rattle.power.specs.Claim.{Holds, started}
+use Rattle.power.specs.Room.{Tells, chunksIn}
 use Rattle.power.proofs.Whole.{Keeps}
 use Rattle.power.proofs.Shown.{shown}
 use Rattle.power.proofs.Sanity as sanity
-use Rattle.power.proofs.Rooms.{Single, single-none, single-one}
-use Rattle.power.proofs.Staged.{Stage, Tells, Next, told, told-more, told-end, book-more, book-end, told-fed, create-next, append-next, sync-next, spares, grow-next, open-next, format-tells}
+use Rattle.power.proofs.Staged.{Stage, Next, told, told-more, told-end, book-more, book-end, told-fed, create-next, append-next, sync-next, spares, grow-next, open-next, format-tells}
 use Rattle.power.proofs.History.{call-keeps}
 
 -- 66 sectors with chunks of 1 are two chunks, with a body of 9
@@ -72,6 +72,9 @@ as-told =
 pub record Batch (bytes : List ℕ) : Type 0 where
   pub least : 1 ≤ length bytes
   pub most : length bytes < 486
+
+some-bytes : {bytes : List ℕ} → Batch bytes → bytes ≡ [] → ⊥
+some-bytes {bytes} h e = let n : length bytes ≡ 0 = ap length e in omega (arith, n, h .least)
 
 takes : {bytes : List ℕ} → Batch bytes → take 486 bytes ≡ bytes
 takes {bytes} h = take-all 486 bytes (omega (arith, h .most))
@@ -208,7 +211,8 @@ module _ (seed : ℕ) (m : Medium) (ap₀ : Appender) (left : 11 ≤ m .left) (r
         -- ---- a is created and gets its batch
 
         next₁ : Next w₀ newBook create-a (created ∷ []) 0 0 2
-        next₁ = create-next stage₀ name-a false [] fine-a single-none (λ f mem. absurd (List·Memᴰ·not-nil mem)) (omega arith) (omega arith)
+        unfolding chunksIn
+        next₁ = create-next stage₀ name-a false [] fine-a (omega arith) (omega arith) (λ f mem. absurd (List·Memᴰ·not-nil mem)) (omega arith) (omega arith)
 
         book₁ : written create-a (fedBy w₀ create-a) newBook ≡ with-a [] []
         unfolding written termsOf enteredAll entered beforeSteps afterSteps pick
@@ -240,7 +244,8 @@ module _ (seed : ℕ) (m : Medium) (ap₀ : Appender) (left : 11 ≤ m .left) (r
         -- ---- so does b, with a rollover over the root
 
         next₄ : Next w₃ (with-a (x ∷ []) []) create-b (created ∷ []) 0 0 3
-        next₄ = create-next stage₃ name-b true [] fine-b (single-one (file-a (x ∷ [])) refl) other-name (omega arith) (omega arith)
+        unfolding chunksIn
+        next₄ = create-next stage₃ name-b true [] fine-b (omega arith) (omega arith) other-name (omega arith) (omega arith)
 
         book₄ : written create-b (fedBy w₃ create-b) (with-a (x ∷ []) []) ≡ with-both [] []
         unfolding written termsOf enteredAll entered beforeSteps afterSteps pick
@@ -285,20 +290,13 @@ module _ (seed : ℕ) (m : Medium) (ap₀ : Appender) (left : 11 ≤ m .left) (r
         unfolding withoutOldest withoutId smallest keep mayGo isSpared startsWith pick
         remains = refl
 
-        single : Single (withoutOldest (some []) (some 2) (file-a (x ∷ []) ∷ file-b 1 (y ∷ []) ∷ []))
-        single = subst Single (sym remains) (single-one (file-b 1 (y ∷ [])) refl)
-
-        apart : _≡_ {A = ℕ} 1 2 → ⊥
-        apart e = omega (arith, e)
-
         next₈ : Tells w₇ (sync 23) (rolledOver ∷ extended ∷ recorded ∷ []) × Stage w₈ (written (sync 23) (fedBy w₇ (sync 23)) (with-both (y ∷ []) z)) 5
-        next₈ =
-            grow-next stage₇ (next₇ .ready) (hz .least) refl (file-a (x ∷ [])) (file-b 1 (y ∷ [])) (List·Memᴰ·head refl) (List·Memᴰ·tail (List·Memᴰ·head refl)) refl
-            apart single (omega arith) (parts .each₈)
+        unfolding chunksIn mayGo isSpared startsWith
+        next₈ = grow-next stage₇ (next₇ .ready) (some-bytes hz) refl (file-a (x ∷ [])) (List·Memᴰ·head refl) refl refl (omega arith) (parts .each₈)
 
         book₈ : written (sync 23) (fedBy w₇ (sync 23)) (with-both (y ∷ []) z) ≡ with-b
         unfolding written termsOf enteredAll entered beforeSteps afterSteps pick onFile
-        book₈ = rw (told-fed w₇ (sync 23) (next₈ .0), spares stage₇ (next₇ .ready) (hz .least), remains, takes hz, leaves hz)
+        book₈ = rw (told-fed w₇ (sync 23) (next₈ .0), spares stage₇ (next₇ .ready), remains, takes hz, leaves hz)
 
         stage₈ : Stage w₈ with-b 5
         stage₈ = subst (λ (b : Book). Stage w₈ b 5) book₈ (next₈ .1)

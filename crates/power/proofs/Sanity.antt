@@ -34,7 +34,7 @@ use Rattle.safe.specs.Inv.{FormatMade}
 use Rattle.safe.proofs.Format.{format-bytes}
 use Rattle.layout.specs.Views.{diskOf}
 use Rattle.layout.specs.Changes.{Fresh}
-use Rattle.views.proofs.Commits.{format-fresh}
+use Rattle.views.proofs.Commits.{inv-sane, format-fresh}
 use Rattle.store.specs.Opening.{rolloverOf, openFine, createCall}
 use Rattle.store.specs.Writing.{formatCall}
 use Rattle.power.specs.Calls.{Call, create, append, sync, delete, mount}
@@ -221,7 +221,7 @@ module _ (n size seed : ℕ) (m : Medium) (ap₀ : Appender) (enough : 64 ≤ n 
             (record { writer = ready₂ .writer; tail = ready₂ .tail; fill = ap (λ (k : ℕ). k + length bytes) (ready₂ .fill) ∙ zero-add (length bytes) })
 
         synced : (ran w₃ (sync 1) .accepted ≡ true) × (ran w₃ (sync 1) .steps ≡ (record { kind = recorded; skipped = [] }) ∷ [])
-        synced = sync-run keeps₃ ready₃ 1 least-bytes (omega arith)
+        synced = sync-run keeps₃ ready₃ 1 (omega (arith, inv-sane (keeps₃ .whole .inv) .size-least)) least-bytes (omega arith)
 
         abbrev w₄ : World
         w₄ = ran w₃ (sync 1) .world

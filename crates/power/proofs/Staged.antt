@@ -2,7 +2,6 @@
 -- finds no chunk free, open_append, and a format. What each tells the book, and what holds after it. Assumes nothing.
 use Prim.Native.Nat.{ℕ, _+_, _*_, _^_, _≤_, _<_}
 use mathlib.Core.Path.{_≡_, refl, sym, ap, subst, _∙_}
-use mathlib.Core.Logic.{_≢_}
 use mathlib.Core.Bool.{Bool, true}
 use mathlib.Core.Option.{some}
 use mathlib.Core.List.{List, [], _∷_, map, List·Memᴰ}
@@ -22,12 +21,13 @@ use Rattle.append.specs.declared.Appender.{Appender}
 use Rattle.views.proofs.Commits.{inv-sane}
 use Rattle.store.specs.Opening.{openFine}
 use Rattle.power.specs.Calls.{Call, format, create, openAppend, append, sync}
-use Rattle.power.specs.Book.{File, Book, withoutOldest, written}
+use Rattle.power.specs.Book.{File, Book, mayGo, written}
 use Rattle.power.specs.History.{World, Ran, ran, openOf, fedBy, bookOf, Given, EachStep}
+use Rattle.power.specs.Room.{Tells, chunksIn, TakesChunk}
 use Rattle.power.proofs.Whole.{Keeps}
-use Rattle.power.proofs.Running.{Ready, stands, append-run, sync-run, sync-leaves}
-use Rattle.power.proofs.Rooms.{Single, vacancy, room}
-use Rattle.power.proofs.Creating.{Made, create-makes, made-chunks, made-size, made-generation}
+use Rattle.power.proofs.Running.{Ready, opened, stands, append-run, sync-run, sync-leaves}
+use Rattle.power.proofs.Creating.{Made, made-chunks, made-size, made-generation}
+use Rattle.power.proofs.Accepted.{create-made}
 use Rattle.power.proofs.Growing.{Grown, sync-grows}
 use Rattle.power.proofs.Reopening.{open-run}
 use Rattle.power.proofs.Starting.{again-done}
@@ -40,10 +40,6 @@ pub record Stage (w : World) (b : Book) (n : ℕ) : Type 0 where
   pub chunks : w .store .head .chunks ≡ 2
   pub size : w .store .head .chunk ≡ 1
   pub generation : w .store .head .generation ≡ n
-
--- a call is accepted, with steps of these kinds
-abbrev pub Tells : World → Call → List Kind → Type 0
-Tells w c kinds = (ran w c .accepted ≡ true) × (map (λ (s : Step). s .kind) (ran w c .steps) ≡ kinds)
 
 -- what each call of a history tells the book: whether it was accepted, and the kinds of its steps
 unfoldable pub told : World → List Call → List (Bool × List Kind)
@@ -80,17 +76,17 @@ unfolding fedBy
 told-fed w c t = rw (t .0, t .1)
 
 module _ {w : World} {b : Book} {n : ℕ} (s : Stage w b n) where
-  -- ---- create, of a new name, where the book has at most one file, of one chunk
+  -- ---- create, of a new name, where the book's files have not both chunks
 
-  module _ (name : List ℕ) (rolls : Bool) (dir : List ℕ) (fine : openFine name rolls dir ≡ true) (single : Single (b .files))
+  module _ (name : List ℕ) (rolls : Bool) (dir : List ℕ) (fine : openFine name rolls dir ≡ true) (slots : length (b .files) < 64) (few : chunksIn (b .files) < 2)
       (new : (f : File) → List·Memᴰ f (b .files) → f .name ≡ name → ⊥) (ids : b .next + 1 < 2 ^ 32) (gens : n + 1 < 2 ^ 64) where
     abbrev making : Call
     making = create 11 name rolls dir
 
     made : Made w 11 name rolls dir
     made =
-        create-makes w 11 name rolls dir (s .keeps) fine (λ t i h e. new _ (s .keeps .whole .ties .into t name i h e) refl) (vacancy (s .keeps .whole) single)
-        (room (s .keeps .whole) single (s .chunks)) (λ e. omega (arith, s .keeps .whole .next, ids, e)) (λ e. omega (arith, s .generation, gens, e)) (rw (s .chunks) (lit≤ tt))
+        create-made w b (s .keeps) 11 (record { gens = λ e. omega (arith, s .generation, gens, e); writes = rw (s .chunks) (lit≤ tt) }) name rolls dir fine new
+        (record { slots = slots; chunks = rw (s .chunks) few; ids = λ e. omega (arith, ids, e) })
 
     pub create-next : Next w b making (created ∷ []) 0 0 (n + 1)
     unfolding Given
@@ -130,8 +126,8 @@ module _ {w : World} {b : Book} {n : ℕ} (s : Stage w b n) where
   pub sync-next : {k : ℕ} → Ready w 0 k → 1 ≤ k → Next w b (sync 1) (recorded ∷ []) 1 0 n
   unfolding Given
   sync-next y bytes =
-      let t = sync-run (s .keeps) y 1 bytes (lit≤ tt) in
-      let l = sync-leaves (s .keeps) y 1 bytes (lit≤ tt) in
+      let t = sync-run (s .keeps) y 1 (omega (arith, s .size)) bytes (lit≤ tt) in
+      let l = sync-leaves (s .keeps) y 1 (omega (arith, s .size)) bytes (lit≤ tt) in
       record {
         tells = (t .0, rw (t .1) refl);
         ready = record {
@@ -144,16 +140,19 @@ module _ {w : World} {b : Book} {n : ℕ} (s : Stage w b n) where
 
   -- ---- sync of the next one, where the other file has the other chunk
 
-  module _ {k : ℕ} (y : Ready w 1 k) (bytes : 1 ≤ k) where
+  module _ {k : ℕ} (y : Ready w 1 k) where
     -- the open file is the book's
     pub spares : openOf (w .store .writer) ≡ some (b .file)
-    spares = ap openOf (y .writer) ∙ ap some (sym (stands (s .keeps) y .0 .file))
+    spares = ap openOf (y .writer) ∙ ap some (sym (stands (s .keeps) (opened y) .0 .file))
 
-    module _ (root : b .rollover ≡ some []) (f g : File) (other : List·Memᴰ f (b .files)) (own : List·Memᴰ g (b .files)) (mine : g .id ≡ b .file) (apart : f .id ≢ g .id)
-        (single : Single (withoutOldest (some []) (some (b .file)) (b .files))) (gens : n + 2 < 2 ^ 64) (each : EachStep Distinct (ran w (sync 23) .steps)) where
+    takes : TakesChunk (w .appender .tail) (w .store .head .chunk)
+    takes = rw (y .tail, s .size) (lit≤ tt)
+
+    module _ (bytes : b .unwritten ≡ [] → ⊥) (root : b .rollover ≡ some []) (f : File) (has : List·Memᴰ f (b .files)) (goes : mayGo [] (some (b .file)) f ≡ true) (all : chunksIn (b .files) ≡ 2)
+        (gens : n + 2 < 2 ^ 64) (each : EachStep Distinct (ran w (sync 23) .steps)) where
       grown : Grown w 23
       grown =
-          sync-grows (s .keeps) y 23 bytes (rw (s .size) (lit≤ tt)) (s .chunks) root f g other own mine apart single (omega (arith, s .generation, gens)) (rw (s .chunks) (lit≤ tt)) each
+          sync-grows (s .keeps) 23 (y .writer) takes bytes (all ∙ sym (s .chunks)) [] root f has goes (omega (arith, s .generation, gens)) (rw (s .chunks) (lit≤ tt)) each
 
       pub grow-next : Tells w (sync 23) (rolledOver ∷ extended ∷ recorded ∷ []) × Stage (ran w (sync 23) .world) (written (sync 23) (fedBy w (sync 23)) b) (n + 2)
       unfolding Given

@@ -26,7 +26,7 @@ use Rattle.power.proofs.Members.{Mem, changed, changed-here, changed-ot
 abbrev counts : Disk → ℕ → Bool
 counts D s = listedIn [] (D .entry s)
 
-named-counts : {o : Entry} {n : List ℕ} {i : ℕ} → o ≡ named n i → listedIn [] o ≡ true
+pub named-counts : {o : Entry} {n : List ℕ} {i : ℕ} → o ≡ named n i → listedIn [] o ≡ true
 unfolding listedIn
 named-counts {o} {n} e = rw e (in-root n)
 

@@ -3,3 +3,4 @@ pub mod Book
 pub mod History
 pub mod Claim
 pub mod Near
+pub mod Room

@@ -15,7 +15,7 @@ use Rattle.medium.specs.Refusal.{onDone}
 use Rattle.medium.specs.Sector.{sectorsOf}
 use Rattle.medium.proofs.Laws.{onDone-done}
 use Rattle.handles.specs.declared.Writer.the-variants.{Open}
-use Rattle.handles.specs.Handles.{isOpen, openId, bodyOf}
+use Rattle.handles.specs.Handles.{isOpen, openId}
 use Rattle.header.specs.Copies.{headersOf}
 use Rattle.directory.specs.declared.Old.{Old}
 use Rattle.directory.specs.Entry.{entryAt}
@@ -31,6 +31,7 @@ use Rattle.folds.proofs.Oldest.{Olds}
 use Rattle.store.specs.Asked.{askedOf}
 use Rattle.store.specs.Writing.{deleteCall, oldestTold, oldestCall}
 use Rattle.store.specs.Opening.{openFine}
+use Rattle.writes.specs.Writes.{commitMost}
 use Rattle.power.specs.Calls.{format, create, sync, delete, deleteOldest}
 use Rattle.power.specs.Book.{File, Book, mayGo, newBook}
 use Rattle.power.specs.History.{World, withLeft, ranOldest, ran, openOf}
@@ -143,7 +144,7 @@ sync-accepted w b k left i writer tail room some one =
 -- ---- format of any volume whose headers read, of a size that fits, where the generations there are not spent
 
 pub format-accepted : (w : World) (m : Medium) (size seed : ℕ) → headersOf (w .vol) m .outcome ≡ Done → 1 ≤ size → size ≤ 512
-    → (chunksOf (sectorsOf (w .vol)) size ≡ 0 → ⊥) → (newestOf (headersOf (w .vol) m) ≡ 2 ^ 64 - 1 → ⊥) → bodyOf (chunksOf (sectorsOf (w .vol)) size) + 2 ≤ m .left
+    → (chunksOf (sectorsOf (w .vol)) size ≡ 0 → ⊥) → (newestOf (headersOf (w .vol) m) ≡ 2 ^ 64 - 1 → ⊥) → commitMost (chunksOf (sectorsOf (w .vol)) size) ≤ m .left
     → Tells w (format m size seed) (formatted ∷ [])
 format-accepted w m size seed headers least most some less enough =
     let t = format-run m size seed w newBook (format-done size seed (w .vol) m headers least most some less enough) in

@@ -14,7 +14,6 @@ use Rattle.medium.specs.declared.Medium.{Medium}
 use Rattle.medium.specs.declared.Outcome.the-variants.{Done}
 use Rattle.medium.proofs.Laws.{onDone-done}
 use Rattle.handles.specs.declared.Header.{Header}
-use Rattle.handles.specs.Handles.{bodyOf}
 use Rattle.header.specs.Header.{withCrcs}
 use Rattle.directory.specs.declared.Seen.{Seen}
 use Rattle.directory.specs.Scan.{onLooked}
@@ -38,6 +37,7 @@ use Rattle.folds.specs.Checked.{Checked}
 use Rattle.folds.proofs.Named.{Look, look-view}
 use Rattle.folds.proofs.Chunks.{Free, free-found}
 use Rattle.store.specs.Opening.{rolloverOf, openFine, opening, createCall}
+use Rattle.writes.specs.Writes.{commitMost}
 use Rattle.power.specs.Calls.{create}
 use Rattle.power.specs.Book.{Book}
 use Rattle.power.specs.History.{World, ifOk, withLeft, ran}
@@ -84,7 +84,7 @@ module _ (w : World) (left : ℕ) (name : List ℕ) (rolls : Bool) (dir : List �
   module _ {b : Book} (k : Keeps w b) (fine : openFine name rolls dir ≡ true) (new : (s i : ℕ) → s < 64 → diskOf (w .vol) (w .store) .entry s ≡ named name i → ⊥)
       (vacancy : (s : ℕ) × (s < 64) × (diskOf (w .vol) (w .store) .entry s ≡ vacant))
       (room : (c : ℕ) × (c < w .store .head .chunks) × (linkView (w .vol) (w .store) c ≡ link.Free)) (ids : id ≡ 2 ^ 32 - 1 → ⊥)
-      (gens : w .store .head .generation ≡ 2 ^ 64 - 1 → ⊥) (enough : bodyOf (w .store .head .chunks) + 2 ≤ left) where
+      (gens : w .store .head .generation ≡ 2 ^ 64 - 1 → ⊥) (enough : commitMost (w .store .head .chunks) ≤ left) where
     short : nameOk name ≡ true
     short = and-true (nameOk name) (not rolls || dirOk dir) fine .0
 

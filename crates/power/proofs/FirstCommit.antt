@@ -60,6 +60,10 @@ module _ (edit : Edit) (name vol : List ℕ) (m : Medium) (st : Store) (inv : In
   unfolding isCurrent takenOf
   is-current = rw (current, eq-eqb (st .copy) (st .copy) refl) (same-head (st .head))
 
+  pub current-done : (currentOf vol m .outcome ≡ Done) × (isCurrent (currentOf vol m) st ≡ true)
+  unfolding takenOf
+  current-done = (ap (λ (c : Current). c .outcome) current, is-current)
+
   -- the store value is the current one, and has another generation to give
   pub commit-is : (st .head .generation ≡ 2 ^ 64 - 1 → ⊥) → commitOf edit name vol m st ≡ copyOut plan vol m
   unfolding commitOf takenOf

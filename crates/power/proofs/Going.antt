@@ -10,7 +10,6 @@ use Rattle.medium.specs.Sector.{Readable}
 use Rattle.medium.proofs.Laws.{onDone-done}
 use Rattle.handles.specs.declared.Header.{Header}
 use Rattle.handles.specs.declared.Store.{Store}
-use Rattle.handles.specs.Handles.{bodyOf}
 use Rattle.plan.specs.declared.Edit.the-variants.{Remove}
 use Rattle.plan.specs.Edit.{headAfter}
 use Rattle.plan.specs.Copy.{isFormat, Out}
@@ -20,6 +19,7 @@ use Rattle.remove.specs.Remove.{closedFor, removeOf, GoneOut, goneOf, removeOld
 use Rattle.layout.specs.Views.{named, diskOf}
 use Rattle.layout.specs.Segments.{Segment}
 use Rattle.folds.proofs.Oldest.{Goes}
+use Rattle.writes.specs.Writes.{commitMost}
 use Rattle.power.specs.Book.{Book}
 use Rattle.power.proofs.Whole.{Whole}
 use Rattle.power.proofs.Oldest.{ways}
@@ -27,7 +27,7 @@ use Rattle.power.proofs.Enough.{Within, commit-within}
 
 -- a file went, by at most the writes of a commit: the shape is as it was, with a generation more
 pub record Goer (m : Medium) (st : Store) (g : GoneOut) : Type 0 where
-  pub within : Within (bodyOf (st .head .chunks) + 2) m (g .ans .outcome) (g .ans .medium)
+  pub within : Within (commitMost (st .head .chunks)) m (g .ans .outcome) (g .ans .medium)
   pub any : g .ans .any ≡ true
   pub chunks : g .ans .store .head .chunks ≡ st .head .chunks
   pub size : g .ans .store .head .chunk ≡ st .head .chunk
@@ -38,11 +38,11 @@ unfolding isFormat
 not-format s = refl
 
 module _ (vol : List ℕ) (m : Medium) (st : Store) (G : ℕ → List Segment) (b : Book) (w : Whole vol st G b) (r : Readable vol m)
-    (gens : st .head .generation ≡ 2 ^ 64 - 1 → ⊥) (enough : bodyOf (st .head .chunks) + 2 ≤ m .left) where
+    (gens : st .head .generation ≡ 2 ^ 64 - 1 → ⊥) (enough : commitMost (st .head .chunks) ≤ m .left) where
   abbrev commit : ℕ → Out
   commit slot = commitOf (Remove slot) [] vol m st
 
-  within : (slot : ℕ) → Within (bodyOf (st .head .chunks) + 2) m (commit slot .ans .outcome) (commit slot .ans .medium)
+  within : (slot : ℕ) → Within (commitMost (st .head .chunks)) m (commit slot .ans .outcome) (commit slot .ans .medium)
   within slot = commit-within (Remove slot) [] vol m st (w .inv) r (not-format slot) (lit≤ tt) gens enough
 
   pub remove-is : (slot id : ℕ) → removeOf vol m st slot id ≡ record {

@@ -17,7 +17,7 @@ use Rattle.medium.proofs.Laws.{onDone-done, onDone-keeps}
 use Rattle.handles.specs.declared.Header.{Header}
 use Rattle.handles.specs.declared.Store.{Store}
 use Rattle.handles.specs.declared.Writer.the-variants.{Open}
-use Rattle.handles.specs.Handles.{isOpen, openId, bodyOf}
+use Rattle.handles.specs.Handles.{isOpen, openId, tableOf}
 use Rattle.table.specs.declared.LinkAt.the-variants as link
 use Rattle.table.specs.declared.Pick.{Pick}
 use Rattle.table.specs.declared.Pick.the-variants as free
@@ -52,7 +52,10 @@ use Rattle.power.proofs.Standing.{position-in}
 use Rattle.power.proofs.Linking.{commit, step, moved, link-made}
 use Rattle.power.proofs.Spends.{write-some}
 use Rattle.power.proofs.Running.{Opened, stands, some-kept, sync-flush, sync-done}
-use Rattle.power.proofs.Enough.{Within, commit-within}
+use Rattle.writes.specs.Writes.{commitMost, recordsMost}
+use Rattle.writes.proofs.Edges.{record-plain, record-over}
+use Rattle.writes.proofs.Removals.{oldest-beside}
+use Rattle.power.proofs.Enough.{Within, commit-within, commit-after}
 use Rattle.power.proofs.Counting.{chunks-fewer, room, free-fewer}
 use Rattle.power.proofs.Going.{Goer, oldest-goes}
 
@@ -113,33 +116,31 @@ flush-steps vol m st a = onDone-keeps (λ (x : AppOut). x .steps ≡ writeOut vo
 
 -- ---- a chunk is linked, and the record is written in it
 
-module _ (vol : List ℕ) (m : Medium) (st : Store) {G : ℕ → List Segment} {b : Book} (w : Whole vol st G b) (r : Readable vol m) (a : Appender) (partial : Bool) (records c : ℕ)
-    (gens : st .head .generation ≡ 2 ^ 64 - 1 → ⊥) (enough : bodyOf (st .head .chunks) + 3 ≤ m .left) where
+module _ (vol : List ℕ) (m : Medium) (st : Store) {G : ℕ → List Segment} {b : Book} (w : Whole vol st G b) (a : Appender) (partial : Bool) (records c : ℕ) where
   abbrev edit : Edit
   edit = Extend (a .slot) (a .position) c (a .chunk) partial records
 
   abbrev o : Out
   o = commit vol m st a partial records c
 
-  within : Within (bodyOf (st .head .chunks) + 2) m (o .ans .outcome) (o .ans .medium)
-  within = commit-within edit [] vol m st (w .inv) r (not-format (a .slot) (a .position) c (a .chunk) partial records) (lit≤ tt) gens (omega (arith, enough))
-
-  linked-is : linkOut vol m st a partial records c ≡ after (step vol m st a partial records c ∷ []) (moved vol m st a partial records c)
-  linked-is = link-made vol m st a partial records c (within .0)
-
   abbrev last : AppOut
   last = recordOut 0 (o .vol) (o .ans .medium) (o .ans .store) (movedTo c a)
-
-  last-done : (last .ans .outcome ≡ Done) × (last .steps ≡ (record { kind = recorded; skipped = [] }) ∷ []) × (last .ans .store ≡ o .ans .store)
-  unfolding recordOut
-  last-done = rw (onDone-done _ _ (write-some (o .vol) (o .ans .medium) _ _ (omega (arith, within .1, enough)) .0)) (refl, refl, refl)
 
   kept : Kept edit vol m st o
   kept = commit-keeps edit [] vol m st (w .inv .ok) (w .inv .range .count) (lit≤ tt)
 
-  later : o .ans .store .head .generation ≡ st .head .generation + 1
-  unfolding headAfter
-  later = ap (λ (h : Header). h .generation) (kept .accepted (within .0) .1)
+  -- the commit is done, and a write is left after it
+  module _ (n : ℕ) (within : Within n m (o .ans .outcome) (o .ans .medium)) (enough : n + 1 ≤ m .left) where
+    linked-is : linkOut vol m st a partial records c ≡ after (step vol m st a partial records c ∷ []) (moved vol m st a partial records c)
+    linked-is = link-made vol m st a partial records c (within .0)
+
+    last-done : (last .ans .outcome ≡ Done) × (last .steps ≡ (record { kind = recorded; skipped = [] }) ∷ []) × (last .ans .store ≡ o .ans .store)
+    unfolding recordOut
+    last-done = rw (onDone-done _ _ (write-some (o .vol) (o .ans .medium) _ _ (omega (arith, within .1, enough)) .0)) (refl, refl, refl)
+
+    later : o .ans .store .head .generation ≡ st .head .generation + 1
+    unfolding headAfter
+    later = ap (λ (h : Header). h .generation) (kept .accepted (within .0) .1)
 
 -- ---- the call
 
@@ -182,7 +183,8 @@ module _ {w : World} {b : Book} (k : Keeps w b) (left : ℕ) (writer : w .store 
 
   -- ---- a chunk is free
 
-  module _ (room-left : chunksIn (b .files) < w .store .head .chunks) (gens : w .store .head .generation ≡ 2 ^ 64 - 1 → ⊥) (enough : bodyOf (w .store .head .chunks) + 3 ≤ left) where
+  module _ (room-left : chunksIn (b .files) < w .store .head .chunks) (gens : w .store .head .generation ≡ 2 ^ 64 - 1 → ⊥)
+      (enough : recordsMost false (w .store .head .chunks) 1 ≤ left) where
     free-here : (c : ℕ) × (freeOf (w .vol) m (w .store) ≡ free.At c)
     free-here = found (w .vol) m (w .store) (k .whole) (k .readable) (room (k .whole .good) (k .whole .ties) room-left)
 
@@ -190,23 +192,31 @@ module _ {w : World} {b : Book} (k : Keeps w b) (left : ℕ) (writer : w .store 
     unfolding extendOf onPick
     extend-links = pick-false _ _ low ∙ rw (free-here .1) refl
 
+    plenty : commitMost (w .store .head .chunks) + 1 ≤ left
+    plenty = rw (← record-plain (w .store .head .chunks)) enough
+
+    links : Within (commitMost (w .store .head .chunks)) m (commit (w .vol) m (w .store) a partial records (free-here .0) .ans .outcome) (commit (w .vol) m (w .store) a partial records (free-here .0) .ans .medium)
+    links =
+        commit-within (edit (w .vol) m (w .store) (k .whole) a partial records (free-here .0)) [] (w .vol) m (w .store) (k .whole .inv) (k .readable)
+        (not-format (a .slot) (a .position) (free-here .0) (a .chunk) partial records) (lit≤ tt) gens (omega (arith, plenty))
+
     abbrev both : AppOut
-    both = after (step (w .vol) m (w .store) a partial records (free-here .0) ∷ []) (last (w .vol) m (w .store) (k .whole) (k .readable) a partial records (free-here .0) gens enough)
+    both = after (step (w .vol) m (w .store) a partial records (free-here .0) ∷ []) (last (w .vol) m (w .store) (k .whole) a partial records (free-here .0))
 
     both-is : writeOut (w .vol) m (w .store) a ≡ both
     both-is =
-        next .1 .1 ∙ ap (λ (o : AppOut). andThen o (recordOut 0)) (extend-links ∙ linked-is (w .vol) m (w .store) (k .whole) (k .readable) a partial records (free-here .0) gens enough)
+        next .1 .1 ∙ ap (λ (o : AppOut). andThen o (recordOut 0)) (extend-links ∙ linked-is (w .vol) m (w .store) (k .whole) a partial records (free-here .0) _ links plenty)
         ∙ then-done (after (step (w .vol) m (w .store) a partial records (free-here .0) ∷ []) (moved (w .vol) m (w .store) a partial records (free-here .0))) (recordOut 0) refl
 
     pub sync-extends : Tells w (sync left) (extended ∷ recorded ∷ [])
     sync-extends =
-        let d = last-done (w .vol) m (w .store) (k .whole) (k .readable) a partial records (free-here .0) gens enough in
+        let d = last-done (w .vol) m (w .store) (k .whole) a partial records (free-here .0) _ links plenty in
         rw (sync-done k y left bytes both-is (d .0), d .0, d .1) (refl, refl)
 
   -- ---- none is, and a file of the rollover's directory may go
 
   module _ (none-left : chunksIn (b .files) ≡ w .store .head .chunks) (dir : List ℕ) (over : b .rollover ≡ some dir) (f : File) (has : List·Memᴰ f (b .files))
-      (goes : mayGo dir (some (b .file)) f ≡ true) (gens : w .store .head .generation + 2 ≤ 2 ^ 64 - 1) (enough : 2 * (bodyOf (w .store .head .chunks) + 2) + 1 ≤ left) where
+      (goes : mayGo dir (some (b .file)) f ≡ true) (gens : w .store .head .generation + 2 ≤ 2 ^ 64 - 1) (enough : recordsMost true (w .store .head .chunks) 1 ≤ left) where
     abbrev keeping : Bool
     keeping = isOpen (w .store .writer)
 
@@ -222,11 +232,14 @@ module _ {w : World} {b : Book} (k : Keeps w b) (left : ℕ) (writer : w .store 
     spares : some (b .file) ≡ sparedBy keeping spared
     spares = ap some (stands k y .0 .file) ∙ sym (ap openOf writer) ∙ sym (spared-open (w .store .writer))
 
+    two : commitMost (w .store .head .chunks) + (1 + tableOf (w .store .head .chunks) + 2) + 1 ≤ left
+    two = rw (← record-over (w .store .head .chunks)) enough
+
     gone : Goer m (w .store) x
     gone =
         let s = k .whole .ties .from f has in
         let may : mayGo (dirBytes (a .dir)) (sparedBy keeping spared) f ≡ true = rw (set .1, ← spares) goes in
-        oldest-goes (w .vol) m (w .store) (k .layout) b (k .whole) (k .readable) (λ e. omega (arith, e, gens)) (omega (arith, enough))
+        oldest-goes (w .vol) m (w .store) (k .layout) b (k .whole) (k .readable) (λ e. omega (arith, e, gens)) (omega (arith, two))
         (dirBytes (a .dir)) keeping spared (s .0) (s .1) (f .name) (f .id) (s .2) (may-goes (dirBytes (a .dir)) keeping spared f may)
 
     -- what follows it
@@ -274,18 +287,28 @@ module _ {w : World} {b : Book} (k : Keeps w b) (left : ℕ) (writer : w .store 
       fresh : x .ans .store .head .generation ≡ 2 ^ 64 - 1 → ⊥
       fresh e = omega (arith, e, gone .generation, gens)
 
-      ample : bodyOf (x .ans .store .head .chunks) + 3 ≤ x .ans .medium .left
-      ample = rw (gone .chunks) (omega (arith, gone .within .1, enough))
+      -- the copy beside it is the one that was current
+      abbrev few : ℕ
+      few = 1 + 0 + tableOf (x .ans .store .head .chunks) + 2
+
+      ample : few + 1 ≤ x .ans .medium .left
+      ample = rw (gone .chunks) (omega (arith, gone .within .1, two))
+
+      within : Within few (x .ans .medium) (commit (x .vol) (x .ans .medium) (x .ans .store) a partial records c .ans .outcome) (commit (x .vol) (x .ans .medium) (x .ans .store) a partial records c .ans .medium)
+      within =
+          commit-after (edit (x .vol) (x .ans .medium) (x .ans .store) (went .whole) a partial records c) [] (x .vol) (x .ans .medium) (x .ans .store) (went .whole .inv) reads
+          (not-format (a .slot) (a .position) c (a .chunk) partial records) (lit≤ tt) fresh
+          (oldest-beside (w .vol) m (w .store) (record { ok = k .whole .inv .ok; count = k .whole .inv .range .count }) (dirBytes (a .dir)) keeping spared (gone .any)) (omega (arith, ample))
 
       -- it is linked, and the record is written
       abbrev all : AppOut
       all =
           after ((record { kind = rolledOver; skipped = x .skipped }) ∷ step (x .vol) (x .ans .medium) (x .ans .store) a partial records c ∷ [])
-          (last (x .vol) (x .ans .medium) (x .ans .store) (went .whole) reads a partial records c fresh ample)
+          (last (x .vol) (x .ans .medium) (x .ans .store) (went .whole) a partial records c)
 
       onward-is : onward ≡ after (step (x .vol) (x .ans .medium) (x .ans .store) a partial records c ∷ []) (moved (x .vol) (x .ans .medium) (x .ans .store) a partial records c)
       unfolding onPick
-      onward-is = rw (free-there .1) (linked-is (x .vol) (x .ans .medium) (x .ans .store) (went .whole) reads a partial records c fresh ample)
+      onward-is = rw (free-there .1) (linked-is (x .vol) (x .ans .medium) (x .ans .store) (went .whole) a partial records c _ within ample)
 
       written-is : writeOut (w .vol) m (w .store) a ≡ all
       written-is =
@@ -295,9 +318,9 @@ module _ {w : World} {b : Book} (k : Keeps w b) (left : ℕ) (writer : w .store 
 
       pub sync-grows : Grown w left
       sync-grows =
-          let d = last-done (x .vol) (x .ans .medium) (x .ans .store) (went .whole) reads a partial records c fresh ample in
-          let s = kept (x .vol) (x .ans .medium) (x .ans .store) (went .whole) reads a partial records c fresh ample in
-          let g = later (x .vol) (x .ans .medium) (x .ans .store) (went .whole) reads a partial records c fresh ample in
+          let d = last-done (x .vol) (x .ans .medium) (x .ans .store) (went .whole) a partial records c _ within ample in
+          let s = kept (x .vol) (x .ans .medium) (x .ans .store) (went .whole) a partial records c in
+          let g = later (x .vol) (x .ans .medium) (x .ans .store) (went .whole) a partial records c _ within ample in
           let q = sync-done k y left bytes written-is (d .0) in
           record {
             accepted = rw (q, d .0) refl;

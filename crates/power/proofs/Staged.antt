@@ -9,6 +9,7 @@ use native.Mathlib.Nat.{zero-add}
 use native.Mathlib.Omega.{arith}
 use lib.Dec.{lit≤}
 use lib.ListN.{length}
+use Rattle.le.specs.Choice.{pick}
 use Rattle.medium.specs.declared.Medium.{Medium}
 use Rattle.medium.specs.declared.Outcome.the-variants.{Done}
 use Rattle.medium.specs.Sector.{sectorsOf}
@@ -20,6 +21,7 @@ use Rattle.format.proofs.Numbers.{chunks-most}
 use Rattle.append.specs.declared.Appender.{Appender}
 use Rattle.views.proofs.Commits.{inv-sane}
 use Rattle.store.specs.Opening.{openFine}
+use Rattle.writes.specs.Writes.{recordsMost}
 use Rattle.power.specs.Calls.{Call, format, create, openAppend, append, sync}
 use Rattle.power.specs.Book.{File, Book, mayGo, written}
 use Rattle.power.specs.History.{World, Ran, ran, openOf, fedBy, bookOf, Given, EachStep}
@@ -151,6 +153,7 @@ module _ {w : World} {b : Book} {n : ℕ} (s : Stage w b n) where
     module _ (bytes : b .unwritten ≡ [] → ⊥) (root : b .rollover ≡ some []) (f : File) (has : List·Memᴰ f (b .files)) (goes : mayGo [] (some (b .file)) f ≡ true) (all : chunksIn (b .files) ≡ 2)
         (gens : n + 2 < 2 ^ 64) (each : EachStep Distinct (ran w (sync 23) .steps)) where
       grown : Grown w 23
+      unfolding recordsMost pick
       grown =
           sync-grows (s .keeps) 23 (y .writer) takes bytes (all ∙ sym (s .chunks)) [] root f has goes (omega (arith, s .generation, gens)) (rw (s .chunks) (lit≤ tt)) each
 

@@ -5,10 +5,10 @@ use mathlib.Core.Path.{_≡_}
 use mathlib.Core.Bool.{true}
 use mathlib.Core.List.{List, [], _∷_, map}
 use lib.ListN.{length}
-use Rattle.handles.specs.Handles.{bodyOf}
 use Rattle.plan.specs.Copy.{Kind, Step}
 use Rattle.append.specs.declared.Tail.{Tail}
 use Rattle.append.specs.declared.Tail.the-variants.{At, Reopened, Closed}
+use Rattle.writes.specs.Writes.{commitMost}
 use Rattle.power.specs.Calls.{Call}
 use Rattle.power.specs.Book.{File, Book}
 use Rattle.power.specs.History.{World, ran}
@@ -17,10 +17,10 @@ use Rattle.power.specs.History.{World, ran}
 abbrev pub Tells : World → Call → List Kind → Type 0
 Tells w c kinds = (ran w c .accepted ≡ true) × (map (λ (s : Step). s .kind) (ran w c .steps) ≡ kinds)
 
--- enough for a commit: the generation is not spent, and a write is left for each body sector and two for the header
+-- enough for a commit: the generation is not spent, and as many writes are left as it may make
 pub record CanCommit (w : World) (left : ℕ) : Type 0 where
   pub gens : w .store .head .generation ≡ 2 ^ 64 - 1 → ⊥
-  pub writes : bodyOf (w .store .head .chunks) + 2 ≤ left
+  pub writes : commitMost (w .store .head .chunks) ≤ left
 
 -- the chunks of these files together
 unfoldable pub chunksIn : List File → ℕ

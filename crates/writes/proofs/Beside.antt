@@ -138,7 +138,7 @@ own-few (Remove slot) =
     tally-single (changesOf (Remove slot)) (slotSector slot) 8 (λ k l. own-one k (slotSector slot) (leb 8 k) (λ e. let z = leb-true 8 k e in omega (arith, z)))
 
 -- the sectors that the next commit may write: those, its own, and the table
-abbrev rewrites : Edit → (ℕ → Bool) → ℕ → Bool
+abbrev pub rewrites : Edit → (ℕ → Bool) → ℕ → Bool
 rewrites edit may k = leb 8 k || (may k || changesOf edit k)
 
 module _ (edit : Edit) (name vol : List ℕ) (m : Medium) (st : Store) (plain : isFormat edit ≡ false) {d : ℕ} (x : Beside d vol st) where
@@ -146,7 +146,7 @@ module _ (edit : Edit) (name vol : List ℕ) (m : Medium) (st : Store) (plain : 
   unfolding takenOf
   known o c = let q = current-is vol m st o c in rw (q, x .found) (x .same, refl)
 
-  leaves : currentOf vol m .outcome ≡ Done → isCurrent (currentOf vol m) st ≡ true → Leaves (commitPlan (currentOf vol m) edit name st) (rewrites edit (x .may))
+  pub leaves : currentOf vol m .outcome ≡ Done → isCurrent (currentOf vol m) st ≡ true → Leaves (commitPlan (currentOf vol m) edit name st) (rewrites edit (x .may))
   unfolding moveOf commitPlan lists
   leaves o c k e v u =
       let p = or-false (leb 8 k) _ e in
@@ -157,15 +157,16 @@ module _ (edit : Edit) (name vol : List ℕ) (m : Medium) (st : Store) (plain : 
 
   -- ---- at most so many writes
 
-  pub commit-few : Most (d + ownOf edit + tableOf (st .head .chunks) + 2) m (commitOf edit name vol m st .ans .medium)
-  commit-few =
-      let f : ℕ → Bool = rewrites edit (x .may) in
-      let all = commit-counted edit name vol m st f leaves in
-      let wide = tally-wide f 8 (tableOf (st .head .chunks)) in
+  pub rewrites-few : tally (rewrites edit (x .may)) (bodyOf (st .head .chunks)) ≤ d + ownOf edit + tableOf (st .head .chunks)
+  rewrites-few =
+      let wide = tally-wide (rewrites edit (x .may)) 8 (tableOf (st .head .chunks)) in
       let table = tally-none (leb 8) 8 (λ k l. lt-leb 8 k l) in
       let low = tally-either (leb 8) (λ k. x .may k || changesOf edit k) 8 in
       let two = tally-either (x .may) (changesOf edit) 8 in
-      omega (arith, all, wide, table, low, two, x .few, own-few edit)
+      omega (arith, wide, table, low, two, x .few, own-few edit)
+
+  pub commit-few : Most (d + ownOf edit + tableOf (st .head .chunks) + 2) m (commitOf edit name vol m st .ans .medium)
+  commit-few = let all = commit-counted edit name vol m st (rewrites edit (x .may)) leaves in omega (arith, all, rewrites-few)
 
 -- ---- after an accepted commit
 

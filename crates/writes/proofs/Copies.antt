@@ -26,7 +26,7 @@ use Rattle.layout.specs.Segments.{tally}
 use Rattle.layout.proofs.Tallies.{tally-le}
 use Rattle.folds.proofs.Numbered.{tally-yes, tally-no, tally-start}
 use Rattle.writes.specs.Writes.{Most, commitMost}
-use Rattle.writes.proofs.Counts.{tally-on, tally-wide}
+use Rattle.writes.proofs.Counts.{tally-on}
 
 -- ---- one write
 
@@ -55,7 +55,7 @@ module _ (p : Plan) (f : ℕ → Bool) (leaves : Leaves p f) where
   abbrev Counted : ℕ → ℕ → Medium → BodyOut → Type 0
   Counted k i m o = m .left + tally f k ≤ o .ans .medium .left + tally f i
 
-  sector-counted : (k : ℕ) (vol : List ℕ) (m : Medium) (h : Header) → Counted k (k + 1) m (bodySectorOf p vol m h k)
+  pub sector-counted : (k : ℕ) (vol : List ℕ) (m : Medium) (h : Header) → Counted k (k + 1) m (bodySectorOf p vol m h k)
   unfolding bodySectorOf
   sector-counted k vol m h = go (f k) refl
     where
@@ -63,7 +63,7 @@ module _ (p : Plan) (f : ℕ → Bool) (leaves : Leaves p f) where
       go true e = let x = act-most p (moveOf p vol m k) vol m h k in let y = tally-yes f k e in omega (arith, x, y)
       go false e = let x = act-unread p (moveOf p vol m k) vol m h k (leaves k e vol m) in let y = tally-no f k e in omega (arith, x, y)
 
-  body-counted : (n k : ℕ) (vol : List ℕ) (m : Medium) (h : Header) → Counted k (k + n) m (bodyFrom p n k vol m h)
+  pub body-counted : (n k : ℕ) (vol : List ℕ) (m : Medium) (h : Header) → Counted k (k + n) m (bodyFrom p n k vol m h)
   unfolding bodyFrom
   body-counted zero k vol m h = rw (add-zero k) (omega arith)
   body-counted (suc n) k vol m h =
@@ -95,22 +95,15 @@ module _ (p : Plan) (f : ℕ → Bool) (leaves : Leaves p f) where
 
 -- ---- each of them may be written
 
-abbrev every : ℕ → Bool
+abbrev pub every : ℕ → Bool
 every k = true
 
-pub sector-most : (p : Plan) (vol : List ℕ) (m : Medium) (h : Header) (k : ℕ) → Most 1 m (bodySectorOf p vol m h k .ans .medium)
-unfolding bodySectorOf
-sector-most p vol m h k = act-most p (moveOf p vol m k) vol m h k
-
-pub body-most : (p : Plan) (n k : ℕ) (vol : List ℕ) (m : Medium) (h : Header) → Most n m (bodyFrom p n k vol m h .ans .medium)
-body-most p n k vol m h =
-    let x = body-counted p every (λ k e. absurd (true≢false e)) n k vol m h in
-    let y = tally-wide every k n in
-    omega (arith, x, y)
+pub every-leaves : (p : Plan) → Leaves p every
+every-leaves p k e = absurd (true≢false e)
 
 pub copy-most : (p : Plan) (vol : List ℕ) (m : Medium) → Most (commitMost (p .head .chunks)) m (copyOut p vol m .ans .medium)
 copy-most p vol m =
-    let x = copy-counted p every (λ k e. absurd (true≢false e)) vol m in
+    let x = copy-counted p every (every-leaves p) vol m in
     let y = tally-le every (bodyOf (p .head .chunks)) in
     omega (arith, x, y)
 
@@ -131,6 +124,6 @@ module _ (edit : Edit) (name vol : List ℕ) (m : Medium) (st : Store) where
 
   pub commit-most : Most (commitMost (st .head .chunks)) m (commitOf edit name vol m st .ans .medium)
   commit-most =
-      let x = commit-counted every (λ _ _ k e. absurd (true≢false e)) in
+      let x = commit-counted every (λ _ _. every-leaves _) in
       let y = tally-le every (bodyOf (st .head .chunks)) in
       omega (arith, x, y)

@@ -1,9 +1,20 @@
 -- The definitions in numbers: stores of 1 to 128 chunks, of 9 table sectors and of 2,048 chunks. Assumes nothing.
-use Prim.Native.Nat.{ℕ}
+use Prim.Native.Nat.{ℕ, _+_}
 use mathlib.Core.Path.{_≡_, refl}
 use mathlib.Core.Bool.{true, false}
+use native.Mathlib.Omega.{arith}
 use Rattle.le.specs.Choice.{pick}
+use Rattle.handles.specs.Handles.{tableOf}
 use Rattle.writes.specs.Writes.{commitMost, createMost, recordsMost}
+
+-- one record: a commit and its own write; with a rollover a second commit, that writes one directory sector
+pub record-plain : (c : ℕ) → recordsMost false c 1 ≡ commitMost c + 1
+unfolding recordsMost pick
+record-plain c = omega arith
+
+pub record-over : (c : ℕ) → recordsMost true c 1 ≡ commitMost c + (1 + tableOf c + 2) + 1
+unfolding recordsMost pick
+record-over c = omega arith
 
 -- format, delete, delete_oldest; create; one record; three records: with no rollover, and with one
 pub record Numbers (c commit created one three created-over one-over three-over : ℕ) : Type 0 where

@@ -6,7 +6,7 @@
     believe.py --check  status 1 if the table in docs/PROOFS.md is another one
 
 A column counts what the columns before it do not need: the contracts of the calls on offer (demands 1 and 2); the claim of demand 3; the starred
-edges; the hosts (the C calls and the line program). What is left serves proofs, contracts inside, and the comparison with the Rust: who trusts the
+edges; how many writes a call makes; the hosts (the C calls and the line program). What is left serves proofs, contracts inside, and the comparison with the Rust: who trusts the
 checker need not read it. A line is one of a definition or of the comment right above it; imports, empty lines and heads of files are not counted."""
 import os
 import re
@@ -20,6 +20,8 @@ STARTS = [
     ("calls", {"store": None, "append": ["append", "sync", "room"], "reader": ["next", "seek", "record"], "handles": ["generation", "store_id", "chunks", "chunk_sectors"]}, []),
     ("demand 3", {}, [("crates/power/specs/Claim.antt", "Demand3")]),
     ("edges", {}, [("crates/store/specs/Edges.antt", "Starred")]),
+    ("writes", {}, [("crates/writes/specs/Writes.antt", n) for n in ("Most", "commitMost", "createMost", "recordsMost")]
+        + [("crates/power/specs/Room.antt", n) for n in ("Tells", "CanCommit", "HasRoom", "TakesChunk")]),
     ("hosts", {"firmware": ["store_mount", "store_format", "store_delete", "store_list"], "lines": ["feed", "last"]}, [("crates/lines/specs/Program.antt", "printedOf")]),
 ]
 

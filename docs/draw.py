@@ -247,7 +247,7 @@ def commit():
 # The crates in bands, the lowest last; docs/crates.svg. A crate leans only on crates of its own band or of lower ones.
 BANDS = [
     ("programs and hosts", ["lines", "session", "firmware", "bridge_write", "bridge", "bench_port", "checksum_vectors", "mix_vectors"]),
-    ("demand 3", ["power"]),
+    ("demand 3, writes", ["power", "writes"]),
     ("on offer", ["store"]),
     ("laws for demand 3", ["reading", "folds", "views", "layout", "safe"]),
     ("files", ["reopen", "files", "append", "remove", "reader"]),
@@ -256,7 +256,7 @@ BANDS = [
     ("a store value, names", ["handles", "names", "words"]),
     ("ground", ["seal", "medium", "walk", "mix", "checksum", "runs", "le"]),
 ]
-LAWS = {"power", "reading", "folds", "views", "layout", "safe"}
+LAWS = {"power", "writes", "reading", "folds", "views", "layout", "safe"}
 FROM_KIT = {"io", "libc"}
 
 

@@ -64,6 +64,11 @@ extern "C" {
 /* An accepted call returns this number plus its answer. */
 #define STORE_ACCEPTED 256u
 
+/* Sector writes that a call makes at most, for any volume and arguments: T + 10,
+ * where T is the chunks / 128, rounded up, so 11 to 26. With as many left no
+ * call is refused for want of one; more change nothing. */
+#define STORE_WRITES_MAX 26u
+
 /* For `unreadable`: every sector can be read. */
 #define STORE_ALL_READABLE UINT64_MAX
 
@@ -116,14 +121,16 @@ uint32_t store_mount(const uint8_t *volume, size_t volume_length,
                      uint64_t entropy);
 
 /* Makes a new, empty store with chunks of `size` sectors (1 to 512), in place
- * of any store there; `seed` and `entropy` make its id.
+ * of any store there; `seed` and `entropy` make its id. At most T + 10 sector
+ * writes, with the T of the new store; accepted, just as many.
  * Accepted: 256 + its data chunks (1 to 2,048).
  * Refused: 2, 4, 6, 12. */
 uint32_t store_format(uint8_t *volume, size_t volume_length,
                       uint32_t writes_left, uint64_t unreadable,
                       uint64_t entropy, uint32_t size, uint64_t seed);
 
-/* Mounts, and deletes the file of that name.
+/* Mounts, and deletes the file of that name. At most T + 10 sector writes;
+ * fewer where the other copy of the metadata is valid.
  * Accepted: 256.
  * Refused: 1 before any other, then mount's numbers, then 4, 7, 9, 12. */
 uint32_t store_delete(uint8_t *volume, size_t volume_length,

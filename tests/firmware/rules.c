@@ -215,9 +215,18 @@ static void full(void)
     CHECK(do_mount() == STORE_ACCEPTED + 2048);
     CHECK(list_in("") == STORE_ACCEPTED + 64);
     CHECK(row_is(63, text, 64, 32));
+    medium.left = STORE_WRITES_MAX - 1; /* 16 table sectors, and copy B is absent, before the stop and after it */
+    CHECK(delete_named(text) == STORE_E_MEDIA);
+    medium.left = STORE_WRITES_MAX;
     CHECK(delete_named(text) == STORE_ACCEPTED);
+    all_allowed();
     CHECK(list_in("") == STORE_ACCEPTED + 63);
     CHECK(delete_named(text) == STORE_E_NOT_FOUND);
+    medium.left = STORE_WRITES_MAX - 1;
+    CHECK(do_format(1, 2) == STORE_E_MEDIA);
+    medium.left = STORE_WRITES_MAX;
+    CHECK(do_format(1, 2) == STORE_ACCEPTED + 2048);
+    all_allowed();
     CHECK(do_format(512, 1) == STORE_ACCEPTED + 4);
 }
 

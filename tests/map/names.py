@@ -2,8 +2,8 @@
 """Every name that the tables of docs/PROOFS.md give must stand in the sources: a definition, a law, a function, or a must-fail edit. A definition
 given with its file (le/Field `getLe`) must stand in that file, a law given with its file (Fields `get-put`, safe Copy `copy-frame`) be declared
 there, an edit in the column of edits (le `wrong_order`) be that crate's, and a function given with its crate (`store::mount`) be in it. A row of a
-table with that column names an edit there, or begins with "none:" or "by construction" and says why. Of docs/CHANGING.md each single word must
-stand somewhere in the sources, the scripts or tests/port, and each definition or law that is given with its file in that file."""
+table with that column names an edit there, or begins with "none:" or "by construction" and says why. Of docs/CHANGING.md and docs/WRITES.md each
+single word must stand somewhere in the sources, the scripts or tests/port, and each definition or law that is given with its file in that file."""
 import glob
 import os
 import re
@@ -13,7 +13,7 @@ sys.dont_write_bytecode = True
 sys.path.insert(0, "docs")
 from faults import FAULTS
 
-MAP, PAGE = "docs/PROOFS.md", "docs/CHANGING.md"
+MAP, PAGES = "docs/PROOFS.md", ["docs/CHANGING.md", "docs/WRITES.md"]
 NAME = re.compile(r"`([^`]+)`")
 GROUP = r"((?:`[^`]+`(?: \([^)]*\))?(?:, )?)+)"
 WORD = r"[^\s(){}\[\];,.:&|=<>!]+"
@@ -87,10 +87,13 @@ for row in tables(MAP):
     if unshown(row):
         bare.append(row[0][1])
 missing += [n for n in sorted(names) if n not in words and n not in edits]
-plain = {n for n in NAME.findall(read(PAGE)) if re.fullmatch(r"[A-Za-z][\w-]*", n)}
-words.update(w for p in glob.glob("docs/*.py") + glob.glob("tests/port/src/*.rs") for w in re.findall(WORD, read(p)))
-missing += [f"{n}, of {PAGE}" for n in sorted(plain - words - set(os.listdir("crates")))] + list(misplaced(read(PAGE), ""))
-print(f"map: {len(names)} names of {MAP} and {len(plain)} of {PAGE} looked up, {len(missing)} not found; {len(bare)} rows with neither an edit nor a reason")
+words.update(w for p in glob.glob("docs/*.py") + glob.glob("tests/port/src/**/*.rs", recursive=True) for w in re.findall(WORD, read(p)))
+many = 0
+for page in PAGES:
+    plain = {n for n in NAME.findall(read(page)) if re.fullmatch(r"[A-Za-z][\w-]*", n)}
+    many += len(plain)
+    missing += [f"{n}, of {page}" for n in sorted(plain - words - set(os.listdir("crates")))] + list(misplaced(read(page), ""))
+print(f"map: {len(names)} names of {MAP} and {many} of {' and '.join(PAGES)} looked up, {len(missing)} not found; {len(bare)} rows with neither an edit nor a reason")
 for n in missing:
     print("map: not in the sources:", n)
 for n in bare:

@@ -114,5 +114,5 @@ module _ (name : List ℕ) (rollover : Rollover) where
             rest
 
         go : (t : Bool) → rollover .rolls ≡ t → Most (createMost t c) m (createOf name rollover vol m st .ans .medium)
-        go true e = one (2 + tableOf c + 2) (λ _. after-gone)
+        go true e = let x = one (2 + tableOf c + 2) (λ _. after-gone) in omega (arith, x)
         go false e = let x = one 0 (λ t _. absurd (true≢false (sym t ∙ e))) in omega (arith, x)

@@ -44,7 +44,6 @@ use Rattle.power.proofs.Oldest.{spared-open, ways}
 use Rattle.power.proofs.Going.{remove-is, goer}
 use Rattle.power.proofs.Formatting.{format-run}
 use Rattle.power.proofs.Running.{Ready, opened, some-kept, sync-run}
-use Rattle.power.proofs.Counting.{vacancy, room}
 use Rattle.power.proofs.Creating.{Made, create-makes}
 
 module _ (w : World) (b : Book) (k : Keeps w b) (left : ℕ) (can : CanCommit w left) where
@@ -71,9 +70,7 @@ module _ (w : World) (b : Book) (k : Keeps w b) (left : ℕ) (can : CanCommit w 
   module _ (name : List ℕ) (rolls : Bool) (dir : List ℕ) (fine : openFine name rolls dir ≡ true) (new : (f : File) → List·Memᴰ f (b .files) → f .name ≡ name → ⊥)
       (has : HasRoom w b) where
     pub create-made : Made w left name rolls dir
-    create-made =
-        create-makes w left name rolls dir k fine (λ s i h e. new _ (k .whole .ties .into s name i h e) refl) (vacancy (k .whole .good) (k .whole .ties) (has .slots))
-        (room (k .whole .good) (k .whole .ties) (has .chunks)) (λ e. has .ids (k .whole .next ∙ e)) (can .gens) (can .writes)
+    create-made = create-makes w left name rolls dir k fine new can has
 
     pub create-accepted : Tells w (create left name rolls dir) (created ∷ [])
     create-accepted = rw (create-made .is) (refl, refl)

@@ -59,6 +59,12 @@ pub record Directed (over : Rollover) (dir : Option (List ℕ)) : Type 0 where
 pub directed-set : {over : Rollover} {dir : Option (List ℕ)} → Directed over dir → over .rolls ≡ true → dir ≡ some (dirBytes (over .dir))
 directed-set d r = sym (d .same) ∙ pick-true _ _ r
 
+-- where a directory counts the rollover is set, and that is its directory
+pub set-dir : (rolls : Bool) (bytes dir : List ℕ) → some dir ≡ ifSet rolls bytes → (rolls ≡ true) × (bytes ≡ dir)
+unfolding pick
+set-dir true bytes dir e = let q : bytes ≡ dir = cc in (refl, q)
+set-dir false bytes dir e = let z : _≡_ {A = ℕ} 0 1 = cc in absurd (omega arith)
+
 -- both
 pub record Opens (name : List ℕ) (rolls : Bool) (dir : List ℕ) : Type 0 where
   pub name-fine : nameOk name ≡ true

@@ -1,5 +1,5 @@
--- A slot is vacant where the book has fewer files than there are slots. A chunk is free where its files have not all of them, and only there. Assumes
--- nothing.
+-- A slot is vacant where the book has fewer files than there are slots, and only there. A chunk is free where its files have not all of them, and only
+-- there. Assumes nothing.
 use Prim.Native.Nat.{ℕ, zero, suc, _+_, _<_, _≤_}
 use mathlib.Core.Path.{_≡_, refl, sym, ap, _∙_}
 use mathlib.Core.Logic.{_⊎_, inl, inr}
@@ -24,7 +24,7 @@ use Rattle.power.specs.Book.{File, keep}
 use Rattle.power.specs.Room.{chunksIn}
 use Rattle.power.proofs.Whole.{Apart, Ties}
 use Rattle.power.proofs.Members.{Mem}
-use Rattle.power.proofs.Ties.{named-counts}
+use Rattle.power.proofs.Ties.{vacant-counts, named-counts}
 
 -- ---- numbers below n
 
@@ -108,6 +108,14 @@ module _ {D : Disk} {G : ℕ → List Segment} {files : List File} (d : Good D G
       go (inr all) =
           let x : tally (λ s. listedIn [] (D .entry s)) 64 ≡ 64 = tally-all (λ s. listedIn [] (D .entry s)) 64 (λ s h. named-counts (all s h .1 .1)) in
           absurd (omega (arith, x, t .many, few))
+
+  pub slots-most : length files ≤ 64
+  slots-most = omega (arith, t .many, tally-le (λ s. listedIn [] (D .entry s)) 64)
+
+  pub vacant-fewer : (s : ℕ) → s < 64 → D .entry s ≡ vacant → length files < 64
+  vacant-fewer s h v =
+      let more = tally-more (λ s. listedIn [] (D .entry s)) (λ s. true) 64 s h (vacant-counts v) refl (λ b l n e. refl) in
+      omega (arith, more, t .many, tally-le (λ s. true) 64)
 
   -- a slot with a segment is a file's
   held-by : (s p : ℕ) → s < 64 → p < length (G s) → FileAt s
@@ -196,6 +204,11 @@ module _ {D : Disk} {G : ℕ → List Segment} {files : List File} (d : Good D G
             h c l (record { by = y .by; is = y .is; below = y .below; file = y .file; among = List·Memᴰ·tail (y .among); entry = y .entry }),
             not-of s (y .is) (λ z. a .0 (y .file) (y .among) (same-id e (ap (D .entry) (sym z) ∙ y .entry))),
           ) refl
+
+  pub chunks-most : chunksIn files ≤ D .chunks
+  chunks-most =
+      let least = held-least files (λ f m. m) (t .apart) (λ c. true) (λ c l y. refl) in
+      omega (arith, least, tally-le (λ c. true) (D .chunks))
 
   pub free-fewer : (c : ℕ) → c < D .chunks → D .link c ≡ link.Free → chunksIn files < D .chunks
   free-fewer c h v =

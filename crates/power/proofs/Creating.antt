@@ -1,51 +1,55 @@
--- create in a history where nothing stands in its way: the name is new, a slot is vacant, a chunk is free, and ids, generations and writes are left. It
--- is accepted, with one step. Assumes nothing.
-use Prim.Native.Nat.{ℕ, _+_, _-_, _^_, _≤_, _<_}
-use mathlib.Core.Path.{_≡_, refl, ap, _∙_}
+-- create in a history, where the name is new and ids, generations and writes are left. With room for a file more it is accepted, with one step. Without,
+-- with a rollover and a file that may go, the oldest goes first: then there is room, and it is accepted, with two. Assumes nothing.
+use Prim.Native.Nat.{ℕ, _+_, _-_, _^_, _≤_}
+use mathlib.Core.Path.{_≡_, refl, sym, ap, subst, _∙_}
+use mathlib.Core.Logic.{_⊎_}
 use mathlib.Core.Bool.{Bool, true, false, not, _||_}
-use mathlib.Core.List.{List, [], _∷_}
-use borrow.Author.Tests.{ne-eqb}
+use mathlib.Core.Option.{none}
+use mathlib.Core.List.{List, [], _∷_, _++_, List·Memᴰ}
+use native.Mathlib.Omega.{arith}
+use lib.ListN.{length}
 use Rattle.le.specs.Choice.{pick}
-use Rattle.le.proofs.Choices.{pick-false}
+use Rattle.le.proofs.Choices.{pick-true}
 use Rattle.le.proofs.Bools.{and-true}
 use Rattle.names.specs.Names.{nameOk, dirOk}
 use Rattle.names.proofs.Laws.{name-short}
 use Rattle.medium.specs.declared.Medium.{Medium}
 use Rattle.medium.specs.declared.Outcome.the-variants.{Done}
+use Rattle.medium.specs.Sector.{Readable}
 use Rattle.medium.proofs.Laws.{onDone-done}
 use Rattle.handles.specs.declared.Header.{Header}
+use Rattle.handles.specs.Handles.{tableOf}
 use Rattle.header.specs.Header.{withCrcs}
-use Rattle.directory.specs.declared.Seen.{Seen}
-use Rattle.directory.specs.Scan.{onLooked}
-use Rattle.table.specs.declared.LinkAt.the-variants as link
-use Rattle.table.specs.declared.Pick.{Pick}
-use Rattle.table.specs.declared.Pick.the-variants as free
-use Rattle.table.specs.Table.{freeOf, onPick}
 use Rattle.plan.specs.declared.Edit.the-variants.{Create}
 use Rattle.plan.specs.Edit.{headAfter}
-use Rattle.plan.specs.Copy.{isFormat, created, Step, Out}
-use Rattle.commit.specs.Commit.{commitOf}
+use Rattle.plan.specs.Copy.{isFormat, rolledOver, created, Out, EachSkipped, Distinct}
 use Rattle.commit.proofs.Keeps.{commit-keeps}
+use Rattle.remove.specs.Remove.{GoneOut, removeOldestOf}
 use Rattle.append.specs.declared.Tail.the-variants.{At}
+use Rattle.append.specs.Appender.{dirBytes}
 use Rattle.append.specs.Calls.{callOf}
-use Rattle.append.specs.Flush.{AppOut, after}
+use Rattle.append.specs.Flush.{AppOut, after, rolling}
 use Rattle.files.specs.declared.Rollover.{Rollover}
 use Rattle.files.specs.Opened.{nextToken, withToken, writtenBy, newAppender, openedOut}
-use Rattle.files.specs.Create.{makeOut, roundOut, createFrom, createOf}
-use Rattle.layout.specs.Views.{vacant, named, diskOf, linkView}
-use Rattle.folds.specs.Checked.{Checked}
-use Rattle.folds.proofs.Named.{Look, look-view}
-use Rattle.folds.proofs.Chunks.{Free, free-found}
+use Rattle.files.specs.Create.{overOut, createFrom, createOf}
+use Rattle.store.specs.Asked.{askedOf}
 use Rattle.store.specs.Opening.{rolloverOf, openFine, opening, createCall}
-use Rattle.writes.specs.Writes.{commitMost}
+use Rattle.writes.specs.Writes.{commitMost, createMost}
+use Rattle.writes.proofs.Removals.{oldest-beside}
 use Rattle.power.specs.Calls.{create}
-use Rattle.power.specs.Book.{Book}
-use Rattle.power.specs.History.{World, ifOk, withLeft, ran}
+use Rattle.power.specs.Book.{File, Book, mayGo}
+use Rattle.power.specs.History.{World, ifOk, withLeft, ran, EachStep}
+use Rattle.power.specs.Room.{Tells, CanCommit, HasRoom, chunksIn}
 use Rattle.power.proofs.Whole.{Keeps}
-use Rattle.power.proofs.Checks.{inv-checked}
+use Rattle.power.proofs.Members.{keep-mem, isNot}
+use Rattle.power.proofs.Asks.{set-dir, asked-opens}
 use Rattle.power.proofs.Shown.{asked}
-use Rattle.power.proofs.Creates.{steps-done}
-use Rattle.power.proofs.Enough.{commit-within}
+use Rattle.power.proofs.Removing.{gone-readable}
+use Rattle.power.proofs.Oldest.{Went, oldest-made}
+use Rattle.power.proofs.Enough.{commit-within, commit-after}
+use Rattle.power.proofs.Counting.{slots-most, chunks-most}
+use Rattle.power.proofs.Rounds.{creation, Makes, round-lacks, round-makes}
+use Rattle.power.proofs.Going.{Goer, oldest-goes, went-files, went-chunks}
 
 not-format : (s i c : ℕ) → isFormat (Create s i c) ≡ false
 unfolding isFormat
@@ -60,9 +64,6 @@ module _ (w : World) (left : ℕ) (name : List ℕ) (rolls : Bool) (dir : List �
 
   abbrev over : Rollover
   over = rolloverOf rolls dir
-
-  abbrev commit : ℕ → ℕ → Out
-  commit slot chunk = commitOf (Create slot id chunk) name (w .vol) m (w .store)
 
   -- accepted, with one step: the appender stands at the start of its file, and the header is the commit's
   pub record Made : Type 0 where
@@ -81,65 +82,37 @@ module _ (w : World) (left : ℕ) (name : List ℕ) (rolls : Bool) (dir : List �
       steps = (record { kind = created; skipped = out .skipped }) ∷ [];
     }
 
-  module _ {b : Book} (k : Keeps w b) (fine : openFine name rolls dir ≡ true) (new : (s i : ℕ) → s < 64 → diskOf (w .vol) (w .store) .entry s ≡ named name i → ⊥)
-      (vacancy : (s : ℕ) × (s < 64) × (diskOf (w .vol) (w .store) .entry s ≡ vacant))
-      (room : (c : ℕ) × (c < w .store .head .chunks) × (linkView (w .vol) (w .store) c ≡ link.Free)) (ids : id ≡ 2 ^ 32 - 1 → ⊥)
-      (gens : w .store .head .generation ≡ 2 ^ 64 - 1 → ⊥) (enough : commitMost (w .store .head .chunks) ≤ left) where
+  module _ {b : Book} (k : Keeps w b) (fine : openFine name rolls dir ≡ true) where
     short : nameOk name ≡ true
     short = and-true (nameOk name) (not rolls || dirOk dir) fine .0
 
-    checked : Checked (w .vol) m (w .store)
-    checked = inv-checked m (k .whole .inv) (k .readable)
-
-    done : (slot chunk : ℕ) → commit slot chunk .ans .outcome ≡ Done
-    done slot chunk =
-        commit-within (Create slot id chunk) name (w .vol) m (w .store) (k .whole .inv) (k .readable) (not-format slot id chunk) (name-short name short) gens enough .0
+    asks : askedOf (w .vol) (w .store) (openFine name rolls dir) ≡ Done
+    asks = asked (w .vol) m (w .store) (k .layout) b (k .whole) (k .readable) (openFine name rolls dir) fine
 
     call-is : createCall (w .vol) m (w .store) name rolls dir ≡ callOf (createOf name over (w .vol) m (w .store))
     unfolding createCall opening
-    call-is = ap callOf (onDone-done _ _ (asked (w .vol) m (w .store) (k .layout) b (k .whole) (k .readable) (openFine name rolls dir) fine))
+    call-is = ap callOf (onDone-done _ _ asks)
 
-    create-is : (seen : Seen) → Look (w .vol) m (w .store) name seen → seen .exists ≡ false → seen .free ≡ true → (c : ℕ) → freeOf (w .vol) m (w .store) ≡ free.At c
-        → createOf name over (w .vol) m (w .store) ≡ makeOut name over (w .vol) m (w .store) (seen .slot) c
-    unfolding createFrom roundOut onLooked onPick pick
-    create-is seen l e f c q = rw (l .answer, e, f, q)
+    -- ---- there is room
 
-    abbrev opened : ℕ → ℕ → AppOut
-    opened slot chunk =
-        let o : Out = commit slot chunk in
-        after ((record { kind = created; skipped = o .skipped }) ∷ []) (openedOut (o .vol) (o .ans .medium) (o .ans .store) slot id chunk 0 (At 0) over)
+    module _ (new : (f : File) → List·Memᴰ f (b .files) → f .name ≡ name → ⊥) (can : CanCommit w left) (has : HasRoom w b) where
+      done : (slot chunk : ℕ) → creation name (w .vol) m (w .store) slot chunk .ans .outcome ≡ Done
+      done slot chunk =
+          commit-within (Create slot id chunk) name (w .vol) m (w .store) (k .whole .inv) (k .readable) (not-format slot id chunk) (name-short name short) (can .gens) (can .writes) .0
 
-    make-is : (slot chunk : ℕ) → makeOut name over (w .vol) m (w .store) slot chunk ≡ opened slot chunk
-    unfolding makeOut
-    make-is slot chunk =
-        let o : Out = commit slot chunk in
-        pick-false _ _ (ne-eqb _ _ ids) ∙ onDone-done _ _ (done slot chunk)
-        ∙ ap (λ (x : List Step). after x (openedOut (o .vol) (o .ans .medium) (o .ans .store) slot id chunk 0 (At 0) over)) (steps-done created o (done slot chunk))
-
-    made-by : (slot chunk : ℕ) → createOf name over (w .vol) m (w .store) ≡ opened slot chunk → Made
-    unfolding ran openedOut ifOk
-    made-by slot chunk q =
-        record {
-          slot = slot;
-          chunk = chunk;
-          out = commit slot chunk;
-          head =
-              commit-keeps (Create slot id chunk) name (w .vol) m (w .store) (k .whole .inv .ok) (k .whole .inv .range .count) (name-short name short) .accepted (done slot chunk) .1;
-          is = rw (call-is, q);
-        }
-
-    pub create-makes : Made
-    create-makes =
-        let l = look-view (w .vol) m (w .store) checked (k .layout) (k .whole .good) name in
-        go (l .0) (l .1) (l .0 .exists) refl (l .0 .free) refl (freeOf (w .vol) m (w .store)) refl (free-found (w .vol) m (w .store) checked (k .layout) (k .whole .good))
-      where
-        go : (seen : Seen) → Look (w .vol) m (w .store) name seen → (e : Bool) → seen .exists ≡ e → (f : Bool) → seen .free ≡ f → (p : Pick) → freeOf (w .vol) m (w .store) ≡ p
-            → Free (w .vol) m (w .store) checked (k .layout) (k .whole .good) (w .store .head .chunks) p → Made
-        go seen l true e f q p r x = let t = l .there e in absurd (new (t .0) (t .2 .0) (t .1) (t .2 .1))
-        go seen l false e false q p r x = absurd (l .full q (vacancy .0) (vacancy .1) (vacancy .2))
-        go seen l false e true q (free.Refused y) r x = absurd x
-        go seen l false e true q free.Nothing r x = absurd (x (room .0) (room .1) (room .2))
-        go seen l false e true q (free.At c) r x = made-by (seen .slot) c (create-is seen l e q c r ∙ make-is (seen .slot) c)
+      pub create-makes : Made
+      unfolding ran openedOut ifOk createFrom
+      create-makes =
+          let x = round-makes (w .vol) m (w .store) (k .whole) (k .readable) name new over (createFrom 1 name over) (has .ids) done (has .slots) (has .chunks) in
+          record {
+            slot = x .0;
+            chunk = x .1 .0;
+            out = creation name (w .vol) m (w .store) (x .0) (x .1 .0);
+            head =
+                commit-keeps (Create (x .0) id (x .1 .0)) name (w .vol) m (w .store) (k .whole .inv .ok) (k .whole .inv .range .count) (name-short name short)
+                .accepted (done (x .0) (x .1 .0)) .1;
+            is = rw (call-is, x .1 .1);
+          }
 
   -- the header: a generation more, the shape as it was
   module _ (x : Made) where
@@ -154,3 +127,83 @@ module _ (w : World) (left : ℕ) (name : List ℕ) (rolls : Bool) (dir : List �
     pub made-generation : ran w (create left name rolls dir) .world .store .head .generation ≡ w .store .head .generation + 1
     unfolding headAfter
     made-generation = rw (x .is) (ap (λ (h : Header). h .generation) (x .head))
+
+-- ---- room is lacking, and a file of the rollover's directory may go
+
+module _ (w : World) (b : Book) (k : Keeps w b) (left : ℕ) (name dir : List ℕ) (fine : openFine name true dir ≡ true) (new : (f : File) → List·Memᴰ f (b .files) → f .name ≡ name → ⊥)
+    (lacks : (length (b .files) ≡ 64) ⊎ (chunksIn (b .files) ≡ w .store .head .chunks)) (f : File) (has : List·Memᴰ f (b .files)) (goes : mayGo dir none f ≡ true)
+    (ids : b .next ≡ 2 ^ 32 - 1 → ⊥) (gens : w .store .head .generation + 2 ≤ 2 ^ 64 - 1) (enough : createMost true (w .store .head .chunks) ≤ left) where
+  abbrev n : Medium
+  n = withLeft left (w .medium)
+
+  abbrev roll : Rollover
+  roll = rolloverOf true dir
+
+  abbrev x : GoneOut
+  x = removeOldestOf (w .vol) n (w .store) (dirBytes (roll .dir)) false 0
+
+  set : (roll .rolls ≡ true) × (dirBytes (roll .dir) ≡ dir)
+  set =
+      set-dir (roll .rolls) (dirBytes (roll .dir)) dir
+      (sym (asked-opens (w .vol) (w .store) name true dir (asks w left name true dir k fine) .directed .same ∙ pick-true _ _ refl))
+
+  two : commitMost (w .store .head .chunks) + (2 + tableOf (w .store .head .chunks) + 2) ≤ left
+  unfolding pick
+  two = enough
+
+  gone : Goer n (w .store) x
+  unfolding pick
+  gone =
+      oldest-goes (w .vol) n (w .store) (k .layout) b (k .whole) (k .readable) (λ e. omega (arith, e, gens)) (omega (arith, two)) (dirBytes (roll .dir)) false 0 f has
+      (rw (set .1) goes)
+
+  -- what follows it
+  abbrev onward : AppOut
+  onward = createFrom 1 name roll (x .vol) (x .ans .medium) (x .ans .store)
+
+  create-is : createOf name roll (w .vol) n (w .store) ≡ after (rolling (x .skipped)) onward
+  unfolding createFrom overOut
+  create-is =
+      round-lacks (w .vol) n (w .store) (k .whole) (k .readable) name new roll (createFrom 1 name roll) lacks
+      ∙ pick-true _ _ (set .0) ∙ onDone-done _ _ (gone .within .0) ∙ pick-true _ _ (gone .any)
+
+  -- then there is room, under the premise on the sectors that the removal left unwritten
+  module _ (each : EachStep Distinct (ran w (create left name true dir) .steps)) where
+    steps-are : ran w (create left name true dir) .steps ≡ rolling (x .skipped) ++ onward .steps
+    unfolding ran
+    steps-are = rw (call-is w left name true dir k fine, create-is) refl
+
+    each-gone : EachSkipped Distinct (x .skipped)
+    unfolding EachStep
+    each-gone = subst (EachStep Distinct) steps-are each .0
+
+    went : Went (w .vol) n (w .store) (k .layout) b (dirBytes (roll .dir)) false 0 x
+    went = oldest-made (w .vol) n (w .store) (k .layout) b (k .whole) (k .readable) (dirBytes (roll .dir)) false 0 (gone .any) each-gone
+
+    reads : Readable (x .vol) (x .ans .medium)
+    reads = gone-readable (went .gone) (k .readable)
+
+    fresh : x .ans .store .head .generation ≡ 2 ^ 64 - 1 → ⊥
+    fresh e = omega (arith, e, gone .generation, gens)
+
+    -- the copy beside it is the one that was current
+    ample : 1 + 1 + tableOf (x .ans .store .head .chunks) + 2 ≤ x .ans .medium .left
+    ample = rw (gone .chunks) (omega (arith, gone .within .1, two))
+
+    then-done : (slot chunk : ℕ) → creation name (x .vol) (x .ans .medium) (x .ans .store) slot chunk .ans .outcome ≡ Done
+    then-done slot chunk =
+        commit-after (Create slot (x .ans .store .head .«next_id») chunk) name (x .vol) (x .ans .medium) (x .ans .store) (went .gone .whole .inv) reads
+        (not-format slot (x .ans .store .head .«next_id») chunk) (name-short name (short w left name true dir k fine)) fresh
+        (oldest-beside (w .vol) n (w .store) (record { ok = k .whole .inv .ok; count = k .whole .inv .range .count }) (dirBytes (roll .dir)) false 0 (gone .any)) ample .0
+
+    makes : Makes name (x .vol) (x .ans .medium) (x .ans .store) roll onward
+    unfolding createFrom
+    makes =
+        let slots = slots-most (k .whole .good) (k .whole .ties) in
+        let chunks = chunks-most (k .whole .good) (k .whole .ties) in
+        round-makes (x .vol) (x .ans .medium) (x .ans .store) (went .gone .whole) reads name (λ g h. new g (keep-mem (isNot (went .id)) g (b .files) h .0)) roll (createFrom 0 name roll)
+        ids then-done (omega (arith, slots, went-files (k .whole) went)) (omega (arith, chunks, went-chunks (k .whole) went, gone .chunks))
+
+    pub create-rolls : Tells w (create left name true dir) (rolledOver ∷ created ∷ [])
+    unfolding ran openedOut
+    create-rolls = rw (call-is w left name true dir k fine, create-is, makes .1 .1) (refl, refl)

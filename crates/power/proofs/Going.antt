@@ -1,9 +1,11 @@
--- The oldest file of a directory removed, where one may go and enough writes and generations are left: it goes. Assumes nothing.
+-- The oldest file of a directory removed, where one may go and enough writes and generations are left: it goes, and with it a file and its chunks.
+-- Assumes nothing.
 use Prim.Native.Nat.{ℕ, _+_, _-_, _^_, _≤_, _<_}
 use mathlib.Core.Path.{_≡_, refl, sym, ap, subst, _∙_}
 use mathlib.Core.Bool.{Bool, true, false}
-use mathlib.Core.List.{List, []}
+use mathlib.Core.List.{List, [], List·Memᴰ}
 use lib.Dec.{lit≤}
+use lib.ListN.{length}
 use Rattle.medium.specs.declared.Medium.{Medium}
 use Rattle.medium.specs.declared.Outcome.the-variants.{Done}
 use Rattle.medium.specs.Sector.{Readable}
@@ -16,14 +18,16 @@ use Rattle.plan.specs.Copy.{isFormat, Out}
 use Rattle.commit.specs.Commit.{commitOf}
 use Rattle.commit.proofs.Keeps.{commit-keeps}
 use Rattle.remove.specs.Remove.{closedFor, removeOf, GoneOut, goneOf, removeOldestOf}
-use Rattle.layout.specs.Views.{named, diskOf}
 use Rattle.layout.specs.Segments.{Segment}
-use Rattle.folds.proofs.Oldest.{Goes}
 use Rattle.writes.specs.Writes.{commitMost}
-use Rattle.power.specs.Book.{Book}
-use Rattle.power.proofs.Whole.{Whole}
-use Rattle.power.proofs.Oldest.{ways}
+use Rattle.power.specs.Book.{File, Book, keep, mayGo}
+use Rattle.power.specs.Room.{chunksIn}
+use Rattle.power.proofs.Whole.{fileOf, Whole}
+use Rattle.power.proofs.Members.{isNot, not-here, length-without}
+use Rattle.power.proofs.Picks.{sparedBy, may-goes}
+use Rattle.power.proofs.Oldest.{Went, ways}
 use Rattle.power.proofs.Enough.{Within, commit-within}
+use Rattle.power.proofs.Counting.{chunks-fewer}
 
 -- a file went, by at most the writes of a commit: the shape is as it was, with a generation more
 pub record Goer (m : Medium) (st : Store) (g : GoneOut) : Type 0 where
@@ -62,7 +66,24 @@ module _ (vol : List ℕ) (m : Medium) (st : Store) (G : ℕ → List Segment) (
       (record { within = (refl, within slot .1); any = refl; chunks = k .chunks; size = k .chunk; generation = ap (λ (x : Header). x .generation) h })
 
   module _ (dir : List ℕ) (keeping : Bool) (kept : ℕ) where
-    pub oldest-goes : (s : ℕ) → s < 64 → (name : List ℕ) (id : ℕ) → diskOf vol st .entry s ≡ named name id → Goes dir keeping kept name id
-        → Goer m st (removeOldestOf vol m st dir keeping kept)
-    oldest-goes s h name id e goes =
-        ways vol m st G b w r dir keeping kept (Goer m st) (λ old o t. goer _ _ (old .slot) (old .id)) (λ old o t. absurd (o .none t s h name id e goes))
+    pub oldest-goes : (f : File) → List·Memᴰ f (b .files) → mayGo dir (sparedBy keeping kept) f ≡ true → Goer m st (removeOldestOf vol m st dir keeping kept)
+    oldest-goes f has may =
+        let s = w .ties .from f has in
+        ways vol m st G b w r dir keeping kept (Goer m st) (λ old o t. goer _ _ (old .slot) (old .id))
+        (λ old o t. absurd (o .none t (s .0) (s .1) (f .name) (f .id) (s .2) (may-goes dir keeping kept f may)))
+
+-- a file less, and fewer chunks
+module _ {vol : List ℕ} {m : Medium} {st : Store} {G : ℕ → List Segment} {b : Book} {dir : List ℕ} {keeping : Bool} {kept : ℕ} {g : GoneOut} (w : Whole vol st G b)
+    (x : Went vol m st G b dir keeping kept g) where
+  abbrev gone : File
+  gone = fileOf (x .name) (x .id) (G (x .slot))
+
+  was : List·Memᴰ gone (b .files)
+  was = w .ties .into (x .slot) (x .name) (x .id) (x .below) (x .gone .was)
+
+  pub went-files : length (keep (isNot (x .id)) (b .files)) + 1 ≡ length (b .files)
+  went-files = length-without gone (b .files) (w .ties .apart) was
+
+  pub went-chunks : chunksIn (keep (isNot (x .id)) (b .files)) < chunksIn (b .files)
+  went-chunks =
+      chunks-fewer (isNot (x .id)) gone (b .files) was (not-here (x .id) gone refl) (w .good .held (x .slot) (x .name) (x .id) (x .below) (x .gone .was))

@@ -8,7 +8,6 @@ use mathlib.Core.List.{List, [], _∷_, List·Memᴰ}
 use native.Mathlib.Omega.{arith}
 use borrow.Author.Tests.{le-ltb, lt-leb}
 use lib.Dec.{leb, lit≤}
-use Rattle.le.specs.Choice.{pick}
 use Rattle.le.proofs.Choices.{pick-true, pick-false}
 use Rattle.medium.specs.declared.Error.the-variants.{Corrupt}
 use Rattle.medium.specs.declared.Medium.{Medium}
@@ -18,8 +17,6 @@ use Rattle.handles.specs.declared.Header.{Header}
 use Rattle.handles.specs.declared.Store.{Store}
 use Rattle.handles.specs.declared.Writer.the-variants.{Open}
 use Rattle.handles.specs.Handles.{isOpen, openId, tableOf}
-use Rattle.table.specs.declared.LinkAt.the-variants as link
-use Rattle.table.specs.declared.Pick.{Pick}
 use Rattle.table.specs.declared.Pick.the-variants as free
 use Rattle.table.specs.Table.{freeOf, onPick}
 use Rattle.plan.specs.declared.Edit.{Edit}
@@ -34,20 +31,18 @@ use Rattle.append.specs.declared.Tail.the-variants.{At, Reopened, Closed}
 use Rattle.append.specs.Appender.{dirBytes, isClosed}
 use Rattle.append.specs.Flush.{AppOut, stopped, after, rolling, andThen, linkOut, rolledOut, extendOf, movedTo, recordOut, onTail, writeOut, flushOf}
 use Rattle.append.proofs.Then.{then-done}
-use Rattle.layout.specs.Views.{linkView}
 use Rattle.layout.specs.Segments.{Segment}
-use Rattle.folds.proofs.Chunks.{Free, free-found}
 use Rattle.medium.specs.Sector.{Readable}
 use Rattle.power.specs.Calls.{sync}
-use Rattle.power.specs.Book.{File, Book, keep, mayGo, ifSet}
+use Rattle.power.specs.Book.{File, Book, keep, mayGo}
 use Rattle.power.specs.History.{World, Ran, withLeft, ran, openOf, EachStep}
 use Rattle.power.specs.Room.{Tells, chunksIn, TakesChunk}
-use Rattle.power.proofs.Whole.{fileOf, Whole, Keeps}
-use Rattle.power.proofs.Members.{isNot, not-here}
-use Rattle.power.proofs.Checks.{inv-checked}
-use Rattle.power.proofs.Picks.{sparedBy, may-goes}
+use Rattle.power.proofs.Whole.{Whole, Keeps}
+use Rattle.power.proofs.Members.{isNot}
+use Rattle.power.proofs.Picks.{sparedBy}
 use Rattle.power.proofs.Removing.{gone-readable}
 use Rattle.power.proofs.Oldest.{Went, spared-open, oldest-made}
+use Rattle.power.proofs.Asks.{set-dir}
 use Rattle.power.proofs.Standing.{position-in}
 use Rattle.power.proofs.Linking.{commit, step, moved, link-made}
 use Rattle.power.proofs.Spends.{write-some}
@@ -56,39 +51,12 @@ use Rattle.writes.specs.Writes.{commitMost, recordsMost}
 use Rattle.writes.proofs.Edges.{record-plain, record-over}
 use Rattle.writes.proofs.Removals.{oldest-beside}
 use Rattle.power.proofs.Enough.{Within, commit-within, commit-after}
-use Rattle.power.proofs.Counting.{chunks-fewer, room, free-fewer}
-use Rattle.power.proofs.Going.{Goer, oldest-goes}
-
--- ---- the free chunk, where one is, and where none is
-
-module _ (vol : List ℕ) (m : Medium) (st : Store) {G : ℕ → List Segment} {b : Book} (w : Whole vol st G b) (r : Readable vol m) where
-  abbrev Picks : Pick → Type 0
-  Picks = Free vol m st (inv-checked m (w .inv) r) G (w .good) (st .head .chunks)
-
-  found : ((c : ℕ) × (c < st .head .chunks) × (linkView vol st c ≡ link.Free)) → (c : ℕ) × (freeOf vol m st ≡ free.At c)
-  found x = go (freeOf vol m st) refl (free-found vol m st (inv-checked m (w .inv) r) G (w .good))
-    where
-      go : (p : Pick) → freeOf vol m st ≡ p → Picks p → (c : ℕ) × (freeOf vol m st ≡ free.At c)
-      go (free.Refused e) q f = absurd f
-      go free.Nothing q f = absurd (f (x .0) (x .1) (x .2))
-      go (free.At c) q f = (c, q)
-
-  none-found : ((c : ℕ) → c < st .head .chunks → linkView vol st c ≡ link.Free → ⊥) → freeOf vol m st ≡ free.Nothing
-  none-found used = go (freeOf vol m st) refl (free-found vol m st (inv-checked m (w .inv) r) G (w .good))
-    where
-      go : (p : Pick) → freeOf vol m st ≡ p → Picks p → freeOf vol m st ≡ free.Nothing
-      go (free.Refused e) q f = absurd f
-      go free.Nothing q f = q
-      go (free.At c) q f = absurd (used c (f .0) (f .1))
+use Rattle.power.proofs.Rounds.{found, none-found}
+use Rattle.power.proofs.Going.{Goer, oldest-goes, went-chunks}
 
 not-format : (s p n l : ℕ) (partial : Bool) (k : ℕ) → isFormat (Extend s p n l partial k) ≡ false
 unfolding isFormat
 not-format s p n l partial k = refl
-
-set-dir : (rolls : Bool) (bytes dir : List ℕ) → some dir ≡ ifSet rolls bytes → (rolls ≡ true) × (bytes ≡ dir)
-unfolding pick
-set-dir true bytes dir e = let q : bytes ≡ dir = cc in (refl, q)
-set-dir false bytes dir e = let z : _≡_ {A = ℕ} 0 1 = cc in absurd (omega arith)
 
 takes-live : (t : Tail) (size : ℕ) → TakesChunk t size → isClosed t ≡ false
 unfolding isClosed
@@ -186,7 +154,7 @@ module _ {w : World} {b : Book} (k : Keeps w b) (left : ℕ) (writer : w .store 
   module _ (room-left : chunksIn (b .files) < w .store .head .chunks) (gens : w .store .head .generation ≡ 2 ^ 64 - 1 → ⊥)
       (enough : recordsMost false (w .store .head .chunks) 1 ≤ left) where
     free-here : (c : ℕ) × (freeOf (w .vol) m (w .store) ≡ free.At c)
-    free-here = found (w .vol) m (w .store) (k .whole) (k .readable) (room (k .whole .good) (k .whole .ties) room-left)
+    free-here = found (w .vol) m (w .store) (k .whole) (k .readable) room-left
 
     extend-links : extendOf (w .vol) m (w .store) a partial records ≡ linkOut (w .vol) m (w .store) a partial records (free-here .0)
     unfolding extendOf onPick
@@ -237,10 +205,8 @@ module _ {w : World} {b : Book} (k : Keeps w b) (left : ℕ) (writer : w .store 
 
     gone : Goer m (w .store) x
     gone =
-        let s = k .whole .ties .from f has in
-        let may : mayGo (dirBytes (a .dir)) (sparedBy keeping spared) f ≡ true = rw (set .1, ← spares) goes in
-        oldest-goes (w .vol) m (w .store) (k .layout) b (k .whole) (k .readable) (λ e. omega (arith, e, gens)) (omega (arith, two))
-        (dirBytes (a .dir)) keeping spared (s .0) (s .1) (f .name) (f .id) (s .2) (may-goes (dirBytes (a .dir)) keeping spared f may)
+        oldest-goes (w .vol) m (w .store) (k .layout) b (k .whole) (k .readable) (λ e. omega (arith, e, gens)) (omega (arith, two)) (dirBytes (a .dir)) keeping spared f has
+        (rw (set .1, ← spares) goes)
 
     -- what follows it
     abbrev onward : AppOut
@@ -252,7 +218,7 @@ module _ {w : World} {b : Book} (k : Keeps w b) (left : ℕ) (writer : w .store 
     unfolding extendOf rolledOut onPick
     extend-is =
         pick-false _ _ low
-        ∙ rw (none-found (w .vol) m (w .store) (k .whole) (k .readable) (λ c h v. omega (arith, none-left, free-fewer (k .whole .good) (k .whole .ties) c h v)))
+        ∙ rw (none-found (w .vol) m (w .store) (k .whole) (k .readable) none-left)
         (pick-true _ _ (set .0) ∙ onDone-done _ _ (gone .within .0) ∙ pick-true _ _ (gone .any))
 
     write-is : writeOut (w .vol) m (w .store) a ≡ andThen (after (rolling (x .skipped)) onward) (recordOut 0)
@@ -272,14 +238,10 @@ module _ {w : World} {b : Book} (k : Keeps w b) (left : ℕ) (writer : w .store 
       reads = gone-readable (went .gone) (k .readable)
 
       fewer : chunksIn (keep (isNot (went .id)) (b .files)) < x .ans .store .head .chunks
-      fewer =
-          let g : File = fileOf (went .name) (went .id) (k .layout (went .slot)) in
-          let c = chunks-fewer (isNot (went .id)) g (b .files) (k .whole .ties .into (went .slot) (went .name) (went .id) (went .below) (went .gone .was)) (not-here (went .id) g refl)
-          (k .whole .good .held (went .slot) (went .name) (went .id) (went .below) (went .gone .was)) in
-          omega (arith, c, none-left, gone .chunks)
+      fewer = omega (arith, went-chunks (k .whole) went, none-left, gone .chunks)
 
       free-there : (c : ℕ) × (freeOf (x .vol) (x .ans .medium) (x .ans .store) ≡ free.At c)
-      free-there = found (x .vol) (x .ans .medium) (x .ans .store) (went .whole) reads (room (went .gone .whole .good) (went .gone .whole .ties) fewer)
+      free-there = found (x .vol) (x .ans .medium) (x .ans .store) (went .gone .whole) reads fewer
 
       abbrev c : ℕ
       c = free-there .0

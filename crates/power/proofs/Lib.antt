@@ -30,8 +30,9 @@ pub mod Spends
 pub mod FirstCommit
 pub mod Enough
 pub mod Counting
-pub mod Creating
+pub mod Rounds
 pub mod Going
+pub mod Creating
 pub mod Accepted
 pub mod Growing
 pub mod FirstCreate

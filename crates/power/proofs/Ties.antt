@@ -30,7 +30,7 @@ pub named-counts : {o : Entry} {n : List ℕ} {i : ℕ} → o ≡ named n i → 
 unfolding listedIn
 named-counts {o} {n} e = rw e (in-root n)
 
-vacant-counts : {o : Entry} → o ≡ vacant → listedIn [] o ≡ false
+pub vacant-counts : {o : Entry} → o ≡ vacant → listedIn [] o ≡ false
 unfolding listedIn
 vacant-counts e = rw e refl
 

@@ -22,7 +22,7 @@ use Rattle.handles.specs.Handles.{tableOf}
 use Rattle.header.specs.Header.{withCrcs}
 use Rattle.plan.specs.declared.Edit.the-variants.{Create}
 use Rattle.plan.specs.Edit.{headAfter}
-use Rattle.plan.specs.Copy.{isFormat, rolledOver, created, Out, EachSkipped, Distinct}
+use Rattle.plan.specs.Copy.{rolledOver, created, Out, EachSkipped, Distinct}
 use Rattle.commit.proofs.Keeps.{commit-keeps}
 use Rattle.remove.specs.Remove.{GoneOut, removeOldestOf}
 use Rattle.append.specs.declared.Tail.the-variants.{At}
@@ -36,6 +36,7 @@ use Rattle.store.specs.Asked.{askedOf}
 use Rattle.store.specs.Opening.{rolloverOf, openFine, opening, createCall}
 use Rattle.writes.specs.Writes.{commitMost, createMost}
 use Rattle.writes.proofs.Removals.{oldest-beside}
+use Rattle.writes.proofs.Beside.{create-plain}
 use Rattle.power.specs.Calls.{create}
 use Rattle.power.specs.Book.{File, Book, mayGo}
 use Rattle.power.specs.History.{World, ifOk, withLeft, ran, EachStep}
@@ -50,10 +51,6 @@ use Rattle.power.proofs.Enough.{commit-within, commit-after}
 use Rattle.power.proofs.Counting.{slots-most, chunks-most}
 use Rattle.power.proofs.Rounds.{creation, Makes, round-lacks, round-makes}
 use Rattle.power.proofs.Going.{Goer, oldest-goes, went-files, went-chunks}
-
-not-format : (s i c : ℕ) → isFormat (Create s i c) ≡ false
-unfolding isFormat
-not-format s i c = refl
 
 module _ (w : World) (left : ℕ) (name : List ℕ) (rolls : Bool) (dir : List ℕ) where
   abbrev m : Medium
@@ -98,7 +95,7 @@ module _ (w : World) (left : ℕ) (name : List ℕ) (rolls : Bool) (dir : List �
     module _ (new : (f : File) → List·Memᴰ f (b .files) → f .name ≡ name → ⊥) (can : CanCommit w left) (has : HasRoom w b) where
       done : (slot chunk : ℕ) → creation name (w .vol) m (w .store) slot chunk .ans .outcome ≡ Done
       done slot chunk =
-          commit-within (Create slot id chunk) name (w .vol) m (w .store) (k .whole .inv) (k .readable) (not-format slot id chunk) (name-short name short) (can .gens) (can .writes) .0
+          commit-within (Create slot id chunk) name (w .vol) m (w .store) (k .whole .inv) (k .readable) (create-plain slot id chunk) (name-short name short) (can .gens) (can .writes) .0
 
       pub create-makes : Made
       unfolding ran openedOut ifOk createFrom
@@ -193,7 +190,7 @@ module _ (w : World) (b : Book) (k : Keeps w b) (left : ℕ) (name dir : List �
     then-done : (slot chunk : ℕ) → creation name (x .vol) (x .ans .medium) (x .ans .store) slot chunk .ans .outcome ≡ Done
     then-done slot chunk =
         commit-after (Create slot (x .ans .store .head .«next_id») chunk) name (x .vol) (x .ans .medium) (x .ans .store) (went .gone .whole .inv) reads
-        (not-format slot (x .ans .store .head .«next_id») chunk) (name-short name (short w left name true dir k fine)) fresh
+        (create-plain slot (x .ans .store .head .«next_id») chunk) (name-short name (short w left name true dir k fine)) fresh
         (oldest-beside (w .vol) n (w .store) (record { ok = k .whole .inv .ok; count = k .whole .inv .range .count }) (dirBytes (roll .dir)) false 0 (gone .any)) ample .0
 
     makes : Makes name (x .vol) (x .ans .medium) (x .ans .store) roll onward

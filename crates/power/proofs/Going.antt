@@ -14,12 +14,13 @@ use Rattle.handles.specs.declared.Header.{Header}
 use Rattle.handles.specs.declared.Store.{Store}
 use Rattle.plan.specs.declared.Edit.the-variants.{Remove}
 use Rattle.plan.specs.Edit.{headAfter}
-use Rattle.plan.specs.Copy.{isFormat, Out}
+use Rattle.plan.specs.Copy.{Out}
 use Rattle.commit.specs.Commit.{commitOf}
 use Rattle.commit.proofs.Keeps.{commit-keeps}
 use Rattle.remove.specs.Remove.{closedFor, removeOf, GoneOut, goneOf, removeOldestOf}
 use Rattle.layout.specs.Segments.{Segment}
 use Rattle.writes.specs.Writes.{commitMost}
+use Rattle.writes.proofs.Beside.{remove-plain}
 use Rattle.power.specs.Book.{File, Book, keep, mayGo}
 use Rattle.power.specs.Room.{chunksIn}
 use Rattle.power.proofs.Whole.{fileOf, Whole}
@@ -37,17 +38,13 @@ pub record Goer (m : Medium) (st : Store) (g : GoneOut) : Type 0 where
   pub size : g .ans .store .head .chunk ≡ st .head .chunk
   pub generation : g .ans .store .head .generation ≡ st .head .generation + 1
 
-not-format : (s : ℕ) → isFormat (Remove s) ≡ false
-unfolding isFormat
-not-format s = refl
-
 module _ (vol : List ℕ) (m : Medium) (st : Store) (G : ℕ → List Segment) (b : Book) (w : Whole vol st G b) (r : Readable vol m)
     (gens : st .head .generation ≡ 2 ^ 64 - 1 → ⊥) (enough : commitMost (st .head .chunks) ≤ m .left) where
   abbrev commit : ℕ → Out
   commit slot = commitOf (Remove slot) [] vol m st
 
   within : (slot : ℕ) → Within (commitMost (st .head .chunks)) m (commit slot .ans .outcome) (commit slot .ans .medium)
-  within slot = commit-within (Remove slot) [] vol m st (w .inv) r (not-format slot) (lit≤ tt) gens enough
+  within slot = commit-within (Remove slot) [] vol m st (w .inv) r (remove-plain slot) (lit≤ tt) gens enough
 
   pub remove-is : (slot id : ℕ) → removeOf vol m st slot id ≡ record {
     vol = commit slot .vol;

@@ -22,7 +22,7 @@ use Rattle.table.specs.Table.{freeOf, onPick}
 use Rattle.plan.specs.declared.Edit.{Edit}
 use Rattle.plan.specs.declared.Edit.the-variants.{Extend}
 use Rattle.plan.specs.Edit.{headAfter}
-use Rattle.plan.specs.Copy.{isFormat, rolledOver, extended, recorded, Skipped, Out, EachSkipped, Distinct}
+use Rattle.plan.specs.Copy.{rolledOver, extended, recorded, Skipped, Out, EachSkipped, Distinct}
 use Rattle.commit.proofs.Keeps.{Kept, commit-keeps}
 use Rattle.remove.specs.Remove.{GoneOut, removeOldestOf}
 use Rattle.append.specs.declared.Appender.{Appender}
@@ -33,6 +33,7 @@ use Rattle.append.specs.Flush.{AppOut, stopped, after, rolling, andThen, linkOu
 use Rattle.append.proofs.Then.{then-done}
 use Rattle.layout.specs.Segments.{Segment}
 use Rattle.medium.specs.Sector.{Readable}
+use Rattle.writes.proofs.Beside.{extend-plain}
 use Rattle.power.specs.Calls.{sync}
 use Rattle.power.specs.Book.{File, Book, keep, mayGo}
 use Rattle.power.specs.History.{World, Ran, withLeft, ran, openOf, EachStep}
@@ -53,10 +54,6 @@ use Rattle.writes.proofs.Removals.{oldest-beside}
 use Rattle.power.proofs.Enough.{Within, commit-within, commit-after}
 use Rattle.power.proofs.Rounds.{found, none-found}
 use Rattle.power.proofs.Going.{Goer, oldest-goes, went-chunks}
-
-not-format : (s p n l : ℕ) (partial : Bool) (k : ℕ) → isFormat (Extend s p n l partial k) ≡ false
-unfolding isFormat
-not-format s p n l partial k = refl
 
 takes-live : (t : Tail) (size : ℕ) → TakesChunk t size → isClosed t ≡ false
 unfolding isClosed
@@ -166,7 +163,7 @@ module _ {w : World} {b : Book} (k : Keeps w b) (left : ℕ) (writer : w .store 
     links : Within (commitMost (w .store .head .chunks)) m (commit (w .vol) m (w .store) a partial records (free-here .0) .ans .outcome) (commit (w .vol) m (w .store) a partial records (free-here .0) .ans .medium)
     links =
         commit-within (edit (w .vol) m (w .store) (k .whole) a partial records (free-here .0)) [] (w .vol) m (w .store) (k .whole .inv) (k .readable)
-        (not-format (a .slot) (a .position) (free-here .0) (a .chunk) partial records) (lit≤ tt) gens (omega (arith, plenty))
+        (extend-plain (a .slot) (a .position) (free-here .0) (a .chunk) partial records) (lit≤ tt) gens (omega (arith, plenty))
 
     abbrev both : AppOut
     both = after (step (w .vol) m (w .store) a partial records (free-here .0) ∷ []) (last (w .vol) m (w .store) (k .whole) a partial records (free-here .0))
@@ -259,7 +256,7 @@ module _ {w : World} {b : Book} (k : Keeps w b) (left : ℕ) (writer : w .store 
       within : Within few (x .ans .medium) (commit (x .vol) (x .ans .medium) (x .ans .store) a partial records c .ans .outcome) (commit (x .vol) (x .ans .medium) (x .ans .store) a partial records c .ans .medium)
       within =
           commit-after (edit (x .vol) (x .ans .medium) (x .ans .store) (went .whole) a partial records c) [] (x .vol) (x .ans .medium) (x .ans .store) (went .whole .inv) reads
-          (not-format (a .slot) (a .position) c (a .chunk) partial records) (lit≤ tt) fresh
+          (extend-plain (a .slot) (a .position) c (a .chunk) partial records) (lit≤ tt) fresh
           (oldest-beside (w .vol) m (w .store) (record { ok = k .whole .inv .ok; count = k .whole .inv .range .count }) (dirBytes (a .dir)) keeping spared (gone .any)) (omega (arith, ample))
 
       -- it is linked, and the record is written

@@ -45,8 +45,8 @@ use Rattle.safe.proofs.Frame.{clash}
 use Rattle.safe.proofs.Mounts.{copy-same}
 use Rattle.writes.specs.Writes.{Most, perRecord, recordsMost}
 use Rattle.writes.proofs.Copies.{write-most, commit-most}
-use Rattle.writes.proofs.Beside.{Beside, ownOf, commit-few, commit-beside}
-use Rattle.writes.proofs.Removals.{plain, oldest-most, oldest-beside}
+use Rattle.writes.proofs.Beside.{extend-plain, remove-plain, Beside, ownOf, commit-few, commit-beside}
+use Rattle.writes.proofs.Removals.{oldest-most, oldest-beside}
 
 -- what an appender's commits take beside the table and the header: each at most `own` directory sectors, the first `spare` more
 record Rates (rolls : Bool) (c : ℕ) : Type 0 where
@@ -56,10 +56,6 @@ record Rates (rolls : Bool) (c : ℕ) : Type 0 where
   eight : spare + own ≡ 8
   one : own + tableOf c + 3 ≤ per
   two : rolls ≡ true → (own ≡ 1) × (2 * (own + tableOf c + 2) + 1 ≤ per)
-
-extend-plain : (s p n l : ℕ) (partial : Bool) (k : ℕ) → isFormat (Extend s p n l partial k) ≡ false
-unfolding isFormat
-extend-plain s p n l partial k = refl
 
 -- the copy beside it stays while records are written
 beside-record : {d : ℕ} {vol v : List ℕ} {st : Store} (k : ℕ) → 64 ≤ k → Kept k 1 vol v → Beside d vol st → Beside d v st
@@ -123,7 +119,7 @@ module _ {rolls : Bool} {c : ℕ} (r : Rates rolls c) where
         let h′ : g .ans .store .head .chunks ≡ c = k .chunks ∙ h in
         let w = r .two t in
         let first : Most (e + (r .own + tableOf c + 2)) m (g .ans .medium) =
-        oldest-most vol m st _ (λ slot. commit-owes (Remove slot) [] vol m st (plain slot) (omega (arith, w .0)) h e owes) (dirBytes (a .dir)) (isOpen (st .writer)) (openId (st .writer)) in
+        oldest-most vol m st _ (λ slot. commit-owes (Remove slot) [] vol m st (remove-plain slot) (omega (arith, w .0)) h e owes) (dirBytes (a .dir)) (isOpen (st .writer)) (openId (st .writer)) in
         let stop : (x : Error) → Extends e m (stopped (g .vol) (g .ans .medium) (g .ans .store) a x) = λ x. (omega (arith, first, w .1), clash refl) in
         onDone-keeps (Extends e m) (g .ans .outcome) _ _
         (λ _. pick-keeps-by (Extends e m) (g .ans .any) _ _

@@ -105,6 +105,19 @@ ownOf (Create slot id chunk) = 1
 ownOf (Extend slot position next last partial records) = 0
 ownOf (Remove slot) = 1
 
+-- none of these is a format
+pub create-plain : (s i c : ℕ) → isFormat (Create s i c) ≡ false
+unfolding isFormat
+create-plain s i c = refl
+
+pub extend-plain : (s p n l : ℕ) (partial : Bool) (k : ℕ) → isFormat (Extend s p n l partial k) ≡ false
+unfolding isFormat
+extend-plain s p n l partial k = refl
+
+pub remove-plain : (s : ℕ) → isFormat (Remove s) ≡ false
+unfolding isFormat
+remove-plain s = refl
+
 -- a table sector is none of them
 in-table : (k c : ℕ) → k < 8 → eqb k (linkSector c) ≡ true → ⊥
 in-table k c l e = let q = eqb-true k (linkSector c) e in omega (arith, q)

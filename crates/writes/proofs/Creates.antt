@@ -19,7 +19,7 @@ use Rattle.directory.proofs.Decides.{onLooked-keeps}
 use Rattle.table.specs.Table.{freeOf}
 use Rattle.table.proofs.Decides.{onPick-keeps}
 use Rattle.plan.specs.declared.Edit.the-variants.{Create, Remove}
-use Rattle.plan.specs.Copy.{Out, isFormat}
+use Rattle.plan.specs.Copy.{Out}
 use Rattle.commit.specs.Commit.{commitOf}
 use Rattle.remove.specs.Remove.{GoneOut, removeOldestOf}
 use Rattle.remove.proofs.Keeps.{Good, oldest-stands}
@@ -30,12 +30,8 @@ use Rattle.files.specs.Opened.{refusedAt, openedOut}
 use Rattle.files.specs.Create.{Next, makeOut, overOut, roundOut, createFrom, createOf}
 use Rattle.writes.specs.Writes.{Most, commitMost, createMost}
 use Rattle.writes.proofs.Copies.{commit-most}
-use Rattle.writes.proofs.Beside.{Beside, commit-few}
-use Rattle.writes.proofs.Removals.{plain, oldest-most, oldest-beside}
-
-create-plain : (s i c : ℕ) → isFormat (Create s i c) ≡ false
-unfolding isFormat
-create-plain s i c = refl
+use Rattle.writes.proofs.Beside.{create-plain, remove-plain, Beside, commit-few}
+use Rattle.writes.proofs.Removals.{oldest-most, oldest-beside}
 
 module _ (name : List ℕ) (rollover : Rollover) where
   -- the oldest file of the rollover's directory goes
@@ -84,7 +80,7 @@ module _ (name : List ℕ) (rollover : Rollover) where
   later-costs vol m st x =
       round-costs (2 + tableOf (st .head .chunks) + 2) 0 (createFrom 0 name rollover) vol m st
       (λ slot id chunk. commit-few (Create slot id chunk) name vol m st (create-plain slot id chunk) x)
-      (λ slot. commit-few (Remove slot) [] vol m st (plain slot) x)
+      (λ slot. commit-few (Remove slot) [] vol m st (remove-plain slot) x)
       (λ _ _. omega arith)
 
   module _ (vol : List ℕ) (m : Medium) (st : Store) (good : Good vol st) where

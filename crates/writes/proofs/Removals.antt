@@ -14,18 +14,13 @@ use Rattle.directory.specs.declared.OldestFile.{OldestFile}
 use Rattle.directory.specs.declared.OldestFile.the-variants as oldest
 use Rattle.directory.specs.Scan.{oldestOf}
 use Rattle.plan.specs.declared.Edit.the-variants.{Remove}
-use Rattle.plan.specs.Copy.{Out, isFormat}
+use Rattle.plan.specs.Copy.{Out}
 use Rattle.commit.specs.Commit.{commitOf}
 use Rattle.remove.specs.Remove.{closedFor, removeOf, GoneOut, goneOf, oldestGone, removeOldestOf}
 use Rattle.remove.proofs.Keeps.{Good}
 use Rattle.safe.proofs.Frame.{clash}
 use Rattle.writes.specs.Writes.{Most}
-use Rattle.writes.proofs.Beside.{Beside, commit-beside}
-
--- a removal is no format
-pub plain : (slot : ℕ) → isFormat (Remove slot) ≡ false
-unfolding isFormat
-plain slot = refl
+use Rattle.writes.proofs.Beside.{remove-plain, Beside, commit-beside}
 
 module _ (vol : List ℕ) (m : Medium) (st : Store) where
   -- where each of its commits makes at most n
@@ -59,7 +54,7 @@ module _ (vol : List ℕ) (m : Medium) (st : Store) where
     remove-beside slot id =
         onDone-keeps After (commitOf (Remove slot) [] vol m st .ans .outcome) _ _
         (λ d _.
-        let x = commit-beside (Remove slot) [] vol m st (plain slot) good (lit≤ tt) d in
+        let x = commit-beside (Remove slot) [] vol m st (remove-plain slot) good (lit≤ tt) d in
         record { head = x .head; found = x .found; same = x .same; may = x .may; few = x .few; listed = x .listed })
         (λ e q d. clash q d)
 

@@ -1,6 +1,6 @@
 -- A sync in a history whose record takes another chunk. Where one is free it is linked and the record written; where none is, with a rollover and a file
 -- that may go, the oldest goes first. Assumes nothing.
-use Prim.Native.Nat.{ℕ, _+_, _-_, _*_, _^_, _≤_, _<_}
+use Prim.Native.Nat.{ℕ, _+_, _-_, _^_, _≤_, _<_}
 use mathlib.Core.Path.{_≡_, refl, sym, ap, subst, _∙_}
 use mathlib.Core.Bool.{Bool, true, false}
 use mathlib.Core.Option.{some}

@@ -1,8 +1,6 @@
 -- The calls that only read keep the invariant: they hand the medium record back as it was, make no step, and leave the book as it is. Assumes nothing.
-use Prim.Native.Nat.{ℕ}
 use mathlib.Core.Path.{_≡_, refl}
 use mathlib.Core.Bool.{Bool, true, false}
-use mathlib.Core.List.{List}
 use Rattle.le.specs.Choice.{pick}
 use Rattle.medium.specs.declared.Medium.{Medium}
 use Rattle.medium.specs.Sector.{Readable}

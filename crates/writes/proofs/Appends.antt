@@ -1,6 +1,6 @@
 -- What a record takes, its commits and its own write, and so a sync, and an append for each record that it fills. Assumes nothing.
 use Prim.Native.Nat.{ℕ, zero, suc, _+_, _-_, _*_, _/_, _≤_, _<_}
-use mathlib.Core.Path.{_≡_, refl, sym, ap, subst, _∙_}
+use mathlib.Core.Path.{_≡_, refl, sym, subst, _∙_}
 use mathlib.Core.Logic.{_⊎_, inl, inr, ⊎-elim}
 use mathlib.Core.Bool.{Bool, true, false, false≢true}
 use mathlib.Core.List.{List, [], _∷_}
@@ -13,7 +13,7 @@ use Rattle.le.specs.Choice.{pick}
 use Rattle.le.specs.Part.{part}
 use Rattle.le.proofs.Choices.{pick-keeps, pick-keeps-by}
 use Rattle.medium.specs.declared.Error.{Error}
-use Rattle.medium.specs.declared.Error.the-variants.{Corrupt, Full, Stale}
+use Rattle.medium.specs.declared.Error.the-variants.{Corrupt, Full}
 use Rattle.medium.specs.declared.Medium.{Medium}
 use Rattle.medium.specs.declared.Outcome.the-variants.{Done}
 use Rattle.medium.specs.Refusal.{onDone}
@@ -31,13 +31,13 @@ use Rattle.record.proofs.Laws.{data-inside}
 use Rattle.record.proofs.RoundTrip.{length-record}
 use Rattle.plan.specs.declared.Edit.{Edit}
 use Rattle.plan.specs.declared.Edit.the-variants.{Extend, Remove}
-use Rattle.plan.specs.Copy.{Step, Out, isFormat}
+use Rattle.plan.specs.Copy.{isFormat}
 use Rattle.commit.specs.Commit.{commitOf}
 use Rattle.remove.specs.Remove.{GoneOut, removeOldestOf}
 use Rattle.remove.proofs.Keeps.{Good, oldest-stands}
 use Rattle.append.specs.declared.Appender.{Appender}
 use Rattle.append.specs.Appender.{dirBytes, Fit}
-use Rattle.append.specs.Flush.{AppOut, stopped, done, after, andThen, linkOut, rolledOut, extendOf, recordOut, rolling, writeOut, flushOf, pushed, putByte, appendOf, syncOf}
+use Rattle.append.specs.Flush.{AppOut, stopped, done, andThen, linkOut, rolledOut, extendOf, recordOut, writeOut, flushOf, pushed, putByte, appendOf, syncOf}
 use Rattle.append.proofs.Keeps.{onTail-keeps, extend-goes, flush-goes, flush-empties, payload-short}
 use Rattle.append.proofs.Owns.{flush-owned}
 use Rattle.append.proofs.Runs.{pushed-fit}

@@ -1,42 +1,34 @@
 -- The copy beside the store's, as the next commit finds it. After an accepted commit it is the copy that was current, so its header is known and lists
 -- the store's own checksums but for the sectors that the commit changed. No premise on the volume. Assumes nothing.
-use Prim.Native.Nat.{ℕ, zero, suc, _+_, _-_, _/_, _≤_, _<_}
-use mathlib.Core.Path.{_≡_, refl, sym, ap, ap₂, subst, _∙_}
-use mathlib.Core.Logic.{_⊎_, inl, inr}
-use mathlib.Core.Bool.{Bool, true, false, not, _&&_, _||_}
+use Prim.Native.Nat.{ℕ, _+_, _-_, _≤_, _<_}
+use mathlib.Core.Path.{_≡_, refl, sym, ap, subst, _∙_}
+use mathlib.Core.Bool.{Bool, true, false, _&&_, _||_}
 use mathlib.Core.List.{List}
-use native.Mathlib.Nat.{add-zero}
 use native.Mathlib.Omega.{arith}
 use borrow.Author.Tests.{eq-eqb, eqb-true, leb-false, leb-true, lt-leb}
 use lib.Dec.{eqb, leb}
 use lib.ListN.{length, getD}
-use Rattle.le.specs.Choice.{pick}
 use Rattle.le.proofs.Choices.{pick-keeps, pick-keeps-by, pick-true, pick-false}
 use Rattle.le.proofs.Bools.{and-true, or-false, or-right}
 use Rattle.runs.specs.Run.{sameBytes}
 use Rattle.runs.proofs.Tests.{same-true}
 use Rattle.checksum.specs.Crc.{crc32Of}
-use Rattle.medium.specs.declared.Error.the-variants.{Corrupt}
 use Rattle.medium.specs.declared.Medium.{Medium}
 use Rattle.medium.specs.declared.Outcome.{Outcome}
-use Rattle.medium.specs.declared.Outcome.the-variants.{Done, No}
-use Rattle.medium.specs.Frame.{Kept}
+use Rattle.medium.specs.declared.Outcome.the-variants.{Done}
 use Rattle.medium.specs.Sector.{sectorsOf, sectorAt, readOf}
 use Rattle.medium.proofs.Laws.{onDone-keeps}
-use Rattle.medium.proofs.Frame.{kept-sectors}
 use Rattle.handles.specs.declared.Header.{Header}
 use Rattle.handles.specs.declared.Store.{Store}
 use Rattle.handles.specs.Body.{bodyAt, checkOf}
-use Rattle.handles.specs.Handles.{bodyOf, tableOf, baseOf, storeOk}
-use Rattle.handles.proofs.Laws.{Held, store-facts}
-use Rattle.header.specs.declared.codec.Decoded.{Decoded}
-use Rattle.header.specs.declared.answers.Current.{Current}
+use Rattle.handles.specs.Handles.{bodyOf, tableOf, baseOf}
+use Rattle.handles.proofs.Laws.{store-facts}
 use Rattle.header.specs.Header.{ours, withCrcs}
 use Rattle.header.specs.Copies.{isOurs, copyOf, sameStore, takenOf, currentOf}
 use Rattle.plan.specs.declared.Edit.{Edit}
 use Rattle.plan.specs.declared.Edit.the-variants.{Format, Create, Extend, Remove}
 use Rattle.plan.specs.Edit.{slotSector, linkSector, changesOf, editedOf, headAfter}
-use Rattle.plan.specs.Copy.{Plan, Move, unread, matched, put, bad, Out, isFormat, lists, dueBytes, dueMove, moveOf, copyOut}
+use Rattle.plan.specs.Copy.{Plan, Move, Out, isFormat, lists, dueBytes, dueMove, moveOf, copyOut}
 use Rattle.commit.specs.Commit.{sameHead, isCurrent, commitPlan, commitOf}
 use Rattle.remove.proofs.Keeps as remove
 use Rattle.safe.specs.Copy.{Good, Made, Finished}

@@ -24,9 +24,9 @@ use Rattle.commit.specs.Commit.{commitOf}
 use Rattle.format.specs.Format.{chunksOf, copyFor, newestOf, formatHead, formatPlan, formatOver, formatOf}
 use Rattle.remove.specs.Remove.{GoneOut}
 use Rattle.append.specs.declared.Appender.{Appender}
-use Rattle.append.specs.Flush.{AppOut, appendOf, syncOf}
+use Rattle.append.specs.Flush.{AppOut}
 use Rattle.append.specs.Calls.{AppCall, mayWrite, offered, appendCall, syncCall}
-use Rattle.append.proofs.Facts.{May, may-facts}
+use Rattle.append.proofs.Facts.{may-facts}
 use Rattle.store.specs.Asked.{askedName, askedDir, askedOf}
 use Rattle.store.specs.Writing.{formatCall, deleteCall, oldestCall, oldestTold}
 use Rattle.store.specs.Opening.{rolloverOf, openFine, opening, createCall}

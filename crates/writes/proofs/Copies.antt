@@ -1,7 +1,7 @@
 -- A copy written anew takes a write for each body sector that is not left unread, at most, and two for its header, on any volume and wherever it stops;
 -- and so does a commit. Assumes nothing.
 use Prim.Native.Nat.{ℕ, zero, suc, _+_, _-_, _^_, _≤_}
-use mathlib.Core.Path.{_≡_, refl, sym, ap, subst}
+use mathlib.Core.Path.{_≡_, refl, subst}
 use mathlib.Core.Bool.{Bool, true, false, true≢false}
 use mathlib.Core.List.{List}
 use native.Mathlib.Nat.{add-zero, zero-add}
@@ -24,7 +24,7 @@ use Rattle.plan.specs.Copy.{Plan, Move, unread, matched, put, bad, BodyOut, Out
 use Rattle.commit.specs.Commit.{commitPlan, isCurrent, commitOf}
 use Rattle.layout.specs.Segments.{tally}
 use Rattle.layout.proofs.Tallies.{tally-le}
-use Rattle.folds.proofs.Numbered.{tally-yes, tally-no, tally-start}
+use Rattle.folds.proofs.Numbered.{tally-yes, tally-no}
 use Rattle.writes.specs.Writes.{Most, commitMost}
 use Rattle.writes.proofs.Counts.{tally-on}
 

@@ -1,15 +1,14 @@
 -- create makes one commit, or with a rollover two: a removal and its own, or two removals. Assumes nothing.
-use Prim.Native.Nat.{ℕ, _+_, _-_, _^_, _≤_}
+use Prim.Native.Nat.{ℕ, _+_, _-_, _^_}
 use mathlib.Core.Path.{_≡_, refl, sym, _∙_}
 use mathlib.Core.Bool.{Bool, true, false, true≢false}
 use mathlib.Core.List.{List, []}
 use native.Mathlib.Omega.{arith}
 use lib.Dec.{eqb}
-use lib.ListN.{length}
 use Rattle.le.specs.Choice.{pick}
 use Rattle.le.proofs.Choices.{pick-keeps, pick-keeps-by}
 use Rattle.medium.specs.declared.Error.{Error}
-use Rattle.medium.specs.declared.Error.the-variants.{Corrupt, Exists, Full, Spent}
+use Rattle.medium.specs.declared.Error.the-variants.{Exists, Full}
 use Rattle.medium.specs.declared.Medium.{Medium}
 use Rattle.medium.proofs.Laws.{onDone-keeps}
 use Rattle.handles.specs.declared.Store.{Store}
@@ -19,7 +18,6 @@ use Rattle.directory.proofs.Decides.{onLooked-keeps}
 use Rattle.table.specs.Table.{freeOf}
 use Rattle.table.proofs.Decides.{onPick-keeps}
 use Rattle.plan.specs.declared.Edit.the-variants.{Create, Remove}
-use Rattle.plan.specs.Copy.{Out}
 use Rattle.commit.specs.Commit.{commitOf}
 use Rattle.remove.specs.Remove.{GoneOut, removeOldestOf}
 use Rattle.remove.proofs.Keeps.{Good, oldest-stands}

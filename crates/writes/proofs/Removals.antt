@@ -1,7 +1,7 @@
 -- A removal makes the writes of its commit, and leaves beside the store's copy the one that was current. Assumes nothing.
-use Prim.Native.Nat.{ℕ, _+_, _-_, _≤_}
-use mathlib.Core.Path.{_≡_, refl}
-use mathlib.Core.Bool.{Bool, true, false, false≢true}
+use Prim.Native.Nat.{ℕ}
+use mathlib.Core.Path.{_≡_}
+use mathlib.Core.Bool.{Bool, true, false≢true}
 use mathlib.Core.List.{List, []}
 use native.Mathlib.Omega.{arith}
 use lib.Dec.{lit≤}
@@ -16,7 +16,7 @@ use Rattle.directory.specs.Scan.{oldestOf}
 use Rattle.plan.specs.declared.Edit.the-variants.{Remove}
 use Rattle.plan.specs.Copy.{Out}
 use Rattle.commit.specs.Commit.{commitOf}
-use Rattle.remove.specs.Remove.{closedFor, removeOf, GoneOut, goneOf, oldestGone, removeOldestOf}
+use Rattle.remove.specs.Remove.{removeOf, GoneOut, goneOf, oldestGone, removeOldestOf}
 use Rattle.remove.proofs.Keeps.{Good}
 use Rattle.safe.proofs.Frame.{clash}
 use Rattle.writes.specs.Writes.{Most}

@@ -6,4 +6,7 @@ pub mod Appends
 pub mod Creates
 pub mod Calls
 pub mod Nothing
+pub mod Carries
+pub mod Carried
+pub mod Ample
 pub mod Edges

@@ -10,6 +10,10 @@ use Rattle.handles.specs.Handles.{tableOf, bodyOf}
 abbrev pub Most : ℕ → Medium → Medium → Type 0
 Most n m u = m .left ≤ u .left + n
 
+-- the same medium record with d more writes left
+abbrev pub more : ℕ → Medium → Medium
+more d m = record { left = m .left + d; unreadable = m .unreadable; entropy = m .entropy; token = m .token }
+
 -- format, delete, delete_oldest: each body sector, and the header twice
 abbrev pub commitMost : ℕ → ℕ
 commitMost c = bodyOf c + 2

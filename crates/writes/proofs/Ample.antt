@@ -1,0 +1,2 @@
+-- As many. Assumes nothing.
+use Prim.Native.Nat.{ℕ}

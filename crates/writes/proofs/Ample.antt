@@ -1,2 +1,158 @@
--- As many. Assumes nothing.
-use Prim.Native.Nat.{ℕ}
+-- As many writes left as a call makes at most are as good as any more: on every volume and with every handle, the call with d more left gives the same
+-- volume, answer, handles and steps, and d more are left after it. So it is never refused for want of a write. Assumes nothing.
+use Prim.Native.Nat.{ℕ, _+_, _-_, _^_, _≤_}
+use mathlib.Core.Path.{_≡_, refl}
+use mathlib.Core.Bool.{Bool, true, _&&_}
+use mathlib.Core.List.{List, [], _∷_}
+use lib.Dec.{eqb, leb}
+use Rattle.le.specs.Choice.{pick}
+use Rattle.le.specs.Part.{part}
+use Rattle.medium.specs.declared.Error.{Error}
+use Rattle.medium.specs.declared.Error.the-variants.{Range, Spent}
+use Rattle.medium.specs.declared.Medium.{Medium}
+use Rattle.medium.specs.declared.Outcome.the-variants.{Done}
+use Rattle.medium.specs.Refusal.{onDone}
+use Rattle.medium.specs.Sector.{sectorsOf, readOf}
+use Rattle.handles.specs.declared.Store.{Store}
+use Rattle.handles.specs.Body.{checkOf, dueOf}
+use Rattle.handles.specs.Handles.{noStore, isOpen, openId}
+use Rattle.header.specs.declared.answers.Copies.{Copies}
+use Rattle.header.specs.Copies.{headersOf}
+use Rattle.directory.specs.declared.Found.{Found}
+use Rattle.directory.specs.declared.Found.the-variants as found
+use Rattle.directory.specs.declared.OldestFile.{OldestFile}
+use Rattle.directory.specs.declared.OldestFile.the-variants as oldest
+use Rattle.directory.specs.Entry.{entryAt, slotAt}
+use Rattle.directory.specs.Scan.{findOf, oldestOf, onFound}
+use Rattle.plan.specs.declared.Edit.the-variants.{Remove}
+use Rattle.plan.specs.Copy.{Kind, deleted, formatted, deletedOldest, Out, stepsOf, refusedOut}
+use Rattle.format.specs.Format.{chunksOf, copyFor, newestOf, idFor, formatHead, formatPlan, formatOver, formatOf, madeOf}
+use Rattle.remove.specs.Remove.{closedFor, removeOf, GoneOut, noneOut, goneOf, oldestGone, removeOldestOf}
+use Rattle.store.specs.Asked.{askedName, askedDir}
+use Rattle.store.specs.Writing.{WriteCall, writeCallOf, formatCall, deleteCall, OldestCall, wentOf, oldestTold, oldestCall}
+use Rattle.writes.specs.Writes.{commitMost, more, writeMore, goneMore, oldestMore}
+use Rattle.writes.proofs.Calls.{format-writes, delete-writes, oldest-writes}
+use Rattle.writes.proofs.Carries.{Holder, alone, Carries, still, given, inside, either, unless, both, onward, ample}
+use Rattle.writes.proofs.Carried.{copied, copy-carries, commit-carries}
+
+-- ---- what they hand back
+
+abbrev pub gone : Holder GoneOut
+gone = record { held = λ g. g .ans .medium; raised = λ d g. record { vol = g .vol; ans = goneMore d (g .ans); skipped = g .skipped } }
+
+abbrev stored : Holder WriteCall
+stored = record { held = λ w. w .call .medium; raised = writeMore }
+
+abbrev oldestHeld : Holder OldestCall
+oldestHeld = record { held = λ o. o .call .medium; raised = oldestMore }
+
+module _ (d : ℕ) (vol : List ℕ) where
+  told-carries : (kind : Kind) → Carries d copied stored (writeCallOf kind)
+  unfolding stepsOf
+  told-carries kind = still (λ o. refl) (λ o. refl)
+
+  -- ---- format
+
+  headers-same : (m : Medium) → headersOf vol (more d m) ≡ headersOf vol m
+  unfolding headersOf readOf
+  headers-same m = refl
+
+  over-carries : (c : Copies) (size seed : ℕ) → Carries d alone copied (λ m. formatOver c size seed vol m)
+  unfolding formatOver formatHead idFor
+  over-carries c size seed =
+      let n : ℕ = chunksOf (sectorsOf vol) size in
+      either (eqb n 0) (still (λ m. refl) (λ m. refl))
+      (either (eqb (newestOf c) (2 ^ 64 - 1)) (still (λ m. refl) (λ m. refl))
+      (given (λ m. formatHead c m n size seed) (λ h m. madeOf (copyFor c) h vol m) (λ m. refl) (λ h. copy-carries d (formatPlan (copyFor c) h) vol)))
+
+  format-carries : (size seed : ℕ) → Carries d alone stored (λ m. formatCall vol m size seed)
+  unfolding formatCall formatOf
+  format-carries size seed =
+      both (writeCallOf formatted)
+      (given (λ m. headersOf vol m)
+      (λ c m. pick (leb 1 size && leb size 512) (onDone (c .outcome) (formatOver c size seed vol m) (refusedOut noStore vol m)) (refusedOut noStore vol m Range)) headers-same
+      (λ c. either (leb 1 size && leb size 512) (unless (c .outcome) (over-carries c size seed) (λ e. still (λ m. refl) (λ m. refl))) (still (λ m. refl) (λ m. refl))))
+      (told-carries formatted)
+
+  module _ (st : Store) where
+    -- ---- a removal
+
+    remove-carries : (slot id : ℕ) → Carries d alone copied (λ m. removeOf vol m st slot id)
+    unfolding removeOf
+    remove-carries slot id =
+        onward (λ o. o .ans .outcome)
+        (λ o. record { vol = o .vol; ans = record { outcome = Done; medium = o .ans .medium; store = closedFor id (o .ans .store) }; skipped = o .skipped })
+        (λ o e. o) (λ o. refl)
+        (commit-carries d (Remove slot) [] vol st) (still (λ o. refl) (λ o. refl)) (λ e. still (λ o. refl) (λ o. refl))
+
+    -- ---- delete
+
+    find-same : (name : List ℕ) (m : Medium) → findOf vol (more d m) st name ≡ findOf vol m st name
+    unfolding findOf slotAt dueOf checkOf readOf
+    find-same name m = refl
+
+    found-carries : (f : Found) → Carries d alone copied (λ m. onFound f (refusedOut st vol m) (removeOf vol m st))
+    unfolding onFound
+    found-carries (found.Refused e) = still (λ m. refl) (λ m. refl)
+    found-carries (found.At slot id) = remove-carries slot id
+
+    delete-carries : (name : List ℕ) → Carries d alone stored (λ m. deleteCall vol m st name)
+    unfolding deleteCall
+    delete-carries name =
+        both (writeCallOf deleted)
+        (unless (askedName vol st name)
+        (given (λ m. findOf vol m st name) (λ f m. onFound f (refusedOut st vol m) (removeOf vol m st)) (find-same name) found-carries)
+        (λ e. still (λ m. refl) (λ m. refl)))
+        (told-carries deleted)
+
+    -- ---- delete_oldest
+
+    gone-carries : (name : List ℕ) (len : ℕ) → Carries d copied gone (goneOf name len)
+    unfolding goneOf
+    gone-carries name len =
+        given (λ o. o .ans .outcome)
+        (λ t o. onDone t
+        (record {
+          vol = o .vol;
+          ans = record { outcome = Done; medium = o .ans .medium; store = o .ans .store; any = true; name = name; length = len };
+          skipped = o .skipped;
+        })
+        (λ e. noneOut o))
+        (λ o. refl) (λ t. unless t (still (λ o. refl) (λ o. refl)) (λ e. still (λ o. refl) (λ o. refl)))
+
+    old-carries : (f : OldestFile) → Carries d alone gone (λ m. oldestGone vol m st f)
+    unfolding oldestGone
+    old-carries (oldest.Refused e) = still (λ m. refl) (λ m. refl)
+    old-carries (oldest.Done old) =
+        either (old .any)
+        (both (goneOf (part 0 40 (entryAt vol st (old .slot))) (old .len)) (remove-carries (old .slot) (old .id)) (gone-carries (part 0 40 (entryAt vol st (old .slot))) (old .len)))
+        (still (λ m. refl) (λ m. refl))
+
+    oldest-same : (dir : List ℕ) (keeping : Bool) (keep : ℕ) (m : Medium) → oldestOf vol (more d m) st dir keeping keep ≡ oldestOf vol m st dir keeping keep
+    unfolding oldestOf slotAt dueOf checkOf readOf
+    oldest-same dir keeping keep m = refl
+
+    pub oldest-carries : (dir : List ℕ) (keeping : Bool) (keep : ℕ) → Carries d alone gone (λ m. removeOldestOf vol m st dir keeping keep)
+    unfolding removeOldestOf
+    oldest-carries dir keeping keep =
+        given (λ m. oldestOf vol m st dir keeping keep) (λ f m. oldestGone vol m st f) (oldest-same dir keeping keep) old-carries
+
+    call-carries : (dir : List ℕ) → Carries d alone oldestHeld (λ m. oldestCall vol m st dir)
+    unfolding oldestCall oldestTold wentOf
+    call-carries dir =
+        both oldestTold
+        (unless (askedDir vol st dir) (oldest-carries dir (isOpen (st .writer)) (openId (st .writer))) (λ e. still (λ m. refl) (λ m. refl)))
+        (still (λ g. refl) (λ g. refl))
+
+-- ---- the calls
+
+module _ (vol : List ℕ) (m : Medium) (d : ℕ) where
+  pub format-ample : (size seed : ℕ) → commitMost (chunksOf (sectorsOf vol) size) ≤ m .left
+      → formatCall vol (more d m) size seed ≡ writeMore d (formatCall vol m size seed)
+  format-ample size seed = ample _ m (format-carries d vol size seed) (format-writes vol (more d m) size seed)
+
+  pub delete-ample : (st : Store) (name : List ℕ) → commitMost (st .head .chunks) ≤ m .left → deleteCall vol (more d m) st name ≡ writeMore d (deleteCall vol m st name)
+  delete-ample st name = ample _ m (delete-carries d vol st name) (delete-writes vol (more d m) st name)
+
+  pub oldest-ample : (st : Store) (dir : List ℕ) → commitMost (st .head .chunks) ≤ m .left → oldestCall vol (more d m) st dir ≡ oldestMore d (oldestCall vol m st dir)
+  oldest-ample st dir = ample _ m (call-carries d vol st dir) (oldest-writes vol (more d m) st dir)

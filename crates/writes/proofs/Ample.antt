@@ -31,7 +31,7 @@ use Rattle.remove.specs.Remove.{closedFor, removeOf, GoneOut, noneOut, goneOf, 
 use Rattle.store.specs.Asked.{askedName, askedDir}
 use Rattle.store.specs.Writing.{WriteCall, writeCallOf, formatCall, deleteCall, OldestCall, wentOf, oldestTold, oldestCall}
 use Rattle.writes.specs.Writes.{commitMost, more, writeMore, goneMore, oldestMore}
-use Rattle.writes.proofs.Calls.{format-writes, delete-writes, oldest-writes}
+use Rattle.writes.proofs.Calls.{format-writes, delete-writes, oldest-writes, format-few, delete-few}
 use Rattle.writes.proofs.Carries.{Holder, alone, Carries, still, given, inside, either, unless, both, onward, ample}
 use Rattle.writes.proofs.Carried.{copied, copy-carries, commit-carries}
 
@@ -156,3 +156,10 @@ module _ (vol : List ℕ) (m : Medium) (d : ℕ) where
 
   pub oldest-ample : (st : Store) (dir : List ℕ) → commitMost (st .head .chunks) ≤ m .left → oldestCall vol (more d m) st dir ≡ oldestMore d (oldestCall vol m st dir)
   oldest-ample st dir = ample _ m (call-carries d vol st dir) (oldest-writes vol (more d m) st dir)
+
+  -- in numbers: a store has at most 16 table sectors
+  pub format-enough : (size seed : ℕ) → 26 ≤ m .left → formatCall vol (more d m) size seed ≡ writeMore d (formatCall vol m size seed)
+  format-enough size seed = ample 26 m (format-carries d vol size seed) (format-few vol (more d m) size seed)
+
+  pub delete-enough : (st : Store) (name : List ℕ) → 26 ≤ m .left → deleteCall vol (more d m) st name ≡ writeMore d (deleteCall vol m st name)
+  delete-enough st name = ample 26 m (delete-carries d vol st name) (delete-few vol (more d m) st name)

@@ -33,12 +33,9 @@ use Rattle.store.specs.Writing.{WriteCall, writeCallOf, formatCall, deleteCall,
 use Rattle.writes.specs.Writes.{commitMost, more, writeMore, goneMore, oldestMore}
 use Rattle.writes.proofs.Calls.{format-writes, delete-writes, oldest-writes, format-few, delete-few}
 use Rattle.writes.proofs.Carries.{Holder, alone, Carries, still, given, inside, either, unless, both, onward, ample}
-use Rattle.writes.proofs.Carried.{copied, copy-carries, commit-carries}
+use Rattle.writes.proofs.CarriedCopies.{copied, copy-carries, remove-carries, oldest-carries}
 
 -- ---- what they hand back
-
-abbrev pub gone : Holder GoneOut
-gone = record { held = λ g. g .ans .medium; raised = λ d g. record { vol = g .vol; ans = goneMore d (g .ans); skipped = g .skipped } }
 
 abbrev stored : Holder WriteCall
 stored = record { held = λ w. w .call .medium; raised = writeMore }
@@ -75,16 +72,6 @@ module _ (d : ℕ) (vol : List ℕ) where
       (told-carries formatted)
 
   module _ (st : Store) where
-    -- ---- a removal
-
-    remove-carries : (slot id : ℕ) → Carries d alone copied (λ m. removeOf vol m st slot id)
-    unfolding removeOf
-    remove-carries slot id =
-        onward (λ o. o .ans .outcome)
-        (λ o. record { vol = o .vol; ans = record { outcome = Done; medium = o .ans .medium; store = closedFor id (o .ans .store) }; skipped = o .skipped })
-        (λ o e. o) (λ o. refl)
-        (commit-carries d (Remove slot) [] vol st) (still (λ o. refl) (λ o. refl)) (λ e. still (λ o. refl) (λ o. refl))
-
     -- ---- delete
 
     find-same : (name : List ℕ) (m : Medium) → findOf vol (more d m) st name ≡ findOf vol m st name
@@ -94,7 +81,7 @@ module _ (d : ℕ) (vol : List ℕ) where
     found-carries : (f : Found) → Carries d alone copied (λ m. onFound f (refusedOut st vol m) (removeOf vol m st))
     unfolding onFound
     found-carries (found.Refused e) = still (λ m. refl) (λ m. refl)
-    found-carries (found.At slot id) = remove-carries slot id
+    found-carries (found.At slot id) = remove-carries d vol st slot id
 
     delete-carries : (name : List ℕ) → Carries d alone stored (λ m. deleteCall vol m st name)
     unfolding deleteCall
@@ -107,41 +94,11 @@ module _ (d : ℕ) (vol : List ℕ) where
 
     -- ---- delete_oldest
 
-    gone-carries : (name : List ℕ) (len : ℕ) → Carries d copied gone (goneOf name len)
-    unfolding goneOf
-    gone-carries name len =
-        given (λ o. o .ans .outcome)
-        (λ t o. onDone t
-        (record {
-          vol = o .vol;
-          ans = record { outcome = Done; medium = o .ans .medium; store = o .ans .store; any = true; name = name; length = len };
-          skipped = o .skipped;
-        })
-        (λ e. noneOut o))
-        (λ o. refl) (λ t. unless t (still (λ o. refl) (λ o. refl)) (λ e. still (λ o. refl) (λ o. refl)))
-
-    old-carries : (f : OldestFile) → Carries d alone gone (λ m. oldestGone vol m st f)
-    unfolding oldestGone
-    old-carries (oldest.Refused e) = still (λ m. refl) (λ m. refl)
-    old-carries (oldest.Done old) =
-        either (old .any)
-        (both (goneOf (part 0 40 (entryAt vol st (old .slot))) (old .len)) (remove-carries (old .slot) (old .id)) (gone-carries (part 0 40 (entryAt vol st (old .slot))) (old .len)))
-        (still (λ m. refl) (λ m. refl))
-
-    oldest-same : (dir : List ℕ) (keeping : Bool) (keep : ℕ) (m : Medium) → oldestOf vol (more d m) st dir keeping keep ≡ oldestOf vol m st dir keeping keep
-    unfolding oldestOf slotAt dueOf checkOf readOf
-    oldest-same dir keeping keep m = refl
-
-    pub oldest-carries : (dir : List ℕ) (keeping : Bool) (keep : ℕ) → Carries d alone gone (λ m. removeOldestOf vol m st dir keeping keep)
-    unfolding removeOldestOf
-    oldest-carries dir keeping keep =
-        given (λ m. oldestOf vol m st dir keeping keep) (λ f m. oldestGone vol m st f) (oldest-same dir keeping keep) old-carries
-
     call-carries : (dir : List ℕ) → Carries d alone oldestHeld (λ m. oldestCall vol m st dir)
     unfolding oldestCall oldestTold wentOf
     call-carries dir =
         both oldestTold
-        (unless (askedDir vol st dir) (oldest-carries dir (isOpen (st .writer)) (openId (st .writer))) (λ e. still (λ m. refl) (λ m. refl)))
+        (unless (askedDir vol st dir) (oldest-carries d vol st dir (isOpen (st .writer)) (openId (st .writer))) (λ e. still (λ m. refl) (λ m. refl)))
         (still (λ g. refl) (λ g. refl))
 
 -- ---- the calls

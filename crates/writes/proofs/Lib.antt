@@ -7,6 +7,7 @@ pub mod Creates
 pub mod Calls
 pub mod Nothing
 pub mod Carries
-pub mod Carried
+pub mod CarriedCopies
+pub mod CarriedAppends
 pub mod Ample
 pub mod Edges

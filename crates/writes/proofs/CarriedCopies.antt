@@ -1,5 +1,5 @@
--- Each part of a call that writes a copy anew carries more writes through: one write, the body, the copy, a commit, a removal and a format. Of the
--- medium record they read which sector is unreadable, and format the entropy, never writes left but to spend one. Assumes nothing.
+-- Each part of a call that writes a copy anew carries more writes through: one write, the body, the copy, a commit and a removal. Of the medium record
+-- they read which sector is unreadable, and writes left only to spend one. Assumes nothing.
 use Prim.Native.Nat.{ℕ, zero, suc, _+_, _-_, _^_, _≤_}
 use mathlib.Core.Path.{_≡_, refl, sym, ap, ap₂, _∙_}
 use mathlib.Core.Bool.{Bool, true, false, not, _&&_}
@@ -21,21 +21,26 @@ use Rattle.medium.specs.Sector.{sectorsOf, readOf, spendOf, WriteOut, writeAt, 
 use Rattle.medium.proofs.Frame.{write-spends}
 use Rattle.handles.specs.declared.Header.{Header}
 use Rattle.handles.specs.declared.Store.{Store}
+use Rattle.handles.specs.Body.{checkOf, dueOf}
 use Rattle.handles.specs.Handles.{bodyOf, baseOf}
-use Rattle.header.specs.declared.answers.Copies.{Copies}
-use Rattle.header.specs.declared.answers.Current.{Current}
 use Rattle.header.specs.Copies.{headersOf, currentOf}
 use Rattle.header.specs.Header.{encodeOf}
+use Rattle.directory.specs.declared.OldestFile.{OldestFile}
+use Rattle.directory.specs.declared.OldestFile.the-variants as oldest
+use Rattle.directory.specs.Entry.{entryAt, slotAt}
+use Rattle.directory.specs.Scan.{oldestOf}
 use Rattle.plan.specs.declared.Edit.{Edit}
+use Rattle.plan.specs.declared.Edit.the-variants.{Remove}
 use Rattle.plan.specs.Copy.{Plan, Move, unread, matched, put, bad, BodyOut, Skipped, Out, moveOf, actOf, bodySectorOf, bodyFrom, skips, skippedAt, skippedFrom, withCrc, lastOf, firstOf, copyOut, refusedOut}
 use Rattle.plan.proofs.Decides.{move-decides}
 use Rattle.commit.specs.Commit.{commitPlan, isCurrent, commitOf}
-use Rattle.writes.specs.Writes.{more}
+use Rattle.remove.specs.Remove.{closedFor, removeOf, GoneOut, noneOut, goneOf, oldestGone, removeOldestOf}
+use Rattle.writes.specs.Writes.{more, goneMore}
 use Rattle.writes.proofs.Carries.{Holder, alone, Carries, still, given, inside, either, unless, both, onward}
 
 -- ---- what they hand back
 
-abbrev written : Holder WriteOut
+abbrev pub written : Holder WriteOut
 written = record { held = λ w. w .ans .medium; raised = λ d w. record { vol = w .vol; ans = record { outcome = w .ans .outcome; medium = more d (w .ans .medium) } } }
 
 abbrev body : Holder BodyOut
@@ -51,6 +56,9 @@ copied =
       held = λ o. o .ans .medium;
       raised = λ d o. record { vol = o .vol; ans = record { outcome = o .ans .outcome; medium = more d (o .ans .medium); store = o .ans .store }; skipped = o .skipped };
     }
+
+abbrev pub gone : Holder GoneOut
+gone = record { held = λ g. g .ans .medium; raised = λ d g. record { vol = g .vol; ans = goneMore d (g .ans); skipped = g .skipped } }
 
 -- ---- one write
 
@@ -161,7 +169,7 @@ module _ (d : ℕ) where
 
   -- ---- the commit
 
-  pub current-same : (vol : List ℕ) (m : Medium) → currentOf vol (more d m) ≡ currentOf vol m
+  current-same : (vol : List ℕ) (m : Medium) → currentOf vol (more d m) ≡ currentOf vol m
   unfolding currentOf headersOf readOf
   current-same vol m = refl
 
@@ -180,3 +188,44 @@ module _ (d : ℕ) where
       (either (eqb (st .head .generation) (2 ^ 64 - 1)) (still (λ m. refl) (λ m. refl)) (copy-carries (commitPlan c edit name st) vol))
       (still (λ m. refl) (λ m. refl)))
       (λ e. still (λ m. refl) (λ m. refl)))
+
+  -- ---- a removal
+
+  module _ (vol : List ℕ) (st : Store) where
+    pub remove-carries : (slot id : ℕ) → Carries d alone copied (λ m. removeOf vol m st slot id)
+    unfolding removeOf
+    remove-carries slot id =
+        onward (λ o. o .ans .outcome)
+        (λ o. record { vol = o .vol; ans = record { outcome = Done; medium = o .ans .medium; store = closedFor id (o .ans .store) }; skipped = o .skipped })
+        (λ o e. o) (λ o. refl)
+        (commit-carries (Remove slot) [] vol st) (still (λ o. refl) (λ o. refl)) (λ e. still (λ o. refl) (λ o. refl))
+
+    gone-carries : (name : List ℕ) (len : ℕ) → Carries d copied gone (goneOf name len)
+    unfolding goneOf
+    gone-carries name len =
+        given (λ o. o .ans .outcome)
+        (λ t o. onDone t
+        (record {
+          vol = o .vol;
+          ans = record { outcome = Done; medium = o .ans .medium; store = o .ans .store; any = true; name = name; length = len };
+          skipped = o .skipped;
+        })
+        (λ e. noneOut o))
+        (λ o. refl) (λ t. unless t (still (λ o. refl) (λ o. refl)) (λ e. still (λ o. refl) (λ o. refl)))
+
+    old-carries : (f : OldestFile) → Carries d alone gone (λ m. oldestGone vol m st f)
+    unfolding oldestGone
+    old-carries (oldest.Refused e) = still (λ m. refl) (λ m. refl)
+    old-carries (oldest.Done old) =
+        either (old .any)
+        (both (goneOf (part 0 40 (entryAt vol st (old .slot))) (old .len)) (remove-carries (old .slot) (old .id)) (gone-carries (part 0 40 (entryAt vol st (old .slot))) (old .len)))
+        (still (λ m. refl) (λ m. refl))
+
+    oldest-same : (dir : List ℕ) (keeping : Bool) (keep : ℕ) (m : Medium) → oldestOf vol (more d m) st dir keeping keep ≡ oldestOf vol m st dir keeping keep
+    unfolding oldestOf slotAt dueOf checkOf readOf
+    oldest-same dir keeping keep m = refl
+
+    pub oldest-carries : (dir : List ℕ) (keeping : Bool) (keep : ℕ) → Carries d alone gone (λ m. removeOldestOf vol m st dir keeping keep)
+    unfolding removeOldestOf
+    oldest-carries dir keeping keep =
+        given (λ m. oldestOf vol m st dir keeping keep) (λ f m. oldestGone vol m st f) (oldest-same dir keeping keep) old-carries

@@ -183,12 +183,16 @@ module _ {d : ℕ} where
       unfolding overOut
       over-carries = either (rollover .rolls) (gone-carries noAppender next (oldest-carries d vol st (dirBytes (rollover .dir)) false 0) on) (still (λ m. refl) (λ m. refl))
 
-      looked-carries : (x : Looked)
-          → Carries d alone handed (λ m. onLooked x (refusedAt vol m st)
+      -- what a round does by what it saw
+      abbrev seenOut : Looked → Medium → AppOut
+      seenOut x m =
+          onLooked x (refusedAt vol m st)
           (λ s. pick (s .exists) (refusedAt vol m st Exists)
           (pick (s .free)
           (onPick (freeOf vol m st) (refusedAt vol m st) (overOut rollover next vol m st) (makeOut name rollover vol m st (s .slot)))
-          (overOut rollover next vol m st))))
+          (overOut rollover next vol m st)))
+
+      looked-carries : (x : Looked) → Carries d alone handed (seenOut x)
       unfolding onLooked
       looked-carries (looked.Refused e) = still (λ m. refl) (λ m. refl)
       looked-carries (looked.Done s) =
@@ -197,14 +201,7 @@ module _ {d : ℕ} where
 
       round-carries : Carries d alone handed (λ m. roundOut name rollover next vol m st)
       unfolding roundOut lookOf slotAt dueOf checkOf readOf
-      round-carries =
-          given (λ m. lookOf vol m st name)
-          (λ x m. onLooked x (refusedAt vol m st)
-          (λ s. pick (s .exists) (refusedAt vol m st Exists)
-          (pick (s .free)
-          (onPick (freeOf vol m st) (refusedAt vol m st) (overOut rollover next vol m st) (makeOut name rollover vol m st (s .slot)))
-          (overOut rollover next vol m st))))
-          (λ m. refl) looked-carries
+      round-carries = given (λ m. lookOf vol m st name) seenOut (λ m. refl) looked-carries
 
     pub create-carries : (n : ℕ) (vol : List ℕ) (st : Store) → Carries d alone handed (λ m. createFrom n name rollover vol m st)
     unfolding createFrom

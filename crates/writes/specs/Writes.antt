@@ -6,6 +6,7 @@ use Rattle.le.specs.Choice.{pick}
 use Rattle.medium.specs.declared.Medium.{Medium}
 use Rattle.handles.specs.Handles.{tableOf, bodyOf}
 use Rattle.remove.specs.declared.Gone.{Gone}
+use Rattle.append.specs.Calls.{AppCall}
 use Rattle.store.specs.Writing.{WriteCall, OldestCall}
 
 -- at most n writes from m to u
@@ -51,4 +52,12 @@ oldestMore d o =
       call = record { answer = o .call .answer; store = o .call .store; medium = more d (o .call .medium) };
       gone = goneMore d (o .gone);
       steps = o .steps;
+    }
+
+abbrev pub appMore : ℕ → AppCall → AppCall
+appMore d a =
+    record {
+      vol = a .vol;
+      call = record { answer = a .call .answer; medium = more d (a .call .medium); store = a .call .store; appender = a .call .appender };
+      steps = a .steps;
     }

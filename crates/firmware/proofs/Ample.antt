@@ -1,7 +1,7 @@
 -- Writes left of 26 are as good as any more: format and delete of the C calls then return the same number and leave the same volume. A format writes at
 -- most 26 sectors, and so does a delete, on any volume. Assumes nothing.
 use Prim.Native.Nat.{ℕ, _+_, _-_, _≤_}
-use mathlib.Core.Path.{_≡_, refl, sym, ap, subst, _∙_}
+use mathlib.Core.Path.{_≡_, sym, ap, subst, _∙_}
 use mathlib.Core.List.{List}
 use native.Mathlib.Nat.{le-refl}
 use native.Mathlib.Omega.{arith}

@@ -1,13 +1,13 @@
 -- Each part of append, sync and create carries more writes through: another chunk, a record, a rollover, a new file. Assumes nothing.
-use Prim.Native.Nat.{ℕ, zero, suc, _+_, _-_, _^_, _≤_}
-use mathlib.Core.Path.{_≡_, refl}
+use Prim.Native.Nat.{ℕ, zero, suc, _+_, _-_, _^_}
+use mathlib.Core.Path.{refl}
 use mathlib.Core.Bool.{Bool, true, false}
 use mathlib.Core.List.{List, [], _∷_}
 use lib.Dec.{eqb, leb, ltb}
 use Rattle.le.specs.Choice.{pick}
 use Rattle.le.specs.Part.{part}
 use Rattle.medium.specs.declared.Error.{Error}
-use Rattle.medium.specs.declared.Error.the-variants.{Corrupt, Exists, Full, Spent, Stale}
+use Rattle.medium.specs.declared.Error.the-variants.{Corrupt, Exists, Full, Stale}
 use Rattle.medium.specs.declared.Medium.{Medium}
 use Rattle.medium.specs.Refusal.{onDone}
 use Rattle.medium.specs.Sector.{readOf}
@@ -24,9 +24,8 @@ use Rattle.table.specs.Link.{linkAt}
 use Rattle.table.specs.Table.{freeOf, onPick}
 use Rattle.record.specs.Record.{dataAt, recordOf, numberAt}
 use Rattle.plan.specs.declared.Edit.the-variants.{Create, Extend}
-use Rattle.plan.specs.Copy.{Step, extended, recorded, created, Out, stepsOf}
-use Rattle.commit.specs.Commit.{commitOf}
-use Rattle.remove.specs.Remove.{GoneOut, removeOldestOf}
+use Rattle.plan.specs.Copy.{Step, extended, recorded, created, stepsOf}
+use Rattle.remove.specs.Remove.{GoneOut}
 use Rattle.append.specs.declared.Appender.{Appender}
 use Rattle.append.specs.declared.Tail.{Tail}
 use Rattle.append.specs.declared.Tail.the-variants.{At, Reopened, Closed}
@@ -36,8 +35,8 @@ use Rattle.files.specs.declared.Rollover.{Rollover}
 use Rattle.files.specs.Opened.{refusedAt, openedOut}
 use Rattle.files.specs.Create.{Next, makeOut, overOut, roundOut, createFrom}
 use Rattle.writes.specs.Writes.{more}
-use Rattle.writes.proofs.Carries.{Holder, alone, Carries, still, given, inside, either, unless, both, onward}
-use Rattle.writes.proofs.CarriedCopies.{copied, gone, written, write-carries, commit-carries, oldest-carries}
+use Rattle.writes.proofs.Carries.{Holder, alone, Carries, still, given, inside, either, both, onward}
+use Rattle.writes.proofs.CarriedCopies.{gone, write-carries, commit-carries, oldest-carries}
 
 abbrev pub handed : Holder AppOut
 handed =
@@ -67,9 +66,9 @@ module _ {d : ℕ} where
       (λ e. still (λ o. refl) (λ o. refl))
 
   -- where a file goes for room
-  gone-carries : (a : Appender) (next : Next) {f : Medium → GoneOut} → Carries d alone gone f → ((v : List ℕ) (s : Store) → Carries d alone handed (λ m. next v m s))
+  freed-carries : (a : Appender) (next : Next) {f : Medium → GoneOut} → Carries d alone gone f → ((v : List ℕ) (s : Store) → Carries d alone handed (λ m. next v m s))
       → Carries d alone handed (λ m. afterGone (f m) a next)
-  gone-carries a next p q =
+  freed-carries a next p q =
       onward (λ g. g .ans .outcome)
       (λ g. pick (g .ans .any) (after (rolling (g .skipped)) (next (g .vol) (g .ans .medium) (g .ans .store))) (stopped (g .vol) (g .ans .medium) (g .ans .store) a Full))
       (λ g. stopped (g .vol) (g .ans .medium) (g .ans .store) a) (λ g. refl) p
@@ -108,7 +107,7 @@ module _ {d : ℕ} where
     rolled-carries : Carries d alone handed (λ m. rolledOut vol m st a partial records)
     unfolding rolledOut
     rolled-carries =
-        gone-carries a (λ v n s. onPick (freeOf v n s) (stopped v n s a) (stopped v n s a Corrupt) (linkOut v n s a partial records))
+        freed-carries a (λ v n s. onPick (freeOf v n s) (stopped v n s a) (stopped v n s a Corrupt) (linkOut v n s a partial records))
         (oldest-carries d vol st (dirBytes (a .dir)) (isOpen (st .writer)) (openId (st .writer)))
         (λ v s. free-carries v s (λ e. still (λ m. refl) (λ m. refl)) (still (λ m. refl) (λ m. refl)) (link-carries v s a partial records))
 
@@ -181,7 +180,7 @@ module _ {d : ℕ} where
     module _ (next : Next) (on : (v : List ℕ) (s : Store) → Carries d alone handed (λ m. next v m s)) (vol : List ℕ) (st : Store) where
       over-carries : Carries d alone handed (λ m. overOut rollover next vol m st)
       unfolding overOut
-      over-carries = either (rollover .rolls) (gone-carries noAppender next (oldest-carries d vol st (dirBytes (rollover .dir)) false 0) on) (still (λ m. refl) (λ m. refl))
+      over-carries = either (rollover .rolls) (freed-carries noAppender next (oldest-carries d vol st (dirBytes (rollover .dir)) false 0) on) (still (λ m. refl) (λ m. refl))
 
       -- what a round does by what it saw
       abbrev seenOut : Looked → Medium → AppOut

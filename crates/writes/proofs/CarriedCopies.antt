@@ -1,23 +1,20 @@
 -- Each part of a call that writes a copy anew carries more writes through: one write, the body, the copy, a commit and a removal. Of the medium record
 -- they read which sector is unreadable, and writes left only to spend one. Assumes nothing.
 use Prim.Native.Nat.{ℕ, zero, suc, _+_, _-_, _^_, _≤_}
-use mathlib.Core.Path.{_≡_, refl, sym, ap, ap₂, _∙_}
-use mathlib.Core.Bool.{Bool, true, false, not, _&&_}
-use mathlib.Core.List.{List, [], _∷_}
-use native.Mathlib.Nat.{add-zero}
+use mathlib.Core.Path.{_≡_, refl, ap}
+use mathlib.Core.Bool.{Bool, true, false}
+use mathlib.Core.List.{List, []}
 use native.Mathlib.Omega.{arith}
 use borrow.Author.Tests.{eqb-true, eqb-false}
-use lib.Dec.{eqb, leb}
-use lib.ListN.{getD}
+use lib.Dec.{eqb}
 use Rattle.le.specs.Choice.{pick}
 use Rattle.le.specs.Part.{part}
-use Rattle.medium.specs.declared.Error.{Error}
 use Rattle.medium.specs.declared.Error.the-variants.{Media, Spent, Stale}
 use Rattle.medium.specs.declared.Medium.{Medium}
 use Rattle.medium.specs.declared.Outcome.the-variants.{Done, No}
 use Rattle.medium.specs.declared.Written.{Written}
 use Rattle.medium.specs.Refusal.{onDone}
-use Rattle.medium.specs.Sector.{sectorsOf, readOf, spendOf, WriteOut, writeAt, writeOf}
+use Rattle.medium.specs.Sector.{readOf, spendOf, WriteOut, writeAt, writeOf}
 use Rattle.medium.proofs.Frame.{write-spends}
 use Rattle.handles.specs.declared.Header.{Header}
 use Rattle.handles.specs.declared.Store.{Store}
@@ -31,7 +28,7 @@ use Rattle.directory.specs.Entry.{entryAt, slotAt}
 use Rattle.directory.specs.Scan.{oldestOf}
 use Rattle.plan.specs.declared.Edit.{Edit}
 use Rattle.plan.specs.declared.Edit.the-variants.{Remove}
-use Rattle.plan.specs.Copy.{Plan, Move, unread, matched, put, bad, BodyOut, Skipped, Out, moveOf, actOf, bodySectorOf, bodyFrom, skips, skippedAt, skippedFrom, withCrc, lastOf, firstOf, copyOut, refusedOut}
+use Rattle.plan.specs.Copy.{Plan, Move, unread, matched, put, bad, BodyOut, Skipped, Out, moveOf, actOf, bodySectorOf, bodyFrom, skips, skippedFrom, withCrc, lastOf, firstOf, copyOut, refusedOut}
 use Rattle.plan.proofs.Decides.{move-decides}
 use Rattle.commit.specs.Commit.{commitPlan, isCurrent, commitOf}
 use Rattle.remove.specs.Remove.{closedFor, removeOf, GoneOut, noneOut, goneOf, oldestGone, removeOldestOf}
@@ -40,7 +37,7 @@ use Rattle.writes.proofs.Carries.{Holder, alone, Carries, still, given,
 
 -- ---- what they hand back
 
-abbrev pub written : Holder WriteOut
+abbrev written : Holder WriteOut
 written = record { held = λ w. w .ans .medium; raised = λ d w. record { vol = w .vol; ans = record { outcome = w .ans .outcome; medium = more d (w .ans .medium) } } }
 
 abbrev body : Holder BodyOut

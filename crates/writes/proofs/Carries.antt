@@ -1,7 +1,7 @@
 -- A part of a call carries d more writes through: from a medium record with d more left it does the same, and d more are left after it, wherever at
 -- least d are left after it. Parts one after another carry them, and a decision that does not depend on writes left. Assumes nothing.
-use Prim.Native.Nat.{ℕ, _+_, _≤_}
-use mathlib.Core.Path.{_≡_, refl, sym, ap, ap₂, subst, _∙_}
+use Prim.Native.Nat.{ℕ, _≤_}
+use mathlib.Core.Path.{_≡_, sym, ap, ap₂, subst, _∙_}
 use mathlib.Core.Bool.{Bool, true, false}
 use native.Mathlib.Nat.{le-refl, le-trans}
 use native.Mathlib.Omega.{arith}

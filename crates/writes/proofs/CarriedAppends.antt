@@ -43,11 +43,11 @@ handed =
     record {
       held = λ o. o .ans .medium;
       raised = λ d o.
-      record {
-        vol = o .vol;
-        ans = record { outcome = o .ans .outcome; medium = more d (o .ans .medium); store = o .ans .store; appender = o .ans .appender };
-        steps = o .steps;
-      };
+          record {
+            vol = o .vol;
+            ans = record { outcome = o .ans .outcome; medium = more d (o .ans .medium); store = o .ans .store; appender = o .ans .appender };
+            steps = o .steps;
+          };
     }
 
 module _ {d : ℕ} where

@@ -37,7 +37,7 @@ module _ {d : ℕ} {A B : Type 0} {a : Holder A} {b : Holder B} where
       record {
         falls = λ x. h (c x) .falls x;
         same = λ x l.
-        ap (λ y. k y (a .raised d x)) (e x) ∙ h (c x) .same x (subst (λ y. d ≤ b .held (k y (a .raised d x)) .left) (e x) l);
+            ap (λ y. k y (a .raised d x)) (e x) ∙ h (c x) .same x (subst (λ y. d ≤ b .held (k y (a .raised d x)) .left) (e x) l);
       }
 
   -- of the medium record in it
@@ -47,8 +47,8 @@ module _ {d : ℕ} {A B : Type 0} {a : Holder A} {b : Holder B} where
       record {
         falls = λ x. h x .falls (a .held x);
         same = λ x l.
-        let q : k (a .raised d x) (a .held (a .raised d x)) ≡ k x (more d (a .held x)) = ap₂ (λ (g : Medium → B) (m : Medium). g m) (e x) (r x) in
-        q ∙ h x .same (a .held x) (subst (λ (y : B). d ≤ b .held y .left) q l);
+            let q : k (a .raised d x) (a .held (a .raised d x)) ≡ k x (more d (a .held x)) = ap₂ (λ (g : Medium → B) (m : Medium). g m) (e x) (r x) in
+            q ∙ h x .same (a .held x) (subst (λ (y : B). d ≤ b .held y .left) q l);
       }
 
   -- either way
@@ -69,8 +69,8 @@ module _ {d : ℕ} {A B C : Type 0} {a : Holder A} {b : Holder B} {c : Holder C}
       record {
         falls = λ x. le-trans (q .falls (f x)) (p .falls x);
         same = λ x l.
-        let e : f (a .raised d x) ≡ b .raised d (f x) = p .same x (le-trans l (q .falls (f (a .raised d x)))) in
-        ap g e ∙ q .same (f x) (subst (λ (y : B). d ≤ c .held (g y) .left) e l);
+            let e : f (a .raised d x) ≡ b .raised d (f x) = p .same x (le-trans l (q .falls (f (a .raised d x)))) in
+            ap g e ∙ q .same (f x) (subst (λ (y : B). d ≤ c .held (g y) .left) e l);
       }
 
   -- the other only where the first is accepted

@@ -1,3 +1,4 @@
 pub mod Bounds
 pub mod Ways
 pub mod Stale
+pub mod Ample

@@ -6,4 +6,8 @@ pub mod Appends
 pub mod Creates
 pub mod Calls
 pub mod Nothing
+pub mod Carries
+pub mod CarriedCopies
+pub mod CarriedAppends
+pub mod Ample
 pub mod Edges

@@ -21,6 +21,7 @@ STARTS = [
     ("demand 3", {}, [("crates/power/specs/Claim.antt", "Demand3")]),
     ("edges", {}, [("crates/store/specs/Edges.antt", "Starred")]),
     ("writes", {}, [("crates/writes/specs/Writes.antt", n) for n in ("Most", "commitMost", "createMost", "recordsMost")]
+        + [("crates/writes/specs/More.antt", n) for n in ("writeMore", "oldestMore", "appMore")]
         + [("crates/power/specs/Room.antt", n) for n in ("Tells", "CanCommit", "HasRoom", "TakesChunk")]),
     ("hosts", {"firmware": ["store_mount", "store_format", "store_delete", "store_list"], "lines": ["feed", "last"]}, [("crates/lines/specs/Program.antt", "printedOf")]),
 ]

@@ -14,7 +14,7 @@ use Rattle.medium.specs.Sector.{readOf}
 use Rattle.header.specs.Copies.{headersOf, currentOf, mountOf}
 use Rattle.store.specs.Reading.{mountCall}
 use Rattle.store.specs.Writing.{WriteCall}
-use Rattle.writes.specs.Writes.{more}
+use Rattle.writes.specs.More.{more}
 use Rattle.writes.proofs.Ample.{format-enough, delete-enough}
 use Rattle.firmware.specs.Calls.{mediumOf, chunksTold, deleteTold, formatHost, deleteHost}
 

@@ -29,7 +29,8 @@ use Rattle.append.specs.Calls.{AppCall, mayWrite, callOf, offered, appendCall, 
 use Rattle.store.specs.Asked.{askedName, askedDir, askedOf}
 use Rattle.store.specs.Opening.{rolloverOf, openFine, opening, createCall}
 use Rattle.store.specs.Writing.{WriteCall, writeCallOf, formatCall, deleteCall, OldestCall, wentOf, oldestTold, oldestCall}
-use Rattle.writes.specs.Writes.{commitMost, createMost, recordsMost, more, writeMore, oldestMore, appMore}
+use Rattle.writes.specs.Writes.{commitMost, createMost, recordsMost}
+use Rattle.writes.specs.More.{more, writeMore, oldestMore, appMore}
 use Rattle.writes.proofs.Calls.{format-writes, delete-writes, oldest-writes, create-writes, append-writes, sync-writes, format-few, delete-few}
 use Rattle.writes.proofs.Carries.{Holder, alone, Carries, still, given, either, unless, both, ample}
 use Rattle.writes.proofs.CarriedCopies.{copied, copy-carries, remove-carries, oldest-carries}

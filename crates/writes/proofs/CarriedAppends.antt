@@ -34,7 +34,7 @@ use Rattle.append.specs.Flush.{AppOut, done, stopped, after, andThen, movedTo, 
 use Rattle.files.specs.declared.Rollover.{Rollover}
 use Rattle.files.specs.Opened.{refusedAt, openedOut}
 use Rattle.files.specs.Create.{Next, makeOut, overOut, roundOut, createFrom}
-use Rattle.writes.specs.Writes.{more}
+use Rattle.writes.specs.More.{more}
 use Rattle.writes.proofs.Carries.{Holder, alone, Carries, still, given, inside, either, both, onward}
 use Rattle.writes.proofs.CarriedCopies.{gone, write-carries, commit-carries, oldest-carries}
 

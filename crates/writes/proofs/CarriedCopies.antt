@@ -32,7 +32,7 @@ use Rattle.plan.specs.Copy.{Plan, Move, unread, matched, put, bad, BodyOut, Ski
 use Rattle.plan.proofs.Decides.{move-decides}
 use Rattle.commit.specs.Commit.{commitPlan, isCurrent, commitOf}
 use Rattle.remove.specs.Remove.{closedFor, removeOf, GoneOut, noneOut, goneOf, oldestGone, removeOldestOf}
-use Rattle.writes.specs.Writes.{more, goneMore}
+use Rattle.writes.specs.More.{more, goneMore}
 use Rattle.writes.proofs.Carries.{Holder, alone, Carries, still, given, inside, either, unless, both, onward}
 
 -- ---- what they hand back

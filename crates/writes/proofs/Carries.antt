@@ -11,7 +11,8 @@ use Rattle.medium.specs.declared.Medium.{Medium}
 use Rattle.medium.specs.declared.Outcome.{Outcome}
 use Rattle.medium.specs.declared.Outcome.the-variants.{Done, No}
 use Rattle.medium.specs.Refusal.{onDone}
-use Rattle.writes.specs.Writes.{Most, more}
+use Rattle.writes.specs.Writes.{Most}
+use Rattle.writes.specs.More.{more}
 
 -- what has a medium record in it, and the same with d more writes left
 pub record Holder (A : Type 0) : Type 0 where

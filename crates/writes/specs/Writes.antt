@@ -5,17 +5,10 @@ use mathlib.Core.Bool.{Bool}
 use Rattle.le.specs.Choice.{pick}
 use Rattle.medium.specs.declared.Medium.{Medium}
 use Rattle.handles.specs.Handles.{tableOf, bodyOf}
-use Rattle.remove.specs.declared.Gone.{Gone}
-use Rattle.append.specs.Calls.{AppCall}
-use Rattle.store.specs.Writing.{WriteCall, OldestCall}
 
 -- at most n writes from m to u
 abbrev pub Most : ℕ → Medium → Medium → Type 0
 Most n m u = m .left ≤ u .left + n
-
--- the same medium record with d more writes left
-abbrev pub more : ℕ → Medium → Medium
-more d m = record { left = m .left + d; unreadable = m .unreadable; entropy = m .entropy; token = m .token }
 
 -- format, delete, delete_oldest: each body sector, and the header twice
 abbrev pub commitMost : ℕ → ℕ
@@ -35,29 +28,3 @@ perRecord rolls c = pick rolls ((1 + tableOf c + 2) + (1 + tableOf c + 2) + 1) (
 unfoldable pub recordsMost : Bool → ℕ → ℕ → ℕ
 recordsMost rolls c zero = 0
 recordsMost rolls c (suc n) = pick rolls 7 8 + suc n * perRecord rolls c
-
--- ---- what a call gives, the same but for d more writes left
-
-abbrev pub goneMore : ℕ → Gone → Gone
-goneMore d g =
-    record { outcome = g .outcome; medium = more d (g .medium); store = g .store; any = g .any; name = g .name; length = g .length }
-
-abbrev pub writeMore : ℕ → WriteCall → WriteCall
-writeMore d w = record { vol = w .vol; call = record { answer = w .call .answer; store = w .call .store; medium = more d (w .call .medium) }; steps = w .steps }
-
-abbrev pub oldestMore : ℕ → OldestCall → OldestCall
-oldestMore d o =
-    record {
-      vol = o .vol;
-      call = record { answer = o .call .answer; store = o .call .store; medium = more d (o .call .medium) };
-      gone = goneMore d (o .gone);
-      steps = o .steps;
-    }
-
-abbrev pub appMore : ℕ → AppCall → AppCall
-appMore d a =
-    record {
-      vol = a .vol;
-      call = record { answer = a .call .answer; medium = more d (a .call .medium); store = a .call .store; appender = a .call .appender };
-      steps = a .steps;
-    }

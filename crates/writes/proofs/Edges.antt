@@ -1,4 +1,4 @@
--- The definitions in numbers: stores of 1 to 128 chunks, of 9 table sectors and of 2,048 chunks. Assumes nothing.
+-- The definitions in numbers: stores of 1, 128, 129 and 2,048 chunks. Assumes nothing.
 use Prim.Native.Nat.{ℕ, _+_}
 use mathlib.Core.Path.{_≡_, refl}
 use mathlib.Core.Bool.{true, false}

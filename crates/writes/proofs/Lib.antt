@@ -11,3 +11,4 @@ pub mod CarriedCopies
 pub mod CarriedAppends
 pub mod Ample
 pub mod Edges
+pub mod Here

@@ -13,6 +13,8 @@ pub struct Asked {
     rolls: bool,
     /// Those that the bytes of an append fill; of sync 1 where something is unwritten.
     pub records: u64,
+    /// They all go into the appender's own chunk.
+    here: bool,
 }
 
 /// The writes that a call may make at most, on any volume with any handle, stopped or not.
@@ -23,6 +25,7 @@ pub fn most(a: &Asked) -> u64 {
         ("create", false, _) => t + 10,
         ("create", true, _) => 2 * t + 14,
         ("sync" | "append", _, 0) => 0,
+        ("sync" | "append", _, r) if a.here => r,
         ("sync", false, _) => t + 11,
         ("sync", true, _) => 2 * t + 14,
         ("append", false, r) => 8 + r * (t + 3),
@@ -41,8 +44,12 @@ impl Asked {
         let (st, n) = (&session.st, |i: usize| w.get(i).and_then(|w| num(w)).unwrap_or(0));
         let of_chunks = |chunks: u64| chunks.div_ceil(128);
         let tables = st.store.as_ref().map_or(0, |s| of_chunks(s.chunks().into()));
-        let asked = |call, tables, rolls, records| Some(Asked { call, tables, rolls, records });
         let open = st.app.as_ref();
+        let size = st.store.as_ref().map_or(0, |s| u64::from(s.chunk_sectors()));
+        let room = open.map(|a| a.x_tail()).filter(|tail| tail.0 == 0).and_then(|tail| size.checked_sub(tail.1.into()));
+        let asked = |call, tables, rolls, records| {
+            Some(Asked { call, tables, rolls, records, here: room.is_some_and(|n| records <= n) })
+        };
         let (fill, over) = (open.map_or(0, |a| a.x_fill() as u64), open.is_some_and(|a| a.x_rollover().is_some()));
         match w[0] {
             "append" | "appendn" => asked("append", tables, over, (fill + appended(w)?.len() as u64) / 486),
@@ -60,11 +67,13 @@ impl Asked {
     pub fn row(&self) -> &'static str {
         match (self.call, self.rolls, self.records) {
             ("append", _, 0) => "append, no record",
+            ("sync", _, 0) => "sync, nothing unwritten",
+            ("append", ..) if self.here => "append, in its chunk",
+            ("sync", ..) if self.here => "sync, in its chunk",
             ("append", false, 1) => "append, one record",
             ("append", true, 1) => "append, one record, rollover",
             ("append", false, _) => "append, more",
             ("append", true, _) => "append, more, rollover",
-            ("sync", _, 0) => "sync, nothing unwritten",
             ("sync", true, _) => "sync, rollover",
             ("create", true, _) => "create, rollover",
             (call, ..) => call,

@@ -16,10 +16,10 @@ const D: u64 = 8;
 /// T and sectors of a chunk.
 const GEOMETRIES: [(u64, u64); 6] = [(1, 1), (2, 1), (3, 1), (16, 1), (1, 4), (3, 4)];
 /// What must be reached for each of them.
-const ROWS: [&str; 19] = [
+const ROWS: [&str; 21] = [
     "format", "mount", "find", "list", "reader", "open_append", "next", "seek", "record", "delete", "delete_oldest",
     "create", "create, rollover", "append, one record", "append, one record, rollover", "sync", "sync, rollover", "append, no record",
-    "sync, nothing unwritten",
+    "sync, nothing unwritten", "append, in its chunk", "sync, in its chunk",
 ];
 
 /// The sectors that a call reads at most where no volume is forged. Of several records there is none.
@@ -174,19 +174,15 @@ fn append_rolls(run: &mut Run) -> Done {
     append_and_sync(run)
 }
 
-/// A record in the chunk, then one that extends.
+/// Records that fill the chunk, a record in it, then one that extends.
 fn extends(run: &mut Run) -> Done {
     run.format()?;
     run.ok("create a -")?;
     run.set("save here")?;
-    let (_, writes, reads) = run.answers("appendn 486", "ok")?;
-    run.exactly("append in the chunk", "writes", writes, 1)?;
-    run.exactly("append in the chunk", "reads", reads, 0)?;
+    run.reach(&run.append(run.c))?;
     run.set("load here")?;
     run.ok("appendn 1")?;
-    let (_, writes, reads) = run.answers("sync", "ok")?;
-    run.exactly("sync in the chunk", "writes", writes, 1)?;
-    run.exactly("sync in the chunk", "reads", reads, 0)?;
+    run.reach("sync")?;
     run.ok(&run.append(run.c - 1))?;
     run.lose("a")?;
     append_and_sync(run)

@@ -68,7 +68,7 @@ head-same a b e =
     ) refl
 
 module _ (vol : List ℕ) (m : Medium) (st : Store) (d : currentOf vol m .outcome ≡ Done) (c : isCurrent (currentOf vol m) st ≡ true) where
-  pub own-stands : Stands vol (st .copy) (st .head)
+  own-stands : Stands vol (st .copy) (st .head)
   unfolding isCurrent
   own-stands =
       let p = and-true (eqb (currentOf vol m .copy) (st .copy)) (sameHead (currentOf vol m .head) (st .head)) c in
@@ -110,7 +110,7 @@ pub remove-plain : (s : ℕ) → isFormat (Remove s) ≡ false
 unfolding isFormat
 remove-plain s = refl
 
--- a table sector is none of them
+-- a table sector is no directory sector
 in-table : (k c : ℕ) → k < 8 → eqb k (linkSector c) ≡ true → ⊥
 in-table k c l e = let q = eqb-true k (linkSector c) e in omega (arith, q)
 

@@ -122,15 +122,14 @@ uint32_t store_mount(const uint8_t *volume, size_t volume_length,
 
 /* Makes a new, empty store with chunks of `size` sectors (1 to 512), in place
  * of any store there; `seed` and `entropy` make its id. At most T + 10 sector
- * writes, with the T of the new store; accepted, just as many.
+ * writes, with the T of the new store.
  * Accepted: 256 + its data chunks (1 to 2,048).
  * Refused: 2, 4, 6, 12. */
 uint32_t store_format(uint8_t *volume, size_t volume_length,
                       uint32_t writes_left, uint64_t unreadable,
                       uint64_t entropy, uint32_t size, uint64_t seed);
 
-/* Mounts, and deletes the file of that name. At most T + 10 sector writes;
- * fewer where the other copy of the metadata is valid.
+/* Mounts, and deletes the file of that name. At most T + 10 sector writes.
  * Accepted: 256.
  * Refused: 1 before any other, then mount's numbers, then 4, 7, 9, 12. */
 uint32_t store_delete(uint8_t *volume, size_t volume_length,

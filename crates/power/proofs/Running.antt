@@ -5,11 +5,11 @@ use mathlib.Core.Path.{_≡_, refl, ap, subst, _∙_}
 use mathlib.Core.Bool.{true, false}
 use mathlib.Core.List.{List, [], _∷_, _++_}
 use native.Mathlib.Omega.{arith}
-use borrow.Author.Tests.{eq-eqb, ne-eqb, lt-ltb}
+use borrow.Author.Tests.{eq-eqb, ne-eqb}
 use lib.Dec.{lit≤}
 use lib.ListN.{length}
 use Rattle.le.specs.Part.{part}
-use Rattle.le.proofs.Choices.{pick-true, pick-false}
+use Rattle.le.proofs.Choices.{pick-false}
 use Rattle.medium.specs.declared.Error.{Error}
 use Rattle.medium.specs.declared.Medium.{Medium}
 use Rattle.medium.specs.declared.Outcome.the-variants.{Done, No}
@@ -26,9 +26,10 @@ use Rattle.append.specs.declared.Appender.{Appender}
 use Rattle.append.specs.declared.Tail.the-variants.{At}
 use Rattle.append.specs.Appender.{writes, isClosed}
 use Rattle.append.specs.Calls.{callOf, mayWrite, offered, appendCall, syncCall}
-use Rattle.append.specs.Flush.{AppOut, withRun, onTail, filed, recordOut, writeOut, flushOf, syncOf}
+use Rattle.append.specs.Flush.{AppOut, withRun, filed, recordOut, writeOut, flushOf, syncOf}
 use Rattle.append.proofs.Runs.{run-short}
 use Rattle.store.specs.Writing.{deleteCall}
+use Rattle.store.proofs.Appends.{write-here}
 use Rattle.power.specs.Calls.{append, sync, delete}
 use Rattle.power.specs.Book.{Book}
 use Rattle.power.specs.History.{World, withLeft, ranAppend, ran}
@@ -114,12 +115,8 @@ module _ {w : World} {b : Book} {i n : ℕ} (k : Keeps w b) (y : Ready w i n) wh
     unfolding recordOut
     record-steps = rw (onDone-done _ _ (write-some (w .vol) given _ _ one .0)) (refl, refl, refl, refl)
 
-    write-is : writeOut (w .vol) given (w .store) (w .appender) ≡ recordOut i (w .vol) given (w .store) (w .appender)
-    unfolding writeOut onTail
-    write-is = rw (y .tail) (pick-true _ _ (lt-ltb i (w .store .head .chunk) room))
-
     run-is : ran w (sync left) ≡ ranAppend (callOf (recordOut i (w .vol) given (w .store) (w .appender)))
-    run-is = sync-done k (opened y) left (rw (y .fill) some) write-is (record-steps .0)
+    run-is = sync-done k (opened y) left (rw (y .fill) some) (write-here (w .vol) given (w .store) (w .appender) i (y .tail) room) (record-steps .0)
 
     pub sync-run : (ran w (sync left) .accepted ≡ true) × (ran w (sync left) .steps ≡ (record { kind = recorded; skipped = [] }) ∷ [])
     sync-run = rw (run-is, record-steps .0) (refl, record-steps .1)

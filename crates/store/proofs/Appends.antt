@@ -42,16 +42,20 @@ pub record Recorded (m : Medium) (o : AppOut) (a : Appender) : Type 0 where
   pub empty : o .ans .appender .fill ≡ 0
   pub kept : o .ans .appender .buffer ≡ a .buffer
 
+-- with room in the chunk a record goes there
+pub write-here : (vol : List ℕ) (m : Medium) (st : Store) (a : Appender) (i : ℕ) → a .tail ≡ At i → i < st .head .chunk
+    → writeOut vol m st a ≡ recordOut i vol m st a
+unfolding writeOut onTail
+write-here vol m st a i t h = rw t (pick-true _ _ (lt-ltb i (st .head .chunk) h))
+
 module _ (vol : List ℕ) (m : Medium) (st : Store) (a : Appender) (i : ℕ) (left : 1 ≤ m .left) where
   recorded-at : Recorded m (recordOut i vol m st a) a
   unfolding recordOut writeOf
   recorded-at = rw (onDone-done _ _ (spend-done m left)) (record { done = refl; step = refl; spent = spend-left m left; empty = refl; kept = refl })
 
   flushed : a .tail ≡ At i → i < st .head .chunk → Recorded m (flushOf vol m st a) a
-  unfolding flushOf writeOut onTail
-  flushed t h =
-      let w : writeOut vol m st a ≡ recordOut i vol m st a = rw t (pick-true _ _ (lt-ltb i (st .head .chunk) h)) in
-      rw (w, onDone-done _ _ (recorded-at .done)) recorded-at
+  unfolding flushOf
+  flushed t h = rw (write-here vol m st a i t h, onDone-done _ _ (recorded-at .done)) recorded-at
 
 -- ---- the call
 

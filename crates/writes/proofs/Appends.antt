@@ -254,12 +254,12 @@ module _ {rolls : Bool} {c : ℕ} (r : Rates rolls c) where
     unfolding putByte
     byte-adds = pick-keeps-by (λ (o : AppOut). Adds (andThen o (appendOf bs))) (eqb (a .fill + 1) 486) _ _ filled held
 
-  append-writes : (bytes vol : List ℕ) (m : Medium) (st : Store) (a : Appender) → Good vol st → Fit a st → a .fill < 486 → st .head .chunks ≡ c → a .rolls ≡ rolls
+  append-runs : (bytes vol : List ℕ) (m : Medium) (st : Store) (a : Appender) → Good vol st → Fit a st → a .fill < 486 → st .head .chunks ≡ c → a .rolls ≡ rolls
       → (e : ℕ) → Owes e vol st → Most (runs e (count (a .fill + length bytes))) m (appendOf bytes vol m st a .ans .medium)
   unfolding appendOf
-  append-writes [] vol m st a good fit h same mine e owes = omega arith
-  append-writes (b ∷ bs) vol m st a good fit h same mine e owes =
-      byte-adds b bs (λ v u s x. append-writes bs v u s x) vol m st a good fit h same mine e owes
+  append-runs [] vol m st a good fit h same mine e owes = omega arith
+  append-runs (b ∷ bs) vol m st a good fit h same mine e owes =
+      byte-adds b bs (λ v u s x. append-runs bs v u s x) vol m st a good fit h same mine e owes
 
 -- ---- with a rollover, and with none
 
@@ -285,7 +285,7 @@ module _ (vol : List ℕ) (m : Medium) (st : Store) (a : Appender) (good : Good 
   append-most bytes h =
       let r = rates (a .rolls) chunks in
       subst (λ (n : ℕ). Most n m (appendOf bytes vol m st a .ans .medium)) (runs-are (a .rolls) chunks _)
-      (append-writes r bytes vol m st a good fit h refl refl (r .spare) (inl (omega arith)))
+      (append-runs r bytes vol m st a good fit h refl refl (r .spare) (inl (omega arith)))
 
   flush-most : Most (recordsMost (a .rolls) chunks 1) m (flushOf vol m st a .ans .medium)
   unfolding runs

@@ -1,15 +1,15 @@
 -- Records that go into the appender's own chunk: a write each, and nothing else. On any volume, with any handle. Assumes nothing.
 use Prim.Native.Nat.{ℕ, suc, _+_, _/_, _≤_, _<_}
-use mathlib.Core.Path.{_≡_, refl, sym, ap, subst, _∙_}
+use mathlib.Core.Path.{_≡_, refl, sym, subst}
 use mathlib.Core.Bool.{true, false}
 use mathlib.Core.List.{List, [], _∷_}
 use native.Mathlib.Nat.{zero-add}
 use native.Mathlib.Omega.{arith}
-use borrow.Author.Tests.{eqb-true, eqb-false, lt-ltb}
+use borrow.Author.Tests.{eqb-true, eqb-false}
 use lib.Dec.{eqb}
 use lib.ListN.{length}
 use Rattle.le.specs.Part.{part}
-use Rattle.le.proofs.Choices.{pick-keeps, pick-keeps-by, pick-true}
+use Rattle.le.proofs.Choices.{pick-keeps, pick-keeps-by}
 use Rattle.medium.specs.declared.Medium.{Medium}
 use Rattle.medium.specs.declared.Outcome.the-variants.{Done}
 use Rattle.medium.specs.Refusal.{onDone}
@@ -18,9 +18,10 @@ use Rattle.handles.specs.declared.Store.{Store}
 use Rattle.record.specs.Record.{dataAt, recordOf, numberAt}
 use Rattle.append.specs.declared.Appender.{Appender}
 use Rattle.append.specs.declared.Tail.the-variants.{At}
-use Rattle.append.specs.Flush.{AppOut, done, andThen, recordOut, onTail, writeOut, flushOf, pushed, putByte, appendOf, syncOf}
+use Rattle.append.specs.Flush.{AppOut, done, andThen, recordOut, writeOut, flushOf, pushed, putByte, appendOf, syncOf}
 use Rattle.append.specs.Calls.{AppCall, mayWrite, offered, appendCall, syncCall}
 use Rattle.append.proofs.Facts.{may-facts}
+use Rattle.store.proofs.Appends.{write-here}
 use Rattle.safe.proofs.Frame.{clash}
 use Rattle.writes.specs.Writes.{Most}
 use Rattle.writes.proofs.Copies.{write-most}
@@ -41,14 +42,10 @@ module _ (vol : List ℕ) (m : Medium) (st : Store) (a : Appender) (i : ℕ) (at
       (λ _. record { one = l; store = λ _. refl; tail = λ _. refl; fill = λ _. refl })
       (λ e _. record { one = l; store = clash refl; tail = clash refl; fill = clash refl })
 
-  write-here : writeOut vol m st a ≡ recordOut i vol m st a
-  unfolding writeOut onTail
-  write-here = rw at (pick-true _ _ (lt-ltb i (st .head .chunk) room))
-
   flush-here : Here i m st (flushOf vol m st a)
   unfolding flushOf
   flush-here =
-      let x : Here i m st (writeOut vol m st a) = subst (Here i m st) (sym write-here) record-here in
+      let x : Here i m st (writeOut vol m st a) = subst (Here i m st) (sym (write-here vol m st a i at room)) record-here in
       onDone-keeps (Here i m st) (writeOut vol m st a .ans .outcome) _ _ (λ _. x)
       (λ e _. record { one = x .one; store = clash refl; tail = clash refl; fill = clash refl })
 

@@ -1,5 +1,5 @@
 -- The input in parts: a line's answer, a piece up to a line's end, and a part piece by piece. Assumes nothing.
-use Prim.Native.Nat.{ℕ, _-_, _≤_, _<_}
+use Prim.Native.Nat.{ℕ, _-_, _≤_}
 use mathlib.Core.Path.{_≡_, refl, sym, ap, _∙_}
 use mathlib.Core.Bool.{Bool, true, false, not}
 use mathlib.Core.List.{List, [], _∷_}
@@ -11,14 +11,15 @@ use Rattle.le.specs.Choice.{pick}
 use Rattle.le.specs.Part.{zeros}
 use Rattle.le.proofs.Parts.{length-zeros}
 use Rattle.le.proofs.Turns.{drop-end}
+use Rattle.decimal.specs.Decimal.{Put}
 use Rattle.session.specs.declared.Session.{Session}
 use Rattle.session.specs.declared.Told.{Told}
 use Rattle.session.specs.Session.{Turn, turnOf, saidOf, stepOf}
 use Rattle.lines.specs.declared.input.Gathered.{Gathered}
 use Rattle.lines.specs.declared.Passed.{Passed}
-use Rattle.lines.specs.Text.{saidText, Put, Few}
-use Rattle.lines.specs.Input.{keptOf, Gathering, gatherOf, GatheredAt}
-use Rattle.lines.specs.Program.{lineTurn, lineText, Held, held, afterLine, Piece, pieceOf, PassedAt, FedPart, saying, feedOf, lastText, turnsAfter}
+use Rattle.lines.specs.Text.{saidText, Few}
+use Rattle.lines.specs.Input.{keptOf, gatherOf, GatheredAt}
+use Rattle.lines.specs.Program.{lineTurn, lineText, Held, held, afterLine, pieceOf, PassedAt, FedPart, saying, feedOf, lastText, turnsAfter}
 use Rattle.lines.proofs.Pens.{put-none}
 use Rattle.lines.proofs.Counts.{step-few}
 

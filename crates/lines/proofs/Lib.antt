@@ -1,4 +1,3 @@
-pub mod Decimal
 pub mod Pens
 pub mod Gathers
 pub mod Counts

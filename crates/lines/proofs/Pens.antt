@@ -1,48 +1,34 @@
 -- Texts put one after the other, and what each function that puts one promises. Assumes nothing.
-use Prim.Native.Nat.{ℕ, zero, suc, _+_, _-_, _*_, _≤_, _<_}
-use mathlib.Core.Path.{_≡_, refl, sym, ap, ap₂, _∙_, subst}
+use Prim.Native.Nat.{ℕ, _+_, _-_, _*_, _≤_}
+use mathlib.Core.Path.{_≡_, subst}
 use mathlib.Core.List.{List, [], _∷_, _++_}
 use native.Mathlib.Numerals.{add-one}
 use native.Mathlib.Omega.{arith}
-use lib.ListN.{length, take, drop, length-append, length-take, length-drop}
+use lib.ListN.{length, take, drop, length-take, length-drop}
 use lib.Seq.{sets-eq}
-use Rattle.io.specs.Digits.{digits, Fewest}
 use Rattle.le.specs.Field.{getLe}
 use Rattle.le.specs.Part.{part, over}
-use Rattle.le.proofs.Parts.{length-part, length-over, over-over}
+use Rattle.le.proofs.Parts.{length-part}
+use Rattle.decimal.specs.Decimal.{Put}
+use Rattle.decimal.proofs.Texts.{text-room}
+use Rattle.decimal.proofs.Puts.{put-then}
 use Rattle.names.specs.Names.{textLen}
 use Rattle.medium.specs.declared.Error.{Error}
 use Rattle.medium.specs.Refusal.{numberOf}
 use Rattle.session.specs.declared.Reply.{Reply}
 use Rattle.session.specs.declared.Reply.the-variants.{Number, Rows, No}
 use Rattle.session.specs.Session.{saidOf}
-use Rattle.lines.specs.Text.{decimalText, fieldText, okWord, noWord, wordText, rowText, rowsText, saidText, Put, Few}
-use Rattle.lines.proofs.Decimal.{decimal-is}
+use Rattle.lines.specs.Text.{fieldText, okWord, noWord, wordText, rowText, rowsText, saidText, Few}
 
--- one text after another is the two in a row
-pub put-then : (at : ℕ) (a b l : List ℕ) {m k : List ℕ} {e f : ℕ} → f ≤ length l → Put at a l m e → Put e b m k f → Put at (a ++ b) l k f
-put-then at a b l h p q =
-    let s : length (a ++ b) ≡ length a + length b = length-append a b in
-    (rw (q .0, p .1, p .0) (over-over at a b l (omega (arith, p .1, q .1))), omega (arith, p .1, q .1, s))
-
+-- no text
 pub put-none : (at : ℕ) (l : List ℕ) → at ≤ length l → Put at [] l l at
 unfolding over
 put-none at l h = (sets-eq [] l at (omega arith), omega arith)
 
--- a text leaves the buffer's length
-pub put-length : (at : ℕ) (a l : List ℕ) {m : List ℕ} {e : ℕ} → e ≤ length l → Put at a l m e → length m ≡ length l
-put-length at a l h p = rw (p .0) (length-over at a l (omega (arith, p .1)))
-
 -- a tab and the digits
-pub field-room : (at k : ℕ) (l ds : List ℕ) {m : List ℕ} {a : ℕ} → at + 21 ≤ length l → k ≤ 20 → length (take k ds) ≡ k → Put at (9 ∷ []) l m a → a + length (take k ds) ≤ length m
-field-room at k l ds room few s p = rw (put-length at (9 ∷ []) l (omega (arith, p .1)) p) (omega (arith, p .1))
-
-pub field-put : (at n k : ℕ) (l ds : List ℕ) {m o : List ℕ} {a r : ℕ} → at + 21 ≤ length l → k ≤ 20 → Fewest 10 1 n k → take k ds ≡ digits 10 k n → length (take k ds) ≡ k
-    → Put at (9 ∷ []) l m a → Put a (take k ds) m o r → Put at (fieldText n) l o r × (r ≤ at + 21)
+pub field-few : (n : ℕ) → length (fieldText n) ≤ 21
 unfolding fieldText
-field-put at n k l ds {o = o} {r = r} room few f e s p q =
-    let d : take k ds ≡ decimalText n = e ∙ decimal-is k n few f in
-    (subst (λ (x : List ℕ). Put at (9 ∷ x) l o r) d (put-then at (9 ∷ []) (take k ds) l (omega (arith, p .1, q .1)) p q), omega (arith, p .1, q .1))
+field-few n = omega (arith, text-room n)
 
 module _ (l : List ℕ) where
   -- a word of two letters, a field, a line feed

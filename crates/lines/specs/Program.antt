@@ -2,16 +2,16 @@
 -- input in parts and keeps little of it: proofs/Whole has that the two are one. Assumes nothing.
 use Prim.Native.Nat.{ℕ, _-_}
 use mathlib.Core.Path.{_≡_}
-use mathlib.Core.Bool.{Bool}
 use mathlib.Core.List.{List, [], _∷_, _++_}
 use lib.Dec.{eqb}
 use lib.ListN.{length, take, drop}
 use Rattle.le.specs.Choice.{pick}
 use Rattle.le.specs.Part.{zeros}
+use Rattle.decimal.specs.Decimal.{Put}
 use Rattle.session.specs.declared.Session.{Session}
 use Rattle.session.specs.Session.{Turn, startOf, stepOf}
 use Rattle.lines.specs.declared.Passed.{Passed}
-use Rattle.lines.specs.Text.{saidText, Put}
+use Rattle.lines.specs.Text.{saidText}
 use Rattle.lines.specs.Input.{linesOf, keptOf, Gathering, gatherOf}
 
 -- ---- line by line

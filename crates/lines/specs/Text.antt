@@ -1,23 +1,12 @@
 -- 01, "Hosts", the line program: what it prints. Fields are parted by tabs, numbers are decimal, and a line feed ends each line. Assumes nothing.
-use Prim.Native.Nat.{ℕ, zero, suc, _+_, _*_, _/_, _%_, _≤_}
-use mathlib.Core.Path.{_≡_}
+use Prim.Native.Nat.{ℕ, zero, suc, _*_, _≤_}
 use mathlib.Core.List.{List, [], _∷_, _++_}
-use lib.Dec.{ltb}
-use lib.ListN.{length, take}
-use Rattle.le.specs.Choice.{pick}
+use lib.ListN.{take}
 use Rattle.le.specs.Field.{getLe}
-use Rattle.le.specs.Part.{part, over}
+use Rattle.le.specs.Part.{part}
+use Rattle.decimal.specs.Decimal.{decimalText}
 use Rattle.names.specs.Names.{textLen}
 use Rattle.session.specs.Session.{Said, ok, listed, no}
-
--- the digits of a number, the highest first, at most k of them
-unfoldable pub digitsOf : ℕ → ℕ → List ℕ
-digitsOf zero n = []
-digitsOf (suc k) n = pick (ltb n 10) ((48 + n) ∷ []) (digitsOf k (n / 10) ++ ((48 + n % 10) ∷ []))
-
--- a number of 64 bits has at most 20
-unfoldable pub decimalText : ℕ → List ℕ
-decimalText n = digitsOf 20 n
 
 -- a further field
 unfoldable pub fieldText : ℕ → List ℕ
@@ -47,10 +36,6 @@ unfoldable pub saidText : Said → List ℕ → List ℕ
 saidText (ok n) rows = wordText okWord n
 saidText (listed n) rows = wordText okWord n ++ rowsText n rows
 saidText (no n) rows = wordText noWord n
-
--- a text put at a place of a buffer, and where it ends
-abbrev pub Put : ℕ → List ℕ → List ℕ → List ℕ → ℕ → Type 0
-Put at text before after end = (after ≡ over at text before) × (end ≡ at + length text)
 
 -- a list has at most 64 rows
 abbrev pub Few : Said → Type 0

@@ -8,8 +8,8 @@ use session::Session;
 ghost use mathlib.Core.Path.{_≡_};
 ghost use Prim.Native.Nat.{_≤_, _<_};
 ghost use lib.ListN.{length, take, drop};
+ghost use Rattle.decimal.specs.Decimal.{Put};
 ghost use Rattle.lines.specs.Program.{lineTurn, lineText, held, pieceOf, PassedAt, feedOf, lastText, turnsAfter};
-ghost use Rattle.lines.specs.Text.{Put};
 
 // What is held after a line, and how many bytes its answer has.
 struct Answered {

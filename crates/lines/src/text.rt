@@ -3,8 +3,9 @@ use session::Reply;
 ghost use mathlib.Core.Path.{_≡_};
 ghost use Prim.Native.Nat.{_+_, _*_, _≤_};
 ghost use lib.ListN.{length};
+ghost use Rattle.decimal.specs.Decimal.{Put};
 ghost use Rattle.session.specs.Session.{saidOf};
-ghost use Rattle.lines.specs.Text.{fieldText, wordText, rowText, rowsText, saidText, Put, Few};
+ghost use Rattle.lines.specs.Text.{fieldText, wordText, rowText, rowsText, saidText, Few};
 
 // Answers where the bytes end.
 fn put(out: &mut [u8], at: usize, bytes: &[u8]) -> usize
@@ -20,10 +21,7 @@ fn put_field(out: &mut [u8], at: usize, n: u64) -> usize
     requires { ⌜ at + 21 ≤ length (now out) ⌝ }
     ensures { λ r. ⌜ Put at (fieldText n) (now (out .entry)) (now (out .exit)) r × (r ≤ at + 21) ⌝ }
 {
-    let mut digits = [0u8; 20];
-    let k = io::decimal(n, &mut digits);
-    let a = put(&mut *out, at, b"\t");
-    put(out, a, &digits[..k])
+    decimal::put_field(out, at, n)
 }
 
 // `ok` or `no` and a number, at the start.

@@ -1,11 +1,11 @@
--- 01, "Refused because of the input" and ".. of the state": the twelve refusals and their numbers. Assumes nothing.
+-- 01, "Refused because of the input" and ".. of the state": the twelve refusals and their numbers; 13 to 15 are 02's, of S-1. Assumes nothing.
 use Prim.Native.Nat.{ℕ}
 use Rattle.medium.specs.declared.Error.{Error}
 use Rattle.medium.specs.declared.Error.the-variants as no
 use Rattle.medium.specs.declared.Outcome.{Outcome}
 use Rattle.medium.specs.declared.Outcome.the-variants.{Done, No}
 
--- the number that 01 gives a refusal
+-- the number that 01, or 02, gives a refusal
 abbrev pub numberOf : Error → ℕ
 numberOf no.Name = 1
 numberOf no.Range = 2
@@ -19,6 +19,9 @@ numberOf no.NotFound = 9
 numberOf no.Full = 10
 numberOf no.Stale = 11
 numberOf no.Spent = 12
+numberOf no.Point = 13
+numberOf no.Known = 14
+numberOf no.Lost = 15
 
 -- what a call on offer answers, as 01 has it: the values of an accepted call, or the number of a refusal
 pub data Answer (A : Type 0) : Type 0 where

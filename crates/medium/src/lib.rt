@@ -14,7 +14,7 @@ pub struct Medium {
     pub token: u32,
 }
 
-// The Rust's refusals, and the port's own Handle and Spent.
+// The Rust's refusals, the port's own Handle and Spent, and those of document 02.
 pub enum Error {
     Media,
     Uninitialized,
@@ -28,6 +28,9 @@ pub enum Error {
     Range,
     Handle,
     Spent,
+    Point,
+    Known,
+    Lost,
 }
 
 pub enum Outcome {
@@ -40,7 +43,7 @@ pub struct Written {
     pub medium: Medium,
 }
 
-// 01's number of a refusal.
+// A refusal's number in 01 and 02.
 pub fn number(e: Error) -> u32
     ensures { λ r. ⌜ r ≡ numberOf e ⌝ }
 {
@@ -57,6 +60,9 @@ pub fn number(e: Error) -> u32
         Error::Full => 10,
         Error::Stale => 11,
         Error::Spent => 12,
+        Error::Point => 13,
+        Error::Known => 14,
+        Error::Lost => 15,
     }
 }
 

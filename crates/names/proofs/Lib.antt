@@ -1,3 +1,4 @@
 pub mod Scan
 pub mod Laws
 pub mod Edges
+pub mod Points

@@ -58,3 +58,14 @@ inDir dir name = startsWith dir name
 unfoldable pub textLen : List ℕ → ℕ
 textLen [] = 0
 textLen (b ∷ bs) = pick (eqb b 0) 0 (1 + textLen bs)
+
+-- ---- S-1: the name of a point
+
+-- every byte is of the alphabet without `/`
+unfoldable pub everyPlain : List ℕ → Bool
+everyPlain [] = true
+everyPlain (b ∷ bs) = plainByte b && everyPlain bs
+
+-- 1 to 16 of them
+unfoldable pub pointOk : List ℕ → Bool
+pointOk l = between 1 16 (length l) && everyPlain l

@@ -2,7 +2,7 @@
 ghost use mathlib.Core.Path.{_≡_};
 ghost use Prim.Native.Nat.{_≤_};
 ghost use lib.ListN.{length};
-ghost use Rattle.names.specs.Names.{plainByte, nameOk, dirOk, inDir, textLen};
+ghost use Rattle.names.specs.Names.{plainByte, nameOk, dirOk, inDir, textLen, pointOk};
 
 // The most bytes of a name, and of a directory with its `/`.
 pub const NAME: usize = 40;
@@ -74,4 +74,25 @@ pub fn text_len(bytes: &[u8]) -> usize
         }
     }
     bytes.len()
+}
+
+// S-1: the most bytes of a point's name.
+pub const POINT: usize = 16;
+
+// S-1: the name of a point.
+pub fn point_ok(bytes: &[u8]) -> bool
+    ensures { λ r. ⌜ r ≡ pointOk (now (bytes .entry)) ⌝ }
+{
+    if bytes.len() == 0 {
+        return false;
+    }
+    if bytes.len() > POINT {
+        return false;
+    }
+    for i in 0..bytes.len() {
+        if !plain_byte(bytes[i]) {
+            return false;
+        }
+    }
+    true
 }

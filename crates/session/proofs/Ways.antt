@@ -7,11 +7,11 @@ use borrow.Author.Tests.{not-true, not-false}
 use lib.ListN.{length, take, drop}
 use Rattle.le.specs.Choice.{pick}
 use Rattle.le.specs.Part.{zeros}
+use Rattle.decimal.proofs.Ends.{tail-part}
 use Rattle.words.specs.declared.Parsed.{Parsed}
 use Rattle.words.specs.declared.Parsed.the-variants as is
 use Rattle.words.specs.Words.{noRollover, rollover, list, lineOf, meaning, within}
 use Rattle.words.proofs.Forms.{parsed-as}
-use Rattle.words.proofs.Split.{tail-part}
 use Rattle.medium.specs.declared.Error.{Error}
 use Rattle.medium.specs.declared.Error.the-variants.{Range, Uninitialized, Stale}
 use Rattle.medium.specs.declared.Outcome.{Outcome}

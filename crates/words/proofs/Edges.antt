@@ -6,7 +6,8 @@ use lib.ListN.{replicate}
 use Rattle.le.specs.Choice.{pick}
 use Rattle.runs.specs.Run.{sameBytes}
 use Rattle.runs.specs.Split.{longer, splitAt}
-use Rattle.words.specs.Words.{isDigit, allDigits, valueFrom, decimalFrom, decimalOf, noRollover, rollover, format, create, append, sync, delete, list, other}
+use Rattle.decimal.specs.Decimal.{isDigit, allDigits, valueFrom, decimalFrom, decimalOf}
+use Rattle.words.specs.Words.{noRollover, rollover, format, create, append, sync, delete, list, other}
 use Rattle.words.specs.Words.{formatWord, createWord, appendWord, syncWord, deleteWord, listWord, rolloverOf, aloneOf, withOneOf, bothOf, formatOf, withTwoOf, ofFields, lineOf}
 
 pub record Edges : Type 0 where

@@ -1,4 +1,3 @@
 pub mod Split
-pub mod Digits
 pub mod Forms
 pub mod Edges

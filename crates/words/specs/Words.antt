@@ -1,53 +1,17 @@
 -- 01, "Hosts": one line of the line program, without its line feed. Its fields are parted by tabs, and numbers are decimal. A line of another form, of
 -- over 600 bytes or with a number past its width (size 32 bits, seed 64) is `other`: the program answers it with 2. Assumes nothing.
-use Prim.Native.Nat.{ℕ, _+_, _-_, _*_, _≤_}
-use mathlib.Core.Bool.{Bool, true, _&&_}
+use Prim.Native.Nat.{ℕ, _-_, _≤_}
 use mathlib.Core.List.{List, [], _∷_}
 use lib.Dec.{leb}
-use lib.ListN.{length, getD, take, drop}
+use lib.ListN.{length, take, drop}
 use Rattle.le.specs.Choice.{pick}
 use Rattle.runs.specs.Run.{sameBytes}
-use Rattle.runs.specs.Split.{splitAt}
-use Rattle.words.specs.declared.Number.{Number}
-use Rattle.words.specs.declared.Number.the-variants.{Nothing, Value}
+use Rattle.decimal.specs.declared.Number.{Number}
+use Rattle.decimal.specs.declared.Number.the-variants.{Nothing, Value}
+use Rattle.decimal.specs.Fields.{fields}
+use Rattle.decimal.specs.Decimal.{decimalOf}
 use Rattle.words.specs.declared.Parsed.{Parsed}
 use Rattle.words.specs.declared.Parsed.the-variants.{Other, Format, Create, Append, Sync, Delete, List as Listed}
-
--- ---- fields
-
--- the line split at each tab
-abbrev pub fields : List ℕ → List (List ℕ)
-fields l = splitAt 9 l
-
--- the length of the first field
-unfoldable pub fieldLen : List ℕ → ℕ
-fieldLen l = length (getD (fields l) 0 [])
-
--- ---- numbers
-
--- 0-9
-unfoldable pub isDigit : ℕ → Bool
-isDigit b = leb 48 b && leb b 57
-
-unfoldable pub allDigits : List ℕ → Bool
-allDigits [] = true
-allDigits (b ∷ bs) = isDigit b && allDigits bs
-
--- the number that digits say, the highest first, where those before them say n
-unfoldable pub valueFrom : ℕ → List ℕ → ℕ
-valueFrom n [] = n
-valueFrom n (b ∷ bs) = valueFrom (n * 10 + (b - 48)) bs
-
--- the same where the bytes are digits and the number is at most the largest of its width; else there is none
-unfoldable pub decimalFrom : ℕ → ℕ → List ℕ → Number
-decimalFrom max n l = pick (allDigits l && leb (valueFrom n l) max) (Value (valueFrom n l)) Nothing
-
--- the number of a field: no empty field is one, and leading zeros are allowed
-unfoldable pub decimalOf : ℕ → List ℕ → Number
-decimalOf max [] = Nothing
-decimalOf max (b ∷ bs) = decimalFrom max 0 (b ∷ bs)
-
--- ---- lines
 
 -- a create's third field
 pub data Rollover : Type 0 where

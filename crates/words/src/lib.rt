@@ -1,8 +1,9 @@
 // One line of the line program, read: its word, its numbers, and where its other parts lie.
+use decimal::Number;
 ghost use mathlib.Core.Path.{_≡_};
 ghost use Prim.Native.Nat.{_+_, _-_, _≤_, _<_};
 ghost use lib.ListN.{length, take, drop};
-ghost use Rattle.words.specs.Words.{fieldLen, isDigit, decimalOf, aloneOf, withOneOf, formatOf, withTwoOf, lineOf, meaning, within};
+ghost use Rattle.words.specs.Words.{aloneOf, withOneOf, formatOf, withTwoOf, lineOf, meaning, within};
 
 // The most bytes of a line, without its line feed.
 pub const LINE: usize = 600;
@@ -28,53 +29,6 @@ pub enum Parsed {
         from: usize,
     },
     List,
-}
-
-enum Number {
-    Nothing,
-    Value(u64),
-}
-
-// The place of the first tab from here on, or the end of the line.
-fn field_end(line: &[u8], from: usize) -> usize
-    requires { ⌜ from ≤ length (now line) ⌝ }
-    ensures { λ r. ⌜ (r ≡ from + fieldLen (drop from (now (line .entry)))) × (from ≤ r) × (r ≤ length (now (line .entry))) ⌝ }
-{
-    for i in from..line.len() {
-        if line[i] == b'\t' {
-            return i;
-        }
-    }
-    line.len()
-}
-
-fn is_digit(b: u8) -> bool
-    ensures { λ r. ⌜ r ≡ isDigit b ⌝ }
-{
-    (b >= b'0') & (b <= b'9')
-}
-
-// Each step is tested before it is taken, so that no sum goes past the largest number.
-fn decimal(text: &[u8], max: u64) -> Number
-    requires { ⌜ 9 ≤ max ⌝ }
-    ensures { λ r. ⌜ r ≡ decimalOf max (now (text .entry)) ⌝ }
-{
-    if text.len() == 0 {
-        return Number::Nothing;
-    }
-    let mut value: u64 = 0;
-    for i in 0..text.len() {
-        let b = text[i];
-        if !is_digit(b) {
-            return Number::Nothing;
-        }
-        let digit = (b - b'0') as u64;
-        if value > (max - digit) / 10 {
-            return Number::Nothing;
-        }
-        value = value * 10 + digit;
-    }
-    Number::Value(value)
 }
 
 // A line with no tab.
@@ -114,10 +68,10 @@ fn format_line(line: &[u8], from: usize, tab: usize) -> Parsed
         × within (now (line .entry)) r ⌝ }
 {
     let last = tab + 1;
-    let Number::Value(size) = decimal(&line[from..tab], 0xffff_ffff) else {
+    let Number::Value(size) = decimal::read(&line[from..tab], 0xffff_ffff) else {
         return Parsed::Other;
     };
-    let Number::Value(seed) = decimal(&line[last..], 0xffff_ffff_ffff_ffff) else {
+    let Number::Value(seed) = decimal::read(&line[last..], 0xffff_ffff_ffff_ffff) else {
         return Parsed::Other;
     };
     Parsed::Format {
@@ -159,15 +113,15 @@ pub fn parse(line: &[u8]) -> Parsed
     if line.len() > LINE {
         return Parsed::Other;
     }
-    let first = field_end(line, 0);
+    let first = decimal::field_end(line, 0);
     if first == line.len() {
         return alone(line);
     }
-    let second = field_end(line, first + 1);
+    let second = decimal::field_end(line, first + 1);
     if second == line.len() {
         return with_one(line, first);
     }
-    let third = field_end(line, second + 1);
+    let third = decimal::field_end(line, second + 1);
     if third < line.len() {
         return Parsed::Other;
     }

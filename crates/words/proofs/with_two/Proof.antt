@@ -1,12 +1,12 @@
 -- `with-two` meets its contract. Assumes nothing.
 use borrow.Author.Needs.{needs}
-use mathlib.Core.Path.{refl, _∙_}
+use mathlib.Core.Path.{_∙_}
 use native.Mathlib.Nat.{sub-zero}
 use borrow.Author.Tests.{not-true, not-false}
 use Rattle.le.specs.Choice.{pick}
 use Rattle.le.proofs.Turns.{told}
+use Rattle.decimal.proofs.Ends.{tail-part}
 use Rattle.words.specs.Words.{withTwoOf, meaning, within}
-use Rattle.words.proofs.Split.{tail-part}
 use Rattle.words.proofs.Forms.{is-create}
 use Rattle.words.proofs.with_two.Statement.{statement}
 use Rattle.words.proofs.with_two.Tie as tie

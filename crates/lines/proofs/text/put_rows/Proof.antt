@@ -3,9 +3,10 @@ use Prim.Native.Nat.{ℕ, _+_, _-_, _*_, _≤_}
 use mathlib.Core.Path.{_≡_, refl, subst}
 use native.Mathlib.Omega.{arith}
 use lib.ListN.{length}
-use Rattle.le.specs.Part.{part}
-use Rattle.lines.specs.Text.{rowsText, Put}
-use Rattle.lines.proofs.Pens.{put-length, rows-none, row-lent, rows-more}
+use Rattle.decimal.specs.Decimal.{Put}
+use Rattle.decimal.proofs.Puts.{put-length}
+use Rattle.lines.specs.Text.{rowsText}
+use Rattle.lines.proofs.Pens.{rows-none, row-lent, rows-more}
 use Rattle.lines.proofs.text.put_rows.Statement.{statement}
 use Rattle.lines.proofs.text.put_rows.Tie as tie
 

@@ -1,8 +1,8 @@
 -- `is-digit` meets its contract. Assumes nothing.
 use mathlib.Core.Path.{refl}
-use Rattle.words.specs.Words.{isDigit}
-use Rattle.words.proofs.is_digit.Statement.{statement}
-use Rattle.words.proofs.is_digit.Tie as tie
+use Rattle.decimal.specs.Decimal.{isDigit}
+use Rattle.decimal.proofs.is_digit.Statement.{statement}
+use Rattle.decimal.proofs.is_digit.Tie as tie
 
 returns : tie.Need-returns
 unfolding isDigit

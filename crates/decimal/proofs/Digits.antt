@@ -5,13 +5,13 @@ use mathlib.Core.Bool.{Bool, true, false, _&&_, and-false}
 use mathlib.Core.List.{List, [], _∷_}
 use native.Mathlib.Omega.{arith}
 use borrow.Author.Tests.{le-leb, lt-leb, leb-true}
-use lib.Dec.{leb}
+use lib.Dec.{eqb, leb}
 use lib.ListN.{length, getD, drop}
 use Rattle.le.specs.Choice.{pick}
 use Rattle.le.proofs.Turns.{drop-one, drop-end}
 use Rattle.le.proofs.Bools.{and-true}
-use Rattle.words.specs.declared.Number.the-variants.{Nothing, Value}
-use Rattle.words.specs.Words.{isDigit, allDigits, valueFrom, decimalFrom, decimalOf}
+use Rattle.decimal.specs.declared.Number.the-variants.{Nothing, Value}
+use Rattle.decimal.specs.Decimal.{isDigit, allDigits, valueFrom, decimalFrom, decimalOf, leadingZero, plainOf}
 
 pub digit-range : (b : ℕ) → isDigit b ≡ true → (48 ≤ b) × (b ≤ 57)
 unfolding isDigit
@@ -56,21 +56,46 @@ pub digit-end : (max n : ℕ) (l : List ℕ) (i : ℕ) → length l ≤ i → n 
 unfolding decimalFrom allDigits valueFrom pick
 digit-end max n l i h k = rw (drop-end l i h, le-leb n max k)
 
--- ---- a number is at most the largest one
+-- ---- what a number tells of its text
 
-from-most : (max n k : ℕ) (l : List ℕ) (t : Bool) → allDigits l && leb (valueFrom n l) max ≡ t → decimalFrom max n l ≡ Value k → k ≤ max
+from-said : (max n k : ℕ) (l : List ℕ) (t : Bool) → allDigits l && leb (valueFrom n l) max ≡ t → decimalFrom max n l ≡ Value k → (allDigits l ≡ true) × (valueFrom n l ≡ k) × (k ≤ max)
 unfolding decimalFrom pick
-from-most max n k l true e h =
-    let z : valueFrom n l ≤ max = leb-true (valueFrom n l) max (and-true (allDigits l) (leb (valueFrom n l) max) e .1) in
+from-said max n k l true e h =
+    let both = and-true (allDigits l) (leb (valueFrom n l) max) e in
+    let z : valueFrom n l ≤ max = leb-true (valueFrom n l) max (both .1) in
     let v : Value (valueFrom n l) ≡ Value k = rw e at h in
     let q : valueFrom n l ≡ k = cc in
-    omega arith
-from-most max n k l false e h =
+    (both .0, q, omega arith)
+from-said max n k l false e h =
     let v : Nothing ≡ Value k = rw e at h in
     let z : _≡_ {A = ℕ} 0 1 = cc in
-    omega arith
+    absurd (omega arith)
+
+pub decimal-said : (max n : ℕ) (l : List ℕ) → decimalOf max l ≡ Value n → (1 ≤ length l) × (allDigits l ≡ true) × (valueFrom 0 l ≡ n) × (n ≤ max)
+unfolding decimalOf
+decimal-said max n [] e = let z : _≡_ {A = ℕ} 0 1 = cc in absurd (omega arith)
+decimal-said max n (b ∷ bs) e =
+    let said = from-said max 0 n (b ∷ bs) (allDigits (b ∷ bs) && leb (valueFrom 0 (b ∷ bs)) max) refl e in
+    (omega arith, said .0, said .1, said .2)
 
 pub decimal-most : (max n : ℕ) (l : List ℕ) → decimalOf max l ≡ Value n → n ≤ max
-unfolding decimalOf
-decimal-most max n [] e = let z : _≡_ {A = ℕ} 0 1 = cc in omega arith
-decimal-most max n (b ∷ bs) e = from-most max 0 n (b ∷ bs) (allDigits (b ∷ bs) && leb (valueFrom 0 (b ∷ bs)) max) refl e
+decimal-most max n l e = decimal-said max n l e .3
+
+-- ---- no leading zero
+
+module _ (l : List ℕ) where
+  pub short-zero : length l < 2 → leadingZero l ≡ false
+  unfolding leadingZero
+  short-zero h = rw (lt-leb 2 (length l) h)
+
+  pub long-zero : 2 ≤ length l → leadingZero l ≡ eqb (getD l 0 0) 48
+  unfolding leadingZero
+  long-zero h = rw (le-leb 2 (length l) h)
+
+  pub plain-zero : (max : ℕ) → leadingZero l ≡ true → plainOf max l ≡ Nothing
+  unfolding plainOf pick
+  plain-zero max e = rw e
+
+  pub plain-read : (max : ℕ) → leadingZero l ≡ false → plainOf max l ≡ decimalOf max l
+  unfolding plainOf pick
+  plain-read max e = rw e

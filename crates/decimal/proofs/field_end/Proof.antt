@@ -5,10 +5,10 @@ use mathlib.Core.Path.{_≡_, refl}
 use native.Mathlib.Omega.{arith}
 use denote.Ref.{now}
 use lib.ListN.{length, drop}
-use Rattle.words.specs.Words.{fieldLen}
-use Rattle.words.proofs.Split.{field-stop, field-next, field-none}
-use Rattle.words.proofs.field_end.Statement.{statement}
-use Rattle.words.proofs.field_end.Tie as tie
+use Rattle.decimal.specs.Fields.{fieldLen}
+use Rattle.decimal.proofs.Ends.{field-stop, field-next, field-none}
+use Rattle.decimal.proofs.field_end.Statement.{statement}
+use Rattle.decimal.proofs.field_end.Tie as tie
 
 abbrev Inv-loop : tie.InvT-loop
 Inv-loop line from i₀ i-end i = (from ≤ i) × (i ≤ length line) × (i-end ≡ length line) × (from + fieldLen (drop from line) ≡ i + fieldLen (drop i line))

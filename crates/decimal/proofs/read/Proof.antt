@@ -1,4 +1,4 @@
--- `decimal` meets its contract. Assumes nothing.
+-- `read` meets its contract. Assumes nothing.
 use borrow.Author.Needs.{needs}
 use Prim.Native.Nat.{_≤_, _-_}
 use mathlib.Core.Path.{_≡_, refl, sym, _∙_}
@@ -8,10 +8,10 @@ use borrow.Author.Tests.{not-true, not-false}
 use denote.Ref.{now}
 use lib.ListN.{length, getD, drop}
 use Rattle.le.proofs.Turns.{told}
-use Rattle.words.specs.Words.{isDigit, decimalFrom, decimalOf}
-use Rattle.words.proofs.Digits.{digit-range, decimal-none, decimal-some, digit-next, digit-stop, digit-past, digit-end}
-use Rattle.words.proofs.decimal.Statement.{statement}
-use Rattle.words.proofs.decimal.Tie as tie
+use Rattle.decimal.specs.Decimal.{isDigit, decimalFrom, decimalOf}
+use Rattle.decimal.proofs.Digits.{digit-range, decimal-none, decimal-some, digit-next, digit-stop, digit-past, digit-end}
+use Rattle.decimal.proofs.read.Statement.{statement}
+use Rattle.decimal.proofs.read.Tie as tie
 
 abbrev Inv-loop : tie.InvT-loop
 Inv-loop text max value₀ i₀ i-end value i =
@@ -79,8 +79,8 @@ returns-4 c =
     let a = c .before .before .before .before .args in
     sym (digit-end (a .max) (l .value) (now (a .text)) (l .i) (omega arith) (l .inv .2)) ∙ l .inv .3
 
-pub decimal-spec : {M : Type 1} → statement M
-decimal-spec =
+pub read-spec : {M : Type 1} → statement M
+read-spec =
     tie.close
     (tie.spec
     Inv-loop

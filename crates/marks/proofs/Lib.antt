@@ -1,0 +1,4 @@
+pub mod Lines
+pub mod Parted
+pub mod Round
+pub mod Edges

@@ -4,7 +4,7 @@ use mathlib.Core.Bool.{Bool, true, false, not, _&&_, _||_, false≢true}
 use mathlib.Core.List.{List}
 use Prim.Native.Nat.{ℕ, _+_, _*_, _<_, _≤_}
 use native.Mathlib.Omega.{arith}
-use borrow.Author.Tests.{not-true}
+use borrow.Author.Tests.{not-true, eqb-true}
 use lib.Dec.{eqb, ltb}
 use lib.ListN.{length, drop}
 use lib.Seq.{drop-drop}
@@ -15,6 +15,8 @@ use Rattle.le.proofs.Bools.{and-true}
 use Rattle.runs.specs.Run.{sameBytes}
 use Rattle.runs.proofs.Tests.{same-true}
 use Rattle.names.specs.Names.{nameOk, inDir}
+use Rattle.medium.specs.declared.Error.{Error}
+use Rattle.medium.specs.declared.Error.the-variants.{NotFound, Lost}
 use Rattle.medium.specs.declared.Medium.{Medium}
 use Rattle.handles.specs.declared.Store.{Store}
 use Rattle.directory.specs.declared.Found.{Found}
@@ -28,7 +30,7 @@ use Rattle.directory.specs.declared.Seen.{Seen}
 use Rattle.directory.specs.declared.Slot.the-variants as slot
 use Rattle.directory.specs.Entry.{entryOf, entryAt, slotAt}
 use Rattle.directory.specs.Rows.{rowOf, Made, rowMade, listing, rowsOf}
-use Rattle.directory.specs.Scan.{finding, findOf, freeSeen, fileSeen, looking, lookOf, olderOf, seeking, oldestOf}
+use Rattle.directory.specs.Scan.{scanOf, first, findOf, findIdOf, freeSeen, fileSeen, looking, lookOf, olderOf, seeking, oldestOf}
 use Rattle.directory.proofs.Entries.{found-file, slot-file, slot-free}
 use Rattle.directory.proofs.RowParts.{length-row}
 use Rattle.directory.proofs.Scans.{Left, scan-keeps}
@@ -73,22 +75,28 @@ pub record MadeFrom (rows : List ℕ) (most : ℕ) (s : Made) : Type 0 where
   pub rest : drop (48 * s .count) (s .rows) ≡ drop (48 * s .count) rows
 
 module _ (vol : List ℕ) (m : Medium) (st : Store) where
-  -- ---- find
+  -- ---- find and find_id: the file is there, and the test takes it
 
-  abbrev FindQ : List ℕ → Found → Type 0
-  FindQ name (found.Refused e) = Unit
-  FindQ name (found.At i id) = FileAt vol st i id name
+  abbrev FirstQ : (ℕ → List ℕ → Bool) → Found → Type 0
+  FirstQ test (found.Refused e) = Unit
+  FirstQ test (found.At i id) = (name : List ℕ) × FileAt vol st i id name × (test id name ≡ true)
+
+  first-file : (test : ℕ → List ℕ → Bool) (none : Error) {i id : ℕ} → scanOf (first test none) vol m st tt ≡ found.At i id → FirstQ test (found.At i id)
+  first-file test none e =
+      subst (FirstQ test) e
+      (scan-keeps (first test none) vol m st (λ i t. Unit) (FirstQ test) (λ i t e h p q. tt) (λ i t h p q. tt)
+      (λ i t id len h p q.
+      let name : List ℕ = part 0 len (entryAt vol st i) in
+      pick-keeps-by (Left (λ u. Unit) (FirstQ test)) (test id name) _ _ (λ takes. (name, file-at vol m st i id len h q, takes)) (λ other. tt))
+      (λ t p. tt) tt tt)
 
   pub find-name : (name : List ℕ) {i id : ℕ} → findOf vol m st name ≡ found.At i id → FileAt vol st i id name
   unfolding findOf
-  find-name name e =
-      subst (FindQ name) e
-      (scan-keeps (finding name) vol m st (λ i t. Unit) (FindQ name) (λ i t e h p q. tt) (λ i t h p q. tt)
-      (λ i t id len h p q.
-      pick-keeps-by (Left (λ u. Unit) (FindQ name)) (sameBytes name (part 0 len (entryAt vol st i))) _ _
-      (λ same. rw (same-true name (part 0 len (entryAt vol st i)) same) (file-at vol m st i id len h q))
-      (λ other. tt))
-      (λ t p. tt) tt tt)
+  find-name name e = let f = first-file (λ _ n. sameBytes name n) NotFound e in rw (same-true name (f .0) (f .2)) (f .1)
+
+  pub find-id : (id : ℕ) {i k : ℕ} → findIdOf vol m st id ≡ found.At i k → (k ≡ id) × ((name : List ℕ) × FileAt vol st i k name)
+  unfolding findIdOf
+  find-id id e = let f = first-file (λ k _. eqb k id) Lost e in (eqb-true _ id (f .2), (f .0, f .1))
 
   -- ---- create's look
 

@@ -10,7 +10,7 @@ use Rattle.le.specs.Part.{part}
 use Rattle.runs.specs.Run.{sameBytes}
 use Rattle.names.specs.Names.{inDir}
 use Rattle.medium.specs.declared.Error.{Error}
-use Rattle.medium.specs.declared.Error.the-variants.{NotFound}
+use Rattle.medium.specs.declared.Error.the-variants.{NotFound, Lost}
 use Rattle.medium.specs.declared.Medium.{Medium}
 use Rattle.handles.specs.declared.Store.{Store}
 use Rattle.walk.specs.Walk.{Visit, next, stop, visits}
@@ -43,18 +43,29 @@ onSlot v e i s (slot.File id len) = v .file i id (part 0 len (e i)) s
 abbrev pub scanOf : {S R : Type 0} → Visitor S R → List ℕ → Medium → Store → S → R
 scanOf v vol m st s = visits (onSlot v (entryAt vol st)) (slotAt vol m st) (v .done) 64 0 s
 
--- find: the first file of the name; none is 9
-abbrev pub finding : List ℕ → Visitor Unit Found
-finding name =
+-- the first file, of slots in order, that a test of id and name takes; none is refused so
+abbrev pub first : (ℕ → List ℕ → Bool) → Error → Visitor Unit Found
+first test none =
     record {
       refuse = λ e s. found.Refused e;
       free = λ i s. next s;
-      file = λ i id n s. pick (sameBytes name n) (stop (found.At i id)) (next s);
-      done = λ s. found.Refused NotFound;
+      file = λ i id n s. pick (test id n) (stop (found.At i id)) (next s);
+      done = λ s. found.Refused none;
     }
+
+-- find: the first file of the name; none is 9
+abbrev pub finding : List ℕ → Visitor Unit Found
+finding name = first (λ _ n. sameBytes name n) NotFound
 
 unfoldable pub findOf : List ℕ → Medium → Store → List ℕ → Found
 findOf vol m st name = scanOf (finding name) vol m st tt
+
+-- 02, S-1: the first file of the id; none is 15
+abbrev pub findingId : ℕ → Visitor Unit Found
+findingId id = first (λ found _. eqb found id) Lost
+
+unfoldable pub findIdOf : List ℕ → Medium → Store → ℕ → Found
+findIdOf vol m st id = scanOf (findingId id) vol m st tt
 
 -- create's look: whether a file has the name, and the lowest free slot
 unfoldable pub freeSeen : ℕ → Seen → Seen

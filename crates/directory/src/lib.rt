@@ -12,7 +12,7 @@ ghost use Rattle.names.specs.Names.{inDir};
 ghost use Rattle.medium.specs.Sector.{sectorsOf};
 ghost use Rattle.handles.specs.Handles.{baseOf};
 ghost use Rattle.directory.specs.Entry.{entryBytes, entryOf, entryAt, slotAt};
-ghost use Rattle.directory.specs.Scan.{findOf, freeSeen, fileSeen, lookOf, olderOf, oldestOf};
+ghost use Rattle.directory.specs.Scan.{findOf, findIdOf, freeSeen, fileSeen, lookOf, olderOf, oldestOf};
 ghost use Rattle.directory.specs.Rows.{rowOf, rowsTold, rowsOf};
 
 // What a slot holds: the name of a file is the first `len` bytes of its entry.
@@ -124,6 +124,31 @@ pub fn find(volume: &[u8], medium: Medium, store: Store, name: &[u8]) -> Found
         }
     }
     Found::Refused(Error::NotFound)
+}
+
+// The file of this id, in the lowest slot of several: later sectors are not read.
+pub fn find_id(volume: &[u8], medium: Medium, store: Store, id: u32) -> Found
+    requires { ⌜ 64 ≤ sectorsOf (now volume) ⌝ }
+    ensures { λ r. ⌜ r ≡ findIdOf (now (volume .entry)) medium store id ⌝ }
+{
+    let mut next: usize = 0;
+    while next < 64 {
+        let slot = next;
+        let s = slot_at(volume, medium, store, slot);
+        next += 1;
+        match s {
+            Slot::Refused(e) => {
+                return Found::Refused(e);
+            }
+            Slot::Free => {}
+            Slot::File { id: found, len: _ } => {
+                if found == id {
+                    return Found::At { slot, id: found };
+                }
+            }
+        }
+    }
+    Found::Refused(Error::Lost)
 }
 
 // What create looks for: the name, and the lowest free slot.

@@ -1,15 +1,19 @@
--- What `find` and create's look answer, by the entries of the slots. Assumes nothing.
+-- What `find`, `find_id` and create's look answer, by the entries of the slots. Assumes nothing.
 use Prim.Native.Nat.{ℕ, _+_, _<_, _≤_}
 use mathlib.Core.Path.{_≡_, refl, sym, ap, ap₂, _∙_}
-use mathlib.Core.Bool.{true, false, false≢true}
+use mathlib.Core.Bool.{Bool, true, false, false≢true}
 use mathlib.Core.List.{List}
 use native.Mathlib.Omega.{arith}
 use borrow.Author.Count.{below-more, below-none}
+use borrow.Author.Tests.{eq-eqb, eqb-true}
+use lib.Dec.{eqb}
 use lib.ListN.{length}
 use Rattle.le.specs.Part.{part}
 use Rattle.le.proofs.Choices.{pick-keeps-by}
 use Rattle.runs.specs.Run.{sameBytes}
 use Rattle.runs.proofs.Tests.{same-true, same-self}
+use Rattle.medium.specs.declared.Error.{Error}
+use Rattle.medium.specs.declared.Error.the-variants.{NotFound, Lost}
 use Rattle.medium.specs.declared.Medium.{Medium}
 use Rattle.handles.specs.declared.Store.{Store}
 use Rattle.directory.specs.declared.Found.the-variants as found
@@ -19,7 +23,7 @@ use Rattle.directory.specs.declared.Seen.{Seen}
 use Rattle.directory.specs.declared.Slot.{Slot}
 use Rattle.directory.specs.declared.Slot.the-variants as slot
 use Rattle.directory.specs.Entry.{entryOf, entryAt}
-use Rattle.directory.specs.Scan.{finding, findOf, freeSeen, fileSeen, looking, lookOf}
+use Rattle.directory.specs.Scan.{scanOf, first, findOf, findIdOf, freeSeen, fileSeen, looking, lookOf}
 use Rattle.directory.proofs.Entries.{found-file}
 use Rattle.directory.proofs.Ranges.{FileAt, FreeAt, find-name, look-free}
 use Rattle.directory.proofs.Scans.{Left}
@@ -78,24 +82,56 @@ pub record Look (vol : List ℕ) (m : Medium) (st : Store) (name : List ℕ) (se
   pub vacant : seen .free ≡ true → diskOf vol st .entry (seen .slot) ≡ vacant
 
 module _ (vol : List ℕ) (m : Medium) (st : Store) (ok : Checked vol m st) (G : ℕ → List Segment) (good : Good (diskOf vol st) G) where
-  -- the file that has the name is found: no slot before it has it
-  pub find-there : (name : List ℕ) (s i : ℕ) → s < 64 → diskOf vol st .entry s ≡ named name i → findOf vol m st name ≡ found.At s i
-  unfolding findOf
-  find-there name s i h e =
-      scan-views vol m st ok (finding name) (λ k t. k ≤ s) (λ r. r ≡ found.At s i) (good .whole)
+  -- the file in slot s is found where the test takes it, and none in a slot before it
+  first-there : (test : ℕ → List ℕ → Bool) (none : Error) (name : List ℕ) (s i : ℕ) → s < 64 → diskOf vol st .entry s ≡ named name i → test i name ≡ true
+      → ((k : ℕ) (n : List ℕ) (j : ℕ) → k < 64 → diskOf vol st .entry k ≡ named n j → test j n ≡ true → s ≤ k) → scanOf (first test none) vol m st tt ≡ found.At s i
+  first-there test none name s i h e takes lowest =
+      scan-views vol m st ok (first test none) (λ k t. k ≤ s) (λ r. r ≡ found.At s i) (good .whole)
       (λ k t b p q. let n : k ≡ s → ⊥ = λ x. vacant≢named q (there k x) in omega arith)
       (λ k t n id b p q.
-      pick-keeps-by (Left (λ u. k + 1 ≤ s) (λ r. r ≡ found.At s i)) (sameBytes name n) _ _
+      pick-keeps-by (Left (λ u. k + 1 ≤ s) (λ r. r ≡ found.At s i)) (test id n) _ _
       (λ same.
-      let x : k ≡ s = good .names k s n name id i b h q e (sym (same-true name n same)) in
+      let l : s ≤ k = lowest k n id b q same in
+      let x : k ≡ s = omega arith in
       ap₂ found.At x (same-id q (there k x)))
       (λ other.
-      let x : k ≡ s → ⊥ = λ y. false≢true (sym other ∙ rw (same-name q (there k y)) (same-self name)) in
+      let x : k ≡ s → ⊥ = λ y. false≢true (sym other ∙ rw (same-name q (there k y), same-id q (there k y)) takes) in
       omega arith))
       (λ t p. absurd (omega arith)) tt (omega arith)
     where
       there : (k : ℕ) → k ≡ s → diskOf vol st .entry k ≡ named name i
       there k x = rw x e
+
+  -- the file that has the name is found, and the file that has the id: no slot before it has it
+  pub find-there : (name : List ℕ) (s i : ℕ) → s < 64 → diskOf vol st .entry s ≡ named name i → findOf vol m st name ≡ found.At s i
+  unfolding findOf
+  find-there name s i h e =
+      first-there (λ _ n. sameBytes name n) NotFound name s i h e (same-self name)
+      (λ k n j b q same. let x : k ≡ s = good .names k s n name j i b h q e (sym (same-true name n same)) in omega arith)
+
+  pub find-id-there : (name : List ℕ) (s i : ℕ) → s < 64 → diskOf vol st .entry s ≡ named name i → findIdOf vol m st i ≡ found.At s i
+  unfolding findIdOf
+  find-id-there name s i h e =
+      first-there (λ j _. eqb j i) Lost name s i h e (eq-eqb i i refl)
+      (λ k n j b q same. let x : k ≡ s = good .ids k s n name j i b h q e (eqb-true j i same) in omega arith)
+
+  -- no file is one that the test takes
+  first-none : (test : ℕ → List ℕ → Bool) (none : Error) → ((k : ℕ) (n : List ℕ) (j : ℕ) → k < 64 → diskOf vol st .entry k ≡ named n j → test j n ≡ true → ⊥)
+      → scanOf (first test none) vol m st tt ≡ found.Refused none
+  first-none test none never =
+      scan-views vol m st ok (first test none) (λ k t. Unit {0}) (λ r. r ≡ found.Refused none) (good .whole)
+      (λ k t b p q. tt)
+      (λ k t n id b p q. pick-keeps-by (Left (λ u. Unit {0}) (λ r. r ≡ found.Refused none)) (test id n) _ _ (λ same. absurd (never k n id b q same)) (λ other. tt))
+      (λ t p. refl) tt tt
+
+  pub find-none : (name : List ℕ) → ((s i : ℕ) → s < 64 → diskOf vol st .entry s ≡ named name i → ⊥) → findOf vol m st name ≡ found.Refused NotFound
+  unfolding findOf
+  find-none name none =
+      first-none (λ _ n. sameBytes name n) NotFound (λ k n j b q same. none k j b (q ∙ ap (λ (x : List ℕ). named x j) (sym (same-true name n same))))
+
+  pub find-id-none : (id : ℕ) → ((s : ℕ) (name : List ℕ) (i : ℕ) → s < 64 → diskOf vol st .entry s ≡ named name i → i ≡ id → ⊥) → findIdOf vol m st id ≡ found.Refused Lost
+  unfolding findIdOf
+  find-id-none id none = first-none (λ j _. eqb j id) Lost (λ k n j b q same. none k n j b q (eqb-true j id same))
 
   -- ---- create's look
 

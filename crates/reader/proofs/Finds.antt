@@ -225,7 +225,7 @@ module _ (vol : List ℕ) (m : Medium) (st : Store) (out : List ℕ) (ok : store
         let l : length (part 22 n (sectorAt vol (dataAt st (rd .chunk) (rd .index)))) ≡ n = length-part 22 n _ (omega arith) in
         length-over 0 _ out (omega arith)
 
-    take-finds : Finds st out (takeOf vol m st rd out)
+    pub take-finds : Finds st out (takeOf vol m st rd out)
     unfolding takeOf
     take-finds =
         onJudged-keeps (Finds st out) (recordHere vol m st rd (rd .index)) _ _ _

@@ -1,3 +1,4 @@
 pub mod Reader
 pub mod Next
 pub mod Calls
+pub mod Upto

@@ -78,7 +78,7 @@ impl Reader {
     }
 
     // The record at the reader's index, or the hole or the end there.
-    fn take(self, volume: &[u8], medium: Medium, store: Store, out: &mut [u8]) -> Taken
+    pub(crate) fn take(self, volume: &[u8], medium: Medium, store: Store, out: &mut [u8]) -> Taken
         requires { ⌜ (storeOk store (sectorsOf (now volume)) ≡ true) × (readerOk self store ≡ true)
             × (self .index < limitOf (self .end) (store .head .chunk)) × (486 ≤ length (now out)) ⌝ }
         ensures { λ r. ⌜ (now (out .exit) ≡ takeOf (now (volume .entry)) medium store self (now (out .entry)) .out)

@@ -2,6 +2,7 @@
 mod ends;
 mod enter;
 mod find;
+mod limits;
 mod refusals;
 
 use ends::end_of;
@@ -47,6 +48,18 @@ pub enum Next {
 pub struct Read {
     pub next: Next,
     pub reader: Reader,
+    pub medium: Medium,
+}
+
+// S-1: a reader, and the record number at which it ends.
+pub struct Upto {
+    pub reader: Reader,
+    pub limit: u32,
+}
+
+pub struct UptoRead {
+    pub next: Next,
+    pub upto: Upto,
     pub medium: Medium,
 }
 

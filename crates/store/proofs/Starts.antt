@@ -1,6 +1,6 @@
--- `reader`, by the way that it goes: a law for each return, over plain values. Assumes nothing.
+-- `reader` and `reader_of_id`, by the ways that they go: a law for each return, over plain values. Assumes nothing.
 use mathlib.Core.Path.{_≡_}
-use mathlib.Core.Bool.{Bool}
+use mathlib.Core.Bool.{Bool, true}
 use mathlib.Core.List.{List}
 use Prim.Native.Nat.{ℕ}
 use Rattle.names.specs.Names.{nameOk}
@@ -12,7 +12,7 @@ use Rattle.medium.specs.Refusal.{onDone}
 use Rattle.handles.specs.declared.Store.{Store}
 use Rattle.directory.specs.declared.Found.{Found}
 use Rattle.directory.specs.declared.Found.the-variants as found
-use Rattle.directory.specs.Scan.{findOf, onFound}
+use Rattle.directory.specs.Scan.{findOf, findIdOf, onFound}
 use Rattle.table.specs.declared.Chained.{Chained}
 use Rattle.table.specs.declared.Chained.the-variants as chained
 use Rattle.table.specs.declared.ChainParts.{ChainParts}
@@ -21,24 +21,44 @@ use Rattle.reader.specs.declared.Reader.{Reader}
 use Rattle.reader.specs.Reader.{startOf}
 use Rattle.store.specs.declared.ReaderAnswer.{ReaderAnswer}
 use Rattle.store.specs.Asked.{askedOf}
-use Rattle.store.specs.Reading.{readerAnswer, noReaderAnswer, readerCall}
+use Rattle.store.specs.Reading.{readerAnswer, noReaderAnswer, startedAt, readerCall, readerOfIdCall}
 
-module _ (vol : List ℕ) (m : Medium) (st : Store) (name : List ℕ) {o : Outcome} {fine : Bool} (f : fine ≡ nameOk name) (q : o ≡ askedOf vol st fine) where
-  pub input-refused : {e : Error} {r : ReaderAnswer} → o ≡ No e → r ≡ noReaderAnswer m e → readerAnswer r ≡ readerCall vol m st name
+-- ---- the file found
+
+module _ (vol : List ℕ) (m : Medium) (st : Store) {f : Found} where
+  pub not-found : {e : Error} {r : ReaderAnswer} → f ≡ found.Refused e → r ≡ noReaderAnswer m e → r ≡ startedAt vol m st f
+  unfolding onFound
+  not-found h k = rw (k, h)
+
+  module _ {slot id : ℕ} (h : f ≡ found.At slot id) {y : Chained} (c : y ≡ chainOf vol m st slot) where
+    pub no-chain : {e : Error} {r : ReaderAnswer} → y ≡ chained.Refused e → r ≡ noReaderAnswer m e → r ≡ startedAt vol m st f
+    unfolding onFound onChain
+    no-chain e k = rw (k, h, ← c, e)
+
+    pub whole-chain : {p : ChainParts} {rd : Reader} → y ≡ chained.Whole p → rd ≡ startOf st slot id p
+        → record { outcome = Done; reader = rd; medium = m } ≡ startedAt vol m st f
+    unfolding onFound onChain
+    whole-chain e k = rw (k, h, ← c, e)
+
+-- ---- by a name
+
+module _ (vol : List ℕ) (m : Medium) (st : Store) (name : List ℕ) {o : Outcome} {fine : Bool} (n : fine ≡ nameOk name) (q : o ≡ askedOf vol st fine)
+    {r : ReaderAnswer} where
+  pub input-refused : {e : Error} → o ≡ No e → r ≡ noReaderAnswer m e → readerAnswer r ≡ readerCall vol m st name
   unfolding readerCall onDone
-  input-refused h k = rw (k, ← f, ← q, h)
+  input-refused h k = rw (k, ← n, ← q, h)
 
-  module _ (done : o ≡ Done) {x : Found} (g : x ≡ findOf vol m st name) where
-    pub not-found : {e : Error} {r : ReaderAnswer} → x ≡ found.Refused e → r ≡ noReaderAnswer m e → readerAnswer r ≡ readerCall vol m st name
-    unfolding readerCall onDone onFound
-    not-found h k = rw (k, ← f, ← q, done, ← g, h)
+  pub named-started : {f : Found} → o ≡ Done → f ≡ findOf vol m st name → r ≡ startedAt vol m st f → readerAnswer r ≡ readerCall vol m st name
+  unfolding readerCall onDone
+  named-started h g k = rw (k, ← n, ← q, h, g)
 
-    module _ {slot id : ℕ} (h : x ≡ found.At slot id) {y : Chained} (c : y ≡ chainOf vol m st slot) where
-      pub no-chain : {e : Error} {r : ReaderAnswer} → y ≡ chained.Refused e → r ≡ noReaderAnswer m e → readerAnswer r ≡ readerCall vol m st name
-      unfolding readerCall onDone onFound onChain
-      no-chain e k = rw (k, ← f, ← q, done, ← g, h, ← c, e)
+-- ---- by an id
 
-      pub started : {p : ChainParts} {rd : Reader} → y ≡ chained.Whole p → rd ≡ startOf st slot id p
-          → readerAnswer (record { outcome = Done; reader = rd; medium = m }) ≡ readerCall vol m st name
-      unfolding readerCall onDone onFound onChain
-      started e k = rw (k, ← f, ← q, done, ← g, h, ← c, e)
+module _ (vol : List ℕ) (m : Medium) (st : Store) (id : ℕ) {o : Outcome} (q : o ≡ askedOf vol st true) {r : ReaderAnswer} where
+  pub id-refused : {e : Error} → o ≡ No e → r ≡ noReaderAnswer m e → readerAnswer r ≡ readerOfIdCall vol m st id
+  unfolding readerOfIdCall onDone
+  id-refused h k = rw (k, ← q, h)
+
+  pub id-started : {f : Found} → o ≡ Done → f ≡ findIdOf vol m st id → r ≡ startedAt vol m st f → readerAnswer r ≡ readerOfIdCall vol m st id
+  unfolding readerOfIdCall onDone
+  id-started h g k = rw (k, ← q, h, g)

@@ -1,7 +1,7 @@
 -- The calls on offer that only read, as 01 has them: the tests of the input in the order 2, 3, 1, then what the state gives. Each hands the medium
 -- record back as it was. Assumes nothing.
 use Prim.Native.Nat.{ℕ}
-use mathlib.Core.Bool.{_||_}
+use mathlib.Core.Bool.{true, _||_}
 use mathlib.Core.List.{List}
 use lib.Dec.{ltb}
 use lib.ListN.{length}
@@ -17,12 +17,12 @@ use Rattle.handles.specs.declared.Store.{Store}
 use Rattle.header.specs.Copies.{mountOf}
 use Rattle.directory.specs.declared.Found.{Found}
 use Rattle.directory.specs.declared.Found.the-variants as found
-use Rattle.directory.specs.Scan.{findOf, onFound}
+use Rattle.directory.specs.Scan.{findOf, findIdOf, onFound}
 use Rattle.directory.specs.Rows.{RowsOut, rowsOf}
 use Rattle.table.specs.Table.{Counted, countOf, chainOf, onChain}
 use Rattle.reader.specs.declared.Reader.{Reader}
 use Rattle.reader.specs.Reader.{startOf, noReader}
-use Rattle.store.specs.Asked.{askedName, askedDir}
+use Rattle.store.specs.Asked.{askedOf, askedName, askedDir}
 use Rattle.store.specs.declared.FindAnswer.{FindAnswer}
 use Rattle.store.specs.declared.ListAnswer.{ListAnswer}
 use Rattle.store.specs.declared.StoreAnswer.{StoreAnswer}
@@ -108,10 +108,15 @@ abbrev pub noReaderAnswer : Medium → Error → ReaderAnswer
 noReaderAnswer m e = record { outcome = No e; reader = noReader; medium = m }
 
 -- the file found, with its chain
+abbrev pub startedAt : List ℕ → Medium → Store → Found → ReaderAnswer
+startedAt vol m st f =
+    onFound f (noReaderAnswer m)
+    (λ slot id. onChain (chainOf vol m st slot) (noReaderAnswer m) (λ p. record { outcome = Done; reader = startOf st slot id p; medium = m }))
+
 unfoldable pub readerCall : List ℕ → Medium → Store → List ℕ → ReaderCall
-readerCall vol m st name =
-    readerAnswer
-    (onDone (askedName vol st name)
-    (onFound (findOf vol m st name) (noReaderAnswer m)
-    (λ slot id. onChain (chainOf vol m st slot) (noReaderAnswer m) (λ p. record { outcome = Done; reader = startOf st slot id p; medium = m })))
-    (noReaderAnswer m))
+readerCall vol m st name = readerAnswer (onDone (askedName vol st name) (startedAt vol m st (findOf vol m st name)) (noReaderAnswer m))
+
+-- ---- S-1: the same of the file with an id, the lowest slot with it; none is 15
+
+unfoldable pub readerOfIdCall : List ℕ → Medium → Store → ℕ → ReaderCall
+readerOfIdCall vol m st id = readerAnswer (onDone (askedOf vol st true) (startedAt vol m st (findIdOf vol m st id)) (noReaderAnswer m))

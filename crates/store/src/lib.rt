@@ -17,11 +17,12 @@ ghost use mathlib.Core.List.{[]};
 ghost use Prim.Native.Nat.{_≤_};
 ghost use lib.ListN.{length};
 ghost use Rattle.le.specs.Part.{over, zeros};
+ghost use Rattle.medium.specs.Sector.{sectorsOf};
 ghost use Rattle.plan.specs.Copy.{refusedOut};
 ghost use Rattle.store.specs.Asked.{askedOf};
 ghost use Rattle.store.specs.Writing.{formatCall, answerOf, deleteCall, goneAnswer, oldestCall};
 ghost use Rattle.store.specs.Reading.{storeAnswer, mountCall, findAnswer, findCall, listAnswer, notListed, listCall, readerAnswer};
-ghost use Rattle.store.specs.Reading.{noReaderAnswer, readerCall};
+ghost use Rattle.store.specs.Reading.{noReaderAnswer, startedAt, readerCall, readerOfIdCall};
 
 // Refusals 3 and 1 of a call that takes a store value and a name or directory; `fine`: that one passes its rule.
 fn asked(volume: &[u8], store: Store, fine: bool) -> Outcome
@@ -176,15 +177,11 @@ fn no_reader(e: Error, medium: Medium) -> ReaderAnswer
     }
 }
 
-// A reader of a file from its first record.
-pub fn reader(volume: &[u8], medium: Medium, store: Store, name: &[u8]) -> ReaderAnswer
-    ensures { λ r. ⌜ readerAnswer r ≡ readerCall (now (volume .entry)) medium store (now (name .entry)) ⌝ }
+// A reader of the file found, from its first record.
+fn started(volume: &[u8], medium: Medium, store: Store, f: Found) -> ReaderAnswer
+    requires { ⌜ (64 ≤ sectorsOf (now volume)) × (store .head .chunks ≤ 2048) ⌝ }
+    ensures { λ r. ⌜ r ≡ startedAt (now (volume .entry)) medium store f ⌝ }
 {
-    let o = asked(volume, store, names::name_ok(name));
-    if let Outcome::No(e) = o {
-        return no_reader(e, medium);
-    }
-    let f = directory::find(volume, medium, store, name);
     match f {
         Found::Refused(e) => no_reader(e, medium),
         Found::At { slot, id } => {
@@ -202,6 +199,30 @@ pub fn reader(volume: &[u8], medium: Medium, store: Store, name: &[u8]) -> Reade
             }
         }
     }
+}
+
+// A reader of a file from its first record.
+pub fn reader(volume: &[u8], medium: Medium, store: Store, name: &[u8]) -> ReaderAnswer
+    ensures { λ r. ⌜ readerAnswer r ≡ readerCall (now (volume .entry)) medium store (now (name .entry)) ⌝ }
+{
+    let o = asked(volume, store, names::name_ok(name));
+    if let Outcome::No(e) = o {
+        return no_reader(e, medium);
+    }
+    let f = directory::find(volume, medium, store, name);
+    started(volume, medium, store, f)
+}
+
+// S-1: the same of the file with an id, in the lowest slot that has it.
+pub fn reader_of_id(volume: &[u8], medium: Medium, store: Store, id: u32) -> ReaderAnswer
+    ensures { λ r. ⌜ readerAnswer r ≡ readerOfIdCall (now (volume .entry)) medium store id ⌝ }
+{
+    let o = asked(volume, store, true);
+    if let Outcome::No(e) = o {
+        return no_reader(e, medium);
+    }
+    let f = directory::find_id(volume, medium, store, id);
+    started(volume, medium, store, f)
 }
 
 // A refused call hands its store value and medium record back.

@@ -1,0 +1,3 @@
+pub mod Scans
+pub mod Offers
+pub mod Ends

@@ -1,0 +1,4 @@
+pub mod Look
+pub mod Told
+pub mod Set
+pub mod Reading

@@ -2,7 +2,7 @@
 -- the book, delete_oldest of any directory, and create of a new name where the book has room. So is a sync with one write left where the chunk has
 -- room, and a format with its writes left. So none of them gives 4. Assumes nothing.
 use Prim.Native.Nat.{ℕ, _-_, _^_, _≤_, _<_}
-use mathlib.Core.Path.{_≡_, refl, sym, ap, _∙_}
+use mathlib.Core.Path.{_≡_, refl, sym, ap, subst, _∙_}
 use mathlib.Core.Logic.{_⊎_, inl, inr}
 use mathlib.Core.Bool.{Bool, true, false}
 use mathlib.Core.Option.{Option}
@@ -33,10 +33,11 @@ use Rattle.store.specs.Writing.{deleteCall, oldestTold, oldestCall}
 use Rattle.store.specs.Opening.{openFine}
 use Rattle.writes.specs.Writes.{commitMost}
 use Rattle.power.specs.Calls.{format, create, sync, delete, deleteOldest}
-use Rattle.power.specs.Book.{File, Book, mayGo, newBook}
+use Rattle.power.specs.Book.{File, Book, mayGo}
 use Rattle.power.specs.History.{World, withLeft, ranOldest, ran, openOf}
 use Rattle.power.specs.Room.{Tells, CanCommit, HasRoom}
-use Rattle.power.proofs.Whole.{fileOf, Keeps}
+use Rattle.power.proofs.Fine.{newFine}
+use Rattle.power.proofs.Whole.{fileOf, Booked, same-files}
 use Rattle.power.proofs.Checks.{inv-checked}
 use Rattle.power.proofs.Shown.{asked}
 use Rattle.power.proofs.Picks.{sparedBy, goes-may, may-goes}
@@ -46,23 +47,23 @@ use Rattle.power.proofs.Formatting.{format-run}
 use Rattle.power.proofs.Running.{Ready, opened, some-kept, sync-run}
 use Rattle.power.proofs.Creating.{Made, create-makes}
 
-module _ (w : World) (b : Book) (k : Keeps w b) (left : ℕ) (can : CanCommit w left) where
+module _ (w : World) (b : Book) (k : Booked w b) (left : ℕ) (can : CanCommit w left) where
   abbrev m : Medium
   m = withLeft left (w .medium)
 
   asks : (fine : Bool) → fine ≡ true → askedOf (w .vol) (w .store) fine ≡ Done
-  asks = asked (w .vol) m (w .store) (k .layout) b (k .whole) (k .readable)
+  asks = asked (w .vol) m (w .store) (k .keeps .layout) (k .fine) (k .keeps .whole) (k .keeps .readable)
 
   -- ---- delete of a file of the book
 
   pub delete-accepted : (f : File) → List·Memᴰ f (b .files) → Tells w (delete left (f .name)) (deleted ∷ [])
   unfolding ran deleteCall onDone onFound stepsOf
   delete-accepted f mem =
-      let o = k .whole .ties .from f mem in
+      let o = k .keeps .whole .ties .from f (rw (same-files k) mem) in
       rw (
         asks (nameOk (f .name)) (named-facts (entryAt (w .vol) (w .store) (o .0)) (o .2) .fine),
-        find-there (w .vol) m (w .store) (inv-checked m (k .whole .inv) (k .readable)) (k .layout) (k .whole .good) (f .name) (o .0) (f .id) (o .1) (o .2),
-        remove-is (w .vol) m (w .store) (k .layout) b (k .whole) (k .readable) (can .gens) (can .writes) (o .0) (f .id),
+        find-there (w .vol) m (w .store) (inv-checked m (k .keeps .whole .inv) (k .keeps .readable)) (k .keeps .layout) (k .keeps .whole .good) (f .name) (o .0) (f .id) (o .1) (o .2),
+        remove-is (w .vol) m (w .store) (k .keeps .layout) (k .fine) (k .keeps .whole) (k .keeps .readable) (can .gens) (can .writes) (o .0) (f .id),
       ) (refl, refl)
 
   -- ---- create of a new name
@@ -70,7 +71,7 @@ module _ (w : World) (b : Book) (k : Keeps w b) (left : ℕ) (can : CanCommit w 
   module _ (name : List ℕ) (rolls : Bool) (dir : List ℕ) (fine : openFine name rolls dir ≡ true) (new : (f : File) → List·Memᴰ f (b .files) → f .name ≡ name → ⊥)
       (has : HasRoom w b) where
     pub create-made : Made w left name rolls dir
-    create-made = create-makes w left name rolls dir k fine new can has
+    create-made = create-makes w left name rolls dir (k .keeps) fine (λ f h. new f (rw (same-files k) at h)) can (subst (HasRoom w) (sym (k .same)) has)
 
     pub create-accepted : Tells w (create left name rolls dir) (created ∷ [])
     create-accepted = rw (create-made .is) (refl, refl)
@@ -99,19 +100,19 @@ module _ (w : World) (b : Book) (k : Keeps w b) (left : ℕ) (can : CanCommit w 
     none-may old o t f mem = go (mayGo dir (openOf (w .store .writer)) f) refl
       where
         go : (may : Bool) → mayGo dir (openOf (w .store .writer)) f ≡ may → may ≡ false
-        go true e = let s = k .whole .ties .from f mem in absurd (o .none t (s .0) (s .1) (f .name) (f .id) (s .2) (may-goes dir keeping kept f (spares f ∙ e)))
+        go true e = let s = k .keeps .whole .ties .from f (rw (same-files k) mem) in absurd (o .none t (s .0) (s .1) (f .name) (f .id) (s .2) (may-goes dir keeping kept f (spares f ∙ e)))
         go false e = refl
 
     one-may : (old : Old) → Olds (w .vol) (w .store) dir keeping kept 64 old → old .any ≡ true → Of true
     one-may old o t =
         let p = o .some t in
-        let f : File = fileOf (p .name) (old .id) (k .layout (old .slot)) in
-        (f, k .whole .ties .into (old .slot) (p .name) (old .id) (p .below) (p .entry), sym (spares f) ∙ goes-may dir keeping kept f (p .goes))
+        let f : File = fileOf (p .name) (old .id) (k .keeps .layout (old .slot)) in
+        (f, rw (← same-files k) (k .keeps .whole .ties .into (old .slot) (p .name) (old .id) (p .below) (p .entry)), sym (spares f) ∙ goes-may dir keeping kept f (p .goes))
 
     done : (gone .ans .outcome ≡ Done) × ((any : Bool) × (gone .ans .any ≡ any) × Of any)
     done =
-        ways (w .vol) m (w .store) (k .layout) b (k .whole) (k .readable) dir keeping kept (λ (g : GoneOut). (g .ans .outcome ≡ Done) × ((any : Bool) × (g .ans .any ≡ any) × Of any))
-        (λ old o t. let g = goer (w .vol) m (w .store) (k .layout) b (k .whole) (k .readable) (can .gens) (can .writes) _ _ (old .slot) (old .id) in (g .within .0, (true, g .any, one-may old o t)))
+        ways (w .vol) m (w .store) (k .keeps .layout) (k .fine) (k .keeps .whole) (k .keeps .readable) dir keeping kept (λ (g : GoneOut). (g .ans .outcome ≡ Done) × ((any : Bool) × (g .ans .any ≡ any) × Of any))
+        (λ old o t. let g = goer (w .vol) m (w .store) (k .keeps .layout) (k .fine) (k .keeps .whole) (k .keeps .readable) (can .gens) (can .writes) _ _ (old .slot) (old .id) in (g .within .0, (true, g .any, one-may old o t)))
         (λ old o t. (refl, (false, refl, none-may old o t)))
 
     ran-is : ran w (deleteOldest left dir) ≡ ranOldest w (oldestTold gone)
@@ -131,11 +132,11 @@ module _ (w : World) (b : Book) (k : Keeps w b) (left : ℕ) (can : CanCommit w 
 
 -- ---- sync of an open appender with bytes unwritten, whose chunk has room: by one write
 
-pub sync-accepted : (w : World) (b : Book) → Keeps w b → (left i : ℕ) → w .store .writer ≡ Open (w .appender .token) (w .appender .id) → w .appender .tail ≡ At i
+pub sync-accepted : (w : World) (b : Book) → Booked w b → (left i : ℕ) → w .store .writer ≡ Open (w .appender .token) (w .appender .id) → w .appender .tail ≡ At i
     → i < w .store .head .chunk → (b .unwritten ≡ [] → ⊥) → 1 ≤ left → Tells w (sync left) (recorded ∷ [])
 sync-accepted w b k left i writer tail room some one =
     let y : Ready w i (w .appender .fill) = record { writer = writer; tail = tail; fill = refl } in
-    let t = sync-run k y left room (some-kept k (opened y) some) one in
+    let t = sync-run (k .keeps) y left room (some-kept (k .keeps) (opened y) (λ e. some (sym (ap (λ (x : Book). x .unwritten) (k .same)) ∙ e))) one in
     (t .0, rw (t .1) refl)
 
 -- ---- format of any volume whose headers read, of a size that fits, where the generations there are not spent
@@ -144,5 +145,5 @@ pub format-accepted : (w : World) (m : Medium) (size seed : ℕ) → headersOf (
     → (chunksOf (sectorsOf (w .vol)) size ≡ 0 → ⊥) → (newestOf (headersOf (w .vol) m) ≡ 2 ^ 64 - 1 → ⊥) → commitMost (chunksOf (sectorsOf (w .vol)) size) ≤ m .left
     → Tells w (format m size seed) (formatted ∷ [])
 format-accepted w m size seed headers least most some less enough =
-    let t = format-run m size seed w newBook (format-done size seed (w .vol) m headers least most some less enough) in
+    let t = format-run m size seed w (newFine size) (format-done size seed (w .vol) m headers least most some less enough) in
     (t .0, rw (t .1) refl)

@@ -33,8 +33,10 @@ use Rattle.append.proofs.Runs.{byte-puts, append-puts, sync-puts}
 use Rattle.safe.proofs.Frame.{clash}
 use Rattle.layout.specs.Segments.{Segment}
 use Rattle.power.specs.Calls.{append, sync}
-use Rattle.power.specs.Book.{Book, Terms, termsOf, enteredAll, beforeSteps, afterSteps, written}
+use Rattle.power.specs.Book as book
+use Rattle.power.specs.Book.{Terms, termsOf}
 use Rattle.power.specs.History.{World, ranAppend, ran, fedBy, openOf, withLeft, EachStep}
+use Rattle.power.proofs.Fine.{Fine, enteredAll, beforeSteps, afterSteps, written}
 use Rattle.power.proofs.Whole.{Whole, Stands, Writes, Owns, Keeps}
 use Rattle.power.proofs.Standing.{stands-passes, stands-fits}
 use Rattle.power.proofs.Flows.{bookAfter, Live, Kept, KeptIf, kept-done, kept-then}
@@ -49,7 +51,7 @@ unfolding part
 pushed-bytes fill x buffer rest h =
     rw (add-one fill, take-suc-set buffer fill x h) (append-assoc (take fill buffer) (x ∷ []) rest)
 
-module _ {t : Terms} {vol : List ℕ} {m : Medium} {st : Store} {a : Appender} {G : ℕ → List Segment} {b : Book} (l : Live t vol m st a G b) (h : a .fill < 486) (x : ℕ) where
+module _ {t : Terms} {vol : List ℕ} {m : Medium} {st : Store} {a : Appender} {G : ℕ → List Segment} {b : Fine} (l : Live t vol m st a G b) (h : a .fill < 486) (x : ℕ) where
   pushed-live : Live t vol m st (pushed x a) G b
   pushed-live = record { whole = l .whole; readable = l .readable; writer = l .writer; spared = l .spared; dir = l .dir }
 
@@ -77,12 +79,12 @@ module _ {t : Terms} {vol : List ℕ} {m : Medium} {st : Store} {a : Appender} {
         (λ e. flush-kept pushed-live pushed-stands (ready-full (pushed x a) rest (pushed-stands .buffer) (eqb-true _ _ e)))
         (λ e _. kept-done pushed-live pushed-stands)
 
-good-of : {vol : List ℕ} {st : Store} {G : ℕ → List Segment} {b : Book} → Whole vol st G b → Good vol st
+good-of : {vol : List ℕ} {st : Store} {G : ℕ → List Segment} {b : Fine} → Whole vol st G b → Good vol st
 good-of w = record { ok = w .inv .ok; count = w .inv .range .count }
 
 -- ---- the bytes
 
-append-kept : (bytes : List ℕ) {t : Terms} {vol : List ℕ} {m : Medium} {st : Store} {a : Appender} {G : ℕ → List Segment} {b : Book}
+append-kept : (bytes : List ℕ) {t : Terms} {vol : List ℕ} {m : Medium} {st : Store} {a : Appender} {G : ℕ → List Segment} {b : Fine}
     → Live t vol m st a G b → Stands vol st a G b bytes → a .fill < 486 → KeptIf t b [] (appendOf bytes vol m st a)
 unfolding appendOf
 append-kept [] l s h = λ _. kept-done l s
@@ -111,7 +113,7 @@ append-closes (x ∷ xs) vol m st a =
 
 -- ---- sync: all that there is
 
-sync-kept : {t : Terms} {vol : List ℕ} {m : Medium} {st : Store} {a : Appender} {G : ℕ → List Segment} {b : Book}
+sync-kept : {t : Terms} {vol : List ℕ} {m : Medium} {st : Store} {a : Appender} {G : ℕ → List Segment} {b : Fine}
     → Live t vol m st a G b → Stands vol st a G b [] → a .fill < 486 → KeptIf t b [] (syncOf vol m st a)
 unfolding syncOf
 sync-kept {t = t} {a = a} {b = b} l s h =
@@ -127,7 +129,7 @@ sync-closes vol m st a = pick-keeps Closes (eqb (a .fill) 0) _ _ (λ e q. clash 
 abbrev worldOf : AppOut → World
 worldOf o = record { vol = o .vol; store = o .ans .store; appender = o .ans .appender; medium = o .ans .medium }
 
-kept-owns : {t : Terms} {b : Book} (o : AppOut) (k : Kept t b [] o) → (o .ans .outcome ≡ Done → o .ans .appender .fill < 486) → Closes o
+kept-owns : {t : Terms} {b : Fine} (o : AppOut) (k : Kept t b [] o) → (o .ans .outcome ≡ Done → o .ans .appender .fill < 486) → Closes o
     → isClosed (o .ans .appender .tail) ≡ false
     → Stands (o .vol) (o .ans .store) (o .ans .appender) (k .layout) (bookAfter t (o .steps) b) [] × (o .ans .appender .fill < 486)
 kept-owns {t} {b} o k room closes c = go (o .ans .outcome) refl
@@ -137,7 +139,7 @@ kept-owns {t} {b} o k room closes c = go (o .ans .outcome) refl
     go Done q = (k .stands q, room q)
     go (No e) q = absurd (true≢false (sym (closes e q) ∙ c))
 
-kept-keeps : {t : Terms} {b : Book} (o : AppOut) → Kept t b [] o → (o .ans .outcome ≡ Done → o .ans .appender .fill < 486) → Closes o → Keeps (worldOf o) (bookAfter t (o .steps) b)
+kept-keeps : {t : Terms} {b : Fine} (o : AppOut) → Kept t b [] o → (o .ans .outcome ≡ Done → o .ans .appender .fill < 486) → Closes o → Keeps (worldOf o) (bookAfter t (o .steps) b)
 kept-keeps {t} {b} o k room closes =
     record {
       layout = k .layout;
@@ -169,7 +171,7 @@ its-own (Open token id) a w e =
     let b = and-true (eqb token (a .token)) (not (isClosed (a .tail))) e in
     (ap₂ Open (w .0) (w .1), w .2 (not-true (isClosed (a .tail)) (b .1)))
 
-module _ {vol : List ℕ} {st : Store} {a : Appender} {G : ℕ → List Segment} {b : Book} (w : Whole vol st G b) where
+module _ {vol : List ℕ} {st : Store} {a : Appender} {G : ℕ → List Segment} {b : Fine} (w : Whole vol st G b) where
   -- an appender that stands is never refused
   pub stands-may : {rest : List ℕ} → Stands vol st a G b rest → a .fill < 486 → (x : Writer) → st .writer ≡ x → writes x (a .token) ≡ true → isClosed (a .tail) ≡ false → mayWrite vol st a ≡ Done
   unfolding mayWrite live
@@ -179,7 +181,7 @@ module _ {vol : List ℕ} {st : Store} {a : Appender} {G : ℕ → List Segment}
       pick-true _ _ p ∙ pick-true _ _ r
 
   -- so whatever a refused call counts of it does not matter
-  refused-owns : {e : Error} {c : Book} → mayWrite vol st a ≡ No e → Owns vol st a G b → Owns vol st a G c
+  refused-owns : {e : Error} {c : Fine} → mayWrite vol st a ≡ No e → Owns vol st a G b → Owns vol st a G c
   unfolding writes
   refused-owns {e} {c} n o = record { writes = go (st .writer) refl (o .writes) }
     where
@@ -194,14 +196,17 @@ module _ {vol : List ℕ} {st : Store} {a : Appender} {G : ℕ → List Segment}
 -- ---- the calls
 
 -- c is b with more bytes to come
-record More (b c : Book) (rest : List ℕ) : Type 0 where
+record More (b c : Fine) (rest : List ℕ) : Type 0 where
   pub next : c .next ≡ b .next
   pub files : c .files ≡ b .files
   pub file : c .file ≡ b .file
   pub rollover : c .rollover ≡ b .rollover
   pub unwritten : c .unwritten ≡ b .unwritten ++ rest
+  pub parts : c .parts ≡ b .parts
+  pub ids : c .ids ≡ b .ids
+  pub size : c .size ≡ b .size
 
-module _ (w : World) (b : Book) (k : Keeps w b) (left : ℕ) (c : Book) (rest : List ℕ) (more : More b c rest) where
+module _ (w : World) (b : Fine) (k : Keeps w b) (left : ℕ) (c : Fine) (rest : List ℕ) (more : More b c rest) where
   abbrev m : Medium
   m = withLeft left (w .medium)
 
@@ -209,7 +214,16 @@ module _ (w : World) (b : Book) (k : Keeps w b) (left : ℕ) (c : Book) (rest : 
   terms = record { name = []; dir = b .rollover; spared = openOf (w .store .writer) }
 
   whole-more : Whole (w .vol) (w .store) (k .layout) c
-  whole-more = record { inv = k .whole .inv; good = k .whole .good; ties = rw (more .files) (k .whole .ties); next = more .next ∙ k .whole .next }
+  whole-more =
+      record {
+        inv = k .whole .inv;
+        good = k .whole .good;
+        ties = rw (more .files) (k .whole .ties);
+        parts = rw (more .parts) (k .whole .parts);
+        next = more .next ∙ k .whole .next;
+        ids = more .ids ∙ k .whole .ids;
+        size = more .size ∙ k .whole .size;
+      }
 
   module _ (d : mayWrite (w .vol) (w .store) (w .appender) ≡ Done) where
     owner : (w .store .writer ≡ Open (w .appender .token) (w .appender .id)) × (Stands (w .vol) (w .store) (w .appender) (k .layout) b [] × (w .appender .fill < 486))
@@ -265,9 +279,9 @@ module _ (w : World) (b : Book) (k : Keeps w b) (left : ℕ) (c : Book) (rest : 
       (append-closes rest (w .vol) m (w .store) (w .appender)))
 
 -- sync has no bytes to come
-module _ (w : World) (b : Book) (k : Keeps w b) (left : ℕ) where
+module _ (w : World) (b : Fine) (k : Keeps w b) (left : ℕ) where
   none : More b b []
-  none = record { next = refl; files = refl; file = refl; rollover = refl; unwritten = sym (append-nil (b .unwritten)) }
+  none = record { next = refl; files = refl; file = refl; rollover = refl; unwritten = sym (append-nil (b .unwritten)); parts = refl; ids = refl; size = refl }
 
   sync-stood : Stood w b k left b [] none (syncCall (w .vol) (withLeft left (w .medium)) (w .store) (w .appender))
   unfolding syncCall
@@ -280,15 +294,15 @@ module _ (w : World) (b : Book) (k : Keeps w b) (left : ℕ) where
       (sync-puts (w .vol) m (w .store) (w .appender) (good-of (k .whole)) (fits w b k left b [] none d) (room w b k left b [] none d) .room)
       (sync-closes (w .vol) m (w .store) (w .appender)))
 
-pub append-keeps : (w : World) (b : Book) → Keeps w b → (left : ℕ) (bytes : List ℕ) → EachStep Distinct (ran w (append left bytes) .steps)
+pub append-keeps : (w : World) (b : Fine) → Keeps w b → (left : ℕ) (bytes : List ℕ) → EachStep Distinct (ran w (append left bytes) .steps)
     → Keeps (ran w (append left bytes) .world) (written (append left bytes) (fedBy w (append left bytes)) b)
-unfolding ran written fedBy termsOf beforeSteps afterSteps
+unfolding ran written fedBy termsOf beforeSteps book.beforeSteps afterSteps book.afterSteps
 append-keeps w b k left bytes h =
-    let more : More b (beforeSteps (append left bytes) b) bytes = record { next = refl; files = refl; file = refl; rollover = refl; unwritten = refl } in
+    let more : More b (beforeSteps (append left bytes) b) bytes = record { next = refl; files = refl; file = refl; rollover = refl; unwritten = refl; parts = refl; ids = refl; size = refl } in
     let p = append-stood w b k left (beforeSteps (append left bytes) b) bytes more h in
     pick-keeps (Keeps (ran w (append left bytes) .world)) _ _ _ p p
 
-pub sync-keeps : (w : World) (b : Book) → Keeps w b → (left : ℕ) → EachStep Distinct (ran w (sync left) .steps)
+pub sync-keeps : (w : World) (b : Fine) → Keeps w b → (left : ℕ) → EachStep Distinct (ran w (sync left) .steps)
     → Keeps (ran w (sync left) .world) (written (sync left) (fedBy w (sync left)) b)
-unfolding ran written fedBy termsOf beforeSteps afterSteps
+unfolding ran written fedBy termsOf beforeSteps book.beforeSteps afterSteps book.afterSteps
 sync-keeps w b k left h = pick-keeps (Keeps (ran w (sync left) .world)) _ _ _ (sync-stood w b k left h) (sync-stood w b k left h)

@@ -37,8 +37,10 @@ use Rattle.layout.specs.Views.{vacant}
 use Rattle.folds.proofs.Named.{Look, look-view}
 use Rattle.folds.proofs.Chunks.{free-chunk}
 use Rattle.power.specs.Calls.{create}
-use Rattle.power.specs.Book.{Terms, ifSet, Book, openedFor, entered, enteredAll, termsOf, beforeSteps, afterSteps, written}
+use Rattle.power.specs.Book as book
+use Rattle.power.specs.Book.{Terms, ifSet, termsOf}
 use Rattle.power.specs.History.{World, isOk, ifOk, withLeft, ranCreate, ran, fedBy, EachStep}
+use Rattle.power.proofs.Fine.{Fine, openedFor, entered, enteredAll, beforeSteps, afterSteps, written}
 use Rattle.power.proofs.Whole.{Keeps}
 use Rattle.power.proofs.Checks.{inv-checked}
 use Rattle.power.proofs.Unmade.{Unmade, unmade-keeps}
@@ -53,34 +55,34 @@ unfolding stepsOf onDone
 steps-done kind o d = rw d refl
 
 -- the book of an accepted call has the new appender's file
-unfoldable closing : Option (List ℕ) → Bool → Book → Book
+unfoldable closing : Option (List ℕ) → Bool → Fine → Fine
 closing dir accepted b = pick accepted (openedFor (b .next - 1) dir b) b
 
 -- whatever happened, its steps stand
-unfoldable Ends : Terms → World → Book → AppOut → Type 0
+unfoldable Ends : Terms → World → Fine → AppOut → Type 0
 Ends t w b o = EachStep Distinct (o .steps) → Keeps (ranCreate w (callOf o) .world) (closing (t .dir) (isOk (outcomeOf (o .ans .outcome))) (enteredAll t (kindsOf (o .steps)) b))
 
 module _ (t : Terms) where
   -- refused with no step more
-  refused-ends : (w : World) (b : Book) {v : List ℕ} {u : Medium} {s : Store} (e : Error) → Keeps (record { vol = v; store = s; appender = w .appender; medium = u }) b
+  refused-ends : (w : World) (b : Fine) {v : List ℕ} {u : Medium} {s : Store} (e : Error) → Keeps (record { vol = v; store = s; appender = w .appender; medium = u }) b
       → Ends t w b (refusedAt v u s e)
   unfolding Ends closing pick ifOk enteredAll
   refused-ends w b e k h = k
 
-  unmade-ends : (w : World) (b : Book) {v : List ℕ} {u : Medium} {s : Store} (e : Error) (k : Keeps w b) → Unmade (w .vol) (w .medium) (w .store) (k .layout) b v u s
+  unmade-ends : (w : World) (b : Fine) {v : List ℕ} {u : Medium} {s : Store} (e : Error) (k : Keeps w b) → Unmade (w .vol) (w .medium) (w .store) (k .layout) b v u s
       → Ends t w b (refusedAt v u s e)
   unmade-ends w b e k n =
       refused-ends w b e (unmade-keeps w b k (k .readable) n)
 
   -- a file went first
-  rolled-ends : (w : World) (b : Book) (v : List ℕ) (u : Medium) (s : Store) (skipped : List Skipped) (o : AppOut)
+  rolled-ends : (w : World) (b : Fine) (v : List ℕ) (u : Medium) (s : Store) (skipped : List Skipped) (o : AppOut)
       → (EachSkipped Distinct skipped → Ends t (record { vol = v; store = s; appender = w .appender; medium = u }) (entered t rolledOver b) o) → Ends t w b (after (rolling skipped) o)
   unfolding Ends EachStep enteredAll
   rolled-ends w b v u s skipped o f h = f (h .0) (h .1)
 
 module _ (t : Terms) (over : Rollover) (spares : t .spared ≡ none) (directed : Directed over (t .dir)) (ok : nameOk (t .name) ≡ true) where
   -- the file is made
-  opened-ends : (w : World) (b : Book) (o : Out) (slot id chunk : ℕ) → o .ans .outcome ≡ Done
+  opened-ends : (w : World) (b : Fine) (o : Out) (slot id chunk : ℕ) → o .ans .outcome ≡ Done
       → (EachSkipped Distinct (o .skipped)
       → Keeps (record {
         vol = o .vol;
@@ -89,10 +91,10 @@ module _ (t : Terms) (over : Rollover) (spares : t .spared ≡ none) (directed :
         medium = withToken (o .ans .medium);
       }) (openedFor (b .next + 1 - 1) (t .dir) (entered t created b)))
       → Ends t w b (after (stepsOf created o) (openedOut (o .vol) (o .ans .medium) (o .ans .store) slot id chunk 0 (At 0) over))
-  unfolding Ends closing pick ifOk openedOut EachStep enteredAll entered
+  unfolding Ends closing pick ifOk openedOut EachStep enteredAll entered book.entered
   opened-ends w b o slot id chunk d f = rw (steps-done created o d) (λ h. f (h .0))
 
-  module _ (w : World) (b : Book) (k : Keeps w b) where
+  module _ (w : World) (b : Fine) (k : Keeps w b) where
     -- a slot and a chunk are free
     make-ends : (seen : Seen) → Look (w .vol) (w .medium) (w .store) (t .name) seen → seen .exists ≡ false → seen .free ≡ true → (c : ℕ) → freeOf (w .vol) (w .medium) (w .store) ≡ free.At c
         → Ends t w b (makeOut (t .name) over (w .vol) (w .medium) (w .store) (seen .slot) c)
@@ -110,12 +112,12 @@ module _ (t : Terms) (over : Rollover) (spares : t .spared ≡ none) (directed :
         (λ x d. unmade-ends t w b x k (make-stopped w b k t (seen .slot) c (l .below room) (l .vacant room) (l .new fresh) (f .0) (f .1) ok small d)))
 
     -- the oldest file of the rollover's directory goes, whichever is open
-    module _ (next : Next) (ih : (w′ : World) (b′ : Book) → Keeps w′ b′ → Ends t w′ b′ (next (w′ .vol) (w′ .medium) (w′ .store))) where
+    module _ (next : Next) (ih : (w′ : World) (b′ : Fine) → Keeps w′ b′ → Ends t w′ b′ (next (w′ .vol) (w′ .medium) (w′ .store))) where
       abbrev g : GoneOut
       g = removeOldestOf (w .vol) (w .medium) (w .store) (dirBytes (over .dir)) false 0
 
       went-ends : over .rolls ≡ true → g .ans .any ≡ true → Ends t w b (after (rolling (g .skipped)) (next (g .vol) (g .ans .medium) (g .ans .store)))
-      unfolding entered pick
+      unfolding entered book.entered pick
       went-ends r e =
           rolled-ends t w b (g .vol) (g .ans .medium) (g .ans .store) (g .skipped) _
           (λ h.
@@ -153,14 +155,14 @@ module _ (t : Terms) (over : Rollover) (spares : t .spared ≡ none) (directed :
           (λ room. pick-ends (l .0) (l .1) fresh room (freeOf (w .vol) (w .medium) (w .store)) refl)
           (λ e. over-ends)))
 
-  create-ends : (n : ℕ) (w : World) (b : Book) → Keeps w b → Ends t w b (createFrom n (t .name) over (w .vol) (w .medium) (w .store))
+  create-ends : (n : ℕ) (w : World) (b : Fine) → Keeps w b → Ends t w b (createFrom n (t .name) over (w .vol) (w .medium) (w .store))
   unfolding createFrom
   create-ends zero w b k = refused-ends t w b _ k
   create-ends (suc n) w b k = round-ends w b k (createFrom n (t .name) over) (create-ends n)
 
-pub create-keeps : (w : World) (b : Book) → Keeps w b → (left : ℕ) (name : List ℕ) (rolls : Bool) (dir : List ℕ) → EachStep Distinct (ran w (create left name rolls dir) .steps)
+pub create-keeps : (w : World) (b : Fine) → Keeps w b → (left : ℕ) (name : List ℕ) (rolls : Bool) (dir : List ℕ) → EachStep Distinct (ran w (create left name rolls dir) .steps)
     → Keeps (ran w (create left name rolls dir) .world) (written (create left name rolls dir) (fedBy w (create left name rolls dir)) b)
-unfolding ran written fedBy termsOf beforeSteps afterSteps createCall opening rolloverOf Ends closing
+unfolding ran written fedBy termsOf beforeSteps book.beforeSteps afterSteps book.afterSteps createCall opening rolloverOf Ends closing
 create-keeps w b k left name rolls dir =
     let m : Medium = withLeft left (w .medium) in
     let w′ : World = record { vol = w .vol; store = w .store; appender = w .appender; medium = m } in

@@ -41,7 +41,8 @@ use Rattle.power.specs.Calls.{create}
 use Rattle.power.specs.Book.{File, Book, mayGo}
 use Rattle.power.specs.History.{World, ifOk, withLeft, ran, EachStep}
 use Rattle.power.specs.Room.{Tells, CanCommit, HasRoom, chunksIn}
-use Rattle.power.proofs.Whole.{Keeps}
+use Rattle.power.proofs.Fine.{Fine, forget}
+use Rattle.power.proofs.Whole.{Keeps, Booked, same-files}
 use Rattle.power.proofs.Members.{keep-mem, isNot}
 use Rattle.power.proofs.Asks.{set-dir, asked-opens}
 use Rattle.power.proofs.Shown.{asked}
@@ -79,7 +80,7 @@ module _ (w : World) (left : ℕ) (name : List ℕ) (rolls : Bool) (dir : List �
       steps = (record { kind = created; skipped = out .skipped }) ∷ [];
     }
 
-  module _ {b : Book} (k : Keeps w b) (fine : openFine name rolls dir ≡ true) where
+  module _ {b : Fine} (k : Keeps w b) (fine : openFine name rolls dir ≡ true) where
     short : nameOk name ≡ true
     short = and-true (nameOk name) (not rolls || dirOk dir) fine .0
 
@@ -92,7 +93,7 @@ module _ (w : World) (left : ℕ) (name : List ℕ) (rolls : Bool) (dir : List �
 
     -- ---- there is room
 
-    module _ (new : (f : File) → List·Memᴰ f (b .files) → f .name ≡ name → ⊥) (can : CanCommit w left) (has : HasRoom w b) where
+    module _ (new : (f : File) → List·Memᴰ f (b .files) → f .name ≡ name → ⊥) (can : CanCommit w left) (has : HasRoom w (forget b)) where
       done : (slot chunk : ℕ) → creation name (w .vol) m (w .store) slot chunk .ans .outcome ≡ Done
       done slot chunk =
           commit-within (Create slot id chunk) name (w .vol) m (w .store) (k .whole .inv) (k .readable) (create-plain slot id chunk) (name-short name short) (can .gens) (can .writes) .0
@@ -127,7 +128,7 @@ module _ (w : World) (left : ℕ) (name : List ℕ) (rolls : Bool) (dir : List �
 
 -- ---- room is lacking, and a file of the rollover's directory may go
 
-module _ (w : World) (b : Book) (k : Keeps w b) (left : ℕ) (name dir : List ℕ) (fine : openFine name true dir ≡ true) (new : (f : File) → List·Memᴰ f (b .files) → f .name ≡ name → ⊥)
+module _ (w : World) (b : Book) (k : Booked w b) (left : ℕ) (name dir : List ℕ) (fine : openFine name true dir ≡ true) (new : (f : File) → List·Memᴰ f (b .files) → f .name ≡ name → ⊥)
     (lacks : (length (b .files) ≡ 64) ⊎ (chunksIn (b .files) ≡ w .store .head .chunks)) (f : File) (has : List·Memᴰ f (b .files)) (goes : mayGo dir none f ≡ true)
     (ids : b .next ≡ 2 ^ 32 - 1 → ⊥) (gens : w .store .head .generation + 2 ≤ 2 ^ 64 - 1) (enough : createMost true (w .store .head .chunks) ≤ left) where
   abbrev n : Medium
@@ -139,10 +140,13 @@ module _ (w : World) (b : Book) (k : Keeps w b) (left : ℕ) (name dir : List �
   abbrev x : GoneOut
   x = removeOldestOf (w .vol) n (w .store) (dirBytes (roll .dir)) false 0
 
+  new′ : (f : File) → List·Memᴰ f (k .fine .files) → f .name ≡ name → ⊥
+  new′ f h = new f (rw (same-files k) at h)
+
   set : (roll .rolls ≡ true) × (dirBytes (roll .dir) ≡ dir)
   set =
       set-dir (roll .rolls) (dirBytes (roll .dir)) dir
-      (sym (asked-opens (w .vol) (w .store) name true dir (asks w left name true dir k fine) .directed .same ∙ pick-true _ _ refl))
+      (sym (asked-opens (w .vol) (w .store) name true dir (asks w left name true dir (k .keeps) fine) .directed .same ∙ pick-true _ _ refl))
 
   two : commitMost (w .store .head .chunks) + (2 + tableOf (w .store .head .chunks) + 2) ≤ left
   unfolding pick
@@ -151,7 +155,7 @@ module _ (w : World) (b : Book) (k : Keeps w b) (left : ℕ) (name dir : List �
   gone : Goer n (w .store) x
   unfolding pick
   gone =
-      oldest-goes (w .vol) n (w .store) (k .layout) b (k .whole) (k .readable) (λ e. omega (arith, e, gens)) (omega (arith, two)) (dirBytes (roll .dir)) false 0 f has
+      oldest-goes (w .vol) n (w .store) (k .keeps .layout) (k .fine) (k .keeps .whole) (k .keeps .readable) (λ e. omega (arith, e, gens)) (omega (arith, two)) (dirBytes (roll .dir)) false 0 f (rw (same-files k) has)
       (rw (set .1) goes)
 
   -- what follows it
@@ -161,24 +165,24 @@ module _ (w : World) (b : Book) (k : Keeps w b) (left : ℕ) (name dir : List �
   create-is : createOf name roll (w .vol) n (w .store) ≡ after (rolling (x .skipped)) onward
   unfolding createFrom overOut
   create-is =
-      round-lacks (w .vol) n (w .store) (k .whole) (k .readable) name new roll (createFrom 1 name roll) lacks
+      round-lacks (w .vol) n (w .store) (k .keeps .whole) (k .keeps .readable) name new′ roll (createFrom 1 name roll) (rw (same-files k) lacks)
       ∙ pick-true _ _ (set .0) ∙ onDone-done _ _ (gone .within .0) ∙ pick-true _ _ (gone .any)
 
   -- then there is room, under the premise on the sectors that the removal left unwritten
   module _ (each : EachStep Distinct (ran w (create left name true dir) .steps)) where
     steps-are : ran w (create left name true dir) .steps ≡ rolling (x .skipped) ++ onward .steps
     unfolding ran
-    steps-are = rw (call-is w left name true dir k fine, create-is) refl
+    steps-are = rw (call-is w left name true dir (k .keeps) fine, create-is) refl
 
     each-gone : EachSkipped Distinct (x .skipped)
     unfolding EachStep
     each-gone = subst (EachStep Distinct) steps-are each .0
 
-    went : Went (w .vol) n (w .store) (k .layout) b (dirBytes (roll .dir)) false 0 x
-    went = oldest-made (w .vol) n (w .store) (k .layout) b (k .whole) (k .readable) (dirBytes (roll .dir)) false 0 (gone .any) each-gone
+    went : Went (w .vol) n (w .store) (k .keeps .layout) (k .fine) (dirBytes (roll .dir)) false 0 x
+    went = oldest-made (w .vol) n (w .store) (k .keeps .layout) (k .fine) (k .keeps .whole) (k .keeps .readable) (dirBytes (roll .dir)) false 0 (gone .any) each-gone
 
     reads : Readable (x .vol) (x .ans .medium)
-    reads = gone-readable (went .gone) (k .readable)
+    reads = gone-readable (went .gone) (k .keeps .readable)
 
     fresh : x .ans .store .head .generation ≡ 2 ^ 64 - 1 → ⊥
     fresh e = omega (arith, e, gone .generation, gens)
@@ -190,17 +194,17 @@ module _ (w : World) (b : Book) (k : Keeps w b) (left : ℕ) (name dir : List �
     then-done : (slot chunk : ℕ) → creation name (x .vol) (x .ans .medium) (x .ans .store) slot chunk .ans .outcome ≡ Done
     then-done slot chunk =
         commit-after (Create slot (x .ans .store .head .«next_id») chunk) name (x .vol) (x .ans .medium) (x .ans .store) (went .gone .whole .inv) reads
-        (create-plain slot (x .ans .store .head .«next_id») chunk) (name-short name (short w left name true dir k fine)) fresh
-        (oldest-beside (w .vol) n (w .store) (record { ok = k .whole .inv .ok; count = k .whole .inv .range .count }) (dirBytes (roll .dir)) false 0 (gone .any)) ample .0
+        (create-plain slot (x .ans .store .head .«next_id») chunk) (name-short name (short w left name true dir (k .keeps) fine)) fresh
+        (oldest-beside (w .vol) n (w .store) (record { ok = k .keeps .whole .inv .ok; count = k .keeps .whole .inv .range .count }) (dirBytes (roll .dir)) false 0 (gone .any)) ample .0
 
     makes : Makes name (x .vol) (x .ans .medium) (x .ans .store) roll onward
     unfolding createFrom
     makes =
-        let slots = slots-most (k .whole .good) (k .whole .ties) in
-        let chunks = chunks-most (k .whole .good) (k .whole .ties) in
-        round-makes (x .vol) (x .ans .medium) (x .ans .store) (went .gone .whole) reads name (λ g h. new g (keep-mem (isNot (went .id)) g (b .files) h .0)) roll (createFrom 0 name roll)
-        ids then-done (omega (arith, slots, went-files (k .whole) went)) (omega (arith, chunks, went-chunks (k .whole) went, gone .chunks))
+        let slots = slots-most (k .keeps .whole .good) (k .keeps .whole .ties) in
+        let chunks = chunks-most (k .keeps .whole .good) (k .keeps .whole .ties) in
+        round-makes (x .vol) (x .ans .medium) (x .ans .store) (went .gone .whole) reads name (λ g h. new′ g (keep-mem (isNot (went .id)) g (k .fine .files) h .0)) roll (createFrom 0 name roll)
+        (λ e. ids (ap (λ (x : Book). x .next) (sym (k .same)) ∙ e)) then-done (omega (arith, slots, went-files (k .keeps .whole) went)) (omega (arith, chunks, went-chunks (k .keeps .whole) went, gone .chunks))
 
     pub create-rolls : Tells w (create left name true dir) (rolledOver ∷ created ∷ [])
     unfolding ran openedOut
-    create-rolls = rw (call-is w left name true dir k fine, create-is, makes .1 .1) (refl, refl)
+    create-rolls = rw (call-is w left name true dir (k .keeps) fine, create-is, makes .1 .1) (refl, refl)

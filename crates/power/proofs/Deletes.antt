@@ -22,8 +22,10 @@ use Rattle.remove.specs.Remove.{removeOf, GoneOut, removeOldestOf, noneOut}
 use Rattle.store.specs.Writing.{WriteCall, deleteCall, OldestCall, oldestTold, oldestCall}
 use Rattle.folds.proofs.Named.{find-view}
 use Rattle.power.specs.Calls.{delete, deleteOldest}
-use Rattle.power.specs.Book.{Terms, Book, entered, enteredAll, termsOf, beforeSteps, afterSteps, written}
+use Rattle.power.specs.Book as book
+use Rattle.power.specs.Book.{Terms, termsOf}
 use Rattle.power.specs.History.{World, withLeft, ran, fedBy, openOf, EachStep}
+use Rattle.power.proofs.Fine.{Fine, entered, enteredAll, beforeSteps, afterSteps, written}
 use Rattle.power.proofs.Whole.{Keeps}
 use Rattle.power.proofs.Picks.{without-name}
 use Rattle.power.proofs.Unmade.{unmade-keeps}
@@ -34,7 +36,7 @@ use Rattle.power.proofs.Oldest.{spared-open, oldest-stopped, oldest-non
 abbrev leftBy : World → List ℕ → Medium → Store → World
 leftBy w v u t = record { vol = v; store = t; appender = w .appender; medium = u }
 
-module _ (w : World) (b : Book) (k : Keeps w b) (left : ℕ) where
+module _ (w : World) (b : Fine) (k : Keeps w b) (left : ℕ) where
   abbrev m : Medium
   m = withLeft left (w .medium)
 
@@ -57,7 +59,7 @@ module _ (w : World) (b : Book) (k : Keeps w b) (left : ℕ) where
     refused-stood e h = same-keeps
 
     named-stood : (slot id : ℕ) → findOf (w .vol) m (w .store) (t .name) ≡ found.At slot id → StoodAs (removeOf (w .vol) m (w .store) slot id)
-    unfolding stepsOf EachStep enteredAll entered
+    unfolding stepsOf EachStep enteredAll entered book.entered
     named-stood slot id q =
         let v = find-view (w .vol) m (w .store) (t .name) q in
         let o : Out = removeOf (w .vol) m (w .store) slot id in
@@ -97,7 +99,7 @@ module _ (w : World) (b : Book) (k : Keeps w b) (left : ℕ) where
         go (No e) d = unmade-keeps w b k (k .readable) (oldest-stopped (w .vol) m (w .store) (k .layout) b (k .whole) (k .readable) dir (isOpen (w .store .writer)) (openId (w .store .writer)) d .0)
 
     gone-stood : StoodOld g
-    unfolding oldestTold EachStep enteredAll entered
+    unfolding oldestTold EachStep enteredAll entered book.entered
     gone-stood =
         pick-keeps-by (Stood terms (leftBy w (g .vol) (g .ans .medium) (g .ans .store))) (g .ans .any) _ _
         (λ e h.
@@ -116,12 +118,12 @@ module _ (w : World) (b : Book) (k : Keeps w b) (left : ℕ) where
     unfolding oldestCall oldestTold
     oldest-stood = onDone-keeps StoodOld _ _ _ (λ d. gone-stood) (λ e d. kept-stood e)
 
-pub delete-keeps : (w : World) (b : Book) → Keeps w b → (left : ℕ) (name : List ℕ) → EachStep Distinct (ran w (delete left name) .steps)
+pub delete-keeps : (w : World) (b : Fine) → Keeps w b → (left : ℕ) (name : List ℕ) → EachStep Distinct (ran w (delete left name) .steps)
     → Keeps (ran w (delete left name) .world) (written (delete left name) (fedBy w (delete left name)) b)
-unfolding ran written fedBy termsOf beforeSteps afterSteps
+unfolding ran written fedBy termsOf beforeSteps book.beforeSteps afterSteps book.afterSteps
 delete-keeps w b k left name h = pick-keeps (Keeps (ran w (delete left name) .world)) _ _ _ (delete-stood w b k left _ h) (delete-stood w b k left _ h)
 
-pub oldest-keeps : (w : World) (b : Book) → Keeps w b → (left : ℕ) (dir : List ℕ) → EachStep Distinct (ran w (deleteOldest left dir) .steps)
+pub oldest-keeps : (w : World) (b : Fine) → Keeps w b → (left : ℕ) (dir : List ℕ) → EachStep Distinct (ran w (deleteOldest left dir) .steps)
     → Keeps (ran w (deleteOldest left dir) .world) (written (deleteOldest left dir) (fedBy w (deleteOldest left dir)) b)
-unfolding ran written fedBy termsOf beforeSteps afterSteps
+unfolding ran written fedBy termsOf beforeSteps book.beforeSteps afterSteps book.afterSteps
 oldest-keeps w b k left dir h = pick-keeps (Keeps (ran w (deleteOldest left dir) .world)) _ _ _ (oldest-stood w b k left dir h) (oldest-stood w b k left dir h)

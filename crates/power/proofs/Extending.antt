@@ -24,7 +24,8 @@ use Rattle.append.specs.Appender.{dirBytes}
 use Rattle.append.specs.Flush.{AppOut, stopped, movedTo, linkOut, rolledOut, extendOf}
 use Rattle.safe.proofs.Frame.{clash}
 use Rattle.layout.specs.Segments.{Segment, segmentAt}
-use Rattle.power.specs.Book.{Book, Terms}
+use Rattle.power.specs.Book.{Terms}
+use Rattle.power.proofs.Fine.{Fine}
 use Rattle.power.proofs.Whole.{Stands}
 use Rattle.power.proofs.Flows.{Live, KeptIf, kept-stopped}
 use Rattle.power.proofs.Linking.{Marks, link-kept}
@@ -63,7 +64,7 @@ module _ (vol : List ℕ) (m : Medium) (st : Store) (a : Appender) (partial : Bo
 
 -- ---- what stands
 
-module _ {t : Terms} {vol : List ℕ} {m : Medium} {st : Store} {a : Appender} {G : ℕ → List Segment} {b : Book} {rest : List ℕ}
+module _ {t : Terms} {vol : List ℕ} {m : Medium} {st : Store} {a : Appender} {G : ℕ → List Segment} {b : Fine} {rest : List ℕ}
     (l : Live t vol m st a G b) (s : Stands vol st a G b rest) (partial : Bool) (records : ℕ)
     (marks : Marks partial records (length (segmentAt (G (a .slot)) (a .position) .payloads)) (st .head .chunk)) where
   pub extend-kept : KeptIf t b rest (extendOf vol m st a partial records)

@@ -17,20 +17,21 @@ use Rattle.append.specs.Flush.{AppOut, stopped, done, after, andThen}
 use Rattle.append.proofs.Then.{Next, then-done, then-no}
 use Rattle.safe.proofs.Frame.{clash}
 use Rattle.layout.specs.Segments.{Segment}
-use Rattle.power.specs.Book.{Book, Terms, enteredAll}
+use Rattle.power.specs.Book.{Terms}
 use Rattle.power.specs.History.{EachStep}
+use Rattle.power.proofs.Fine.{Fine, enteredAll}
 use Rattle.power.proofs.Whole.{Whole, Stands}
 use Rattle.power.proofs.Steps.{kindsOf, entered-append, each-append}
 use Rattle.power.proofs.Unmade.{Unmade, unmade-readable}
 
 -- the book after the steps made
-abbrev pub bookAfter : Terms → List Step → Book → Book
+abbrev pub bookAfter : Terms → List Step → Fine → Fine
 bookAfter t steps b = enteredAll t (kindsOf steps) b
 
 -- ---- the state
 
 -- the store's writer is the appender, whose id is spared; the directory that a file goes from is its rollover's, as the book has it
-pub record Live (t : Terms) (vol : List ℕ) (m : Medium) (st : Store) (a : Appender) (G : ℕ → List Segment) (b : Book) : Type 0 where
+pub record Live (t : Terms) (vol : List ℕ) (m : Medium) (st : Store) (a : Appender) (G : ℕ → List Segment) (b : Fine) : Type 0 where
   pub whole : Whole vol st G b
   pub readable : Readable vol m
   pub writer : st .writer ≡ Open (a .token) (a .id)
@@ -38,40 +39,40 @@ pub record Live (t : Terms) (vol : List ℕ) (m : Medium) (st : Store) (a : Appe
   pub dir : t .dir ≡ b .rollover
 
 -- a refused commit leaves it
-pub unmade-live : {t : Terms} {vol v : List ℕ} {m u : Medium} {st su : Store} {a : Appender} {G : ℕ → List Segment} {b : Book} → Live t vol m st a G b → Unmade vol m st G b v u su
+pub unmade-live : {t : Terms} {vol v : List ℕ} {m u : Medium} {st su : Store} {a : Appender} {G : ℕ → List Segment} {b : Fine} → Live t vol m st a G b → Unmade vol m st G b v u su
     → Live t v u su a G b
 unmade-live l n =
     record { whole = n .whole; readable = unmade-readable n (l .readable); writer = ap (λ (x : Store). x .writer) (n .store) ∙ l .writer; spared = l .spared; dir = l .dir }
 
 -- of what a part of the call gives, from the book b, with `rest` still to come
-pub record Kept (t : Terms) (b : Book) (rest : List ℕ) (o : AppOut) : Type 0 where
+pub record Kept (t : Terms) (b : Fine) (rest : List ℕ) (o : AppOut) : Type 0 where
   pub layout : ℕ → List Segment
   pub live : Live t (o .vol) (o .ans .medium) (o .ans .store) (o .ans .appender) layout (bookAfter t (o .steps) b)
   pub stands : o .ans .outcome ≡ Done → Stands (o .vol) (o .ans .store) (o .ans .appender) layout (bookAfter t (o .steps) b) rest
 
 -- under the premise on its steps
-abbrev pub KeptIf : Terms → Book → List ℕ → AppOut → Type 0
+abbrev pub KeptIf : Terms → Fine → List ℕ → AppOut → Type 0
 KeptIf t b rest o = EachStep Distinct (o .steps) → Kept t b rest o
 
 -- refused, or done, with no step
-pub kept-stopped : {t : Terms} {b : Book} {rest vol : List ℕ} {m : Medium} {st : Store} {a : Appender} {G : ℕ → List Segment} (e : Error)
+pub kept-stopped : {t : Terms} {b : Fine} {rest vol : List ℕ} {m : Medium} {st : Store} {a : Appender} {G : ℕ → List Segment} (e : Error)
     → Live t vol m st a G b → Kept t b rest (stopped vol m st a e)
 unfolding enteredAll
 kept-stopped {G = G} e l = record { layout = G; live = l; stands = λ d. clash refl d }
 
-pub kept-done : {t : Terms} {b : Book} {rest vol : List ℕ} {m : Medium} {st : Store} {a : Appender} {G : ℕ → List Segment}
+pub kept-done : {t : Terms} {b : Fine} {rest vol : List ℕ} {m : Medium} {st : Store} {a : Appender} {G : ℕ → List Segment}
     → Live t vol m st a G b → Stands vol st a G b rest → Kept t b rest (done vol m st a)
 unfolding enteredAll
 kept-done {G = G} l s = record { layout = G; live = l; stands = λ _. s }
 
 -- ---- composition
 
-pub kept-after : {t : Terms} {b : Book} {rest : List ℕ} (steps : List Step) (o : AppOut) → Kept t (bookAfter t steps b) rest o → Kept t b rest (after steps o)
+pub kept-after : {t : Terms} {b : Fine} {rest : List ℕ} (steps : List Step) (o : AppOut) → Kept t (bookAfter t steps b) rest o → Kept t b rest (after steps o)
 kept-after {t} {b} steps o k =
     record { layout = k .layout; live = rw (entered-append t steps (o .steps) b) (k .live); stands = rw (entered-append t steps (o .steps) b) (k .stands) }
 
 -- what goes on from a part that was done
-abbrev pub GoesOn : Terms → Book → List ℕ → List ℕ → AppOut → Next → Type 0
+abbrev pub GoesOn : Terms → Fine → List ℕ → List ℕ → AppOut → Next → Type 0
 GoesOn t b mid rest o next =
     (G : ℕ → List Segment)
     → Live t (o .vol) (o .ans .medium) (o .ans .store) (o .ans .appender) G (bookAfter t (o .steps) b)
@@ -79,7 +80,7 @@ GoesOn t b mid rest o next =
     → EachStep Distinct (next (o .vol) (o .ans .medium) (o .ans .store) (o .ans .appender) .steps)
     → Kept t (bookAfter t (o .steps) b) rest (next (o .vol) (o .ans .medium) (o .ans .store) (o .ans .appender))
 
-module _ {t : Terms} {b : Book} {mid rest : List ℕ} (o : AppOut) (next : Next) where
+module _ {t : Terms} {b : Fine} {mid rest : List ℕ} (o : AppOut) (next : Next) where
   ended : {e : Error} → o .ans .outcome ≡ No e → Kept t b mid o → Kept t b rest (andThen o next)
   ended q k = subst (Kept t b rest) (sym (then-no o next q)) (record { layout = k .layout; live = k .live; stands = λ d. clash q d })
 

@@ -22,7 +22,8 @@ use Rattle.append.specs.Flush.{AppOut, andThen, movedTo, closing, extendOf, rec
 use Rattle.append.proofs.Keeps.{onTail-keeps}
 use Rattle.safe.proofs.Frame.{clash}
 use Rattle.layout.specs.Segments.{Segment, segmentAt}
-use Rattle.power.specs.Book.{Book, Terms}
+use Rattle.power.specs.Book.{Terms}
+use Rattle.power.proofs.Fine.{Fine}
 use Rattle.power.proofs.Whole.{TailAt, Stands}
 use Rattle.power.proofs.Standing.{sane, count-in}
 use Rattle.power.proofs.Flows.{Live, Kept, KeptIf, kept-stopped, kept-then}
@@ -35,14 +36,14 @@ ready-moved : {a x : Appender} {rest : List ℕ} (c : ℕ) → x ≡ movedTo c a
 ready-moved c q r = rw q (record { least = r .least; most = r .most; takes = r .takes; leaves = r .leaves })
 
 -- the first record of a chunk just linked
-first-kept : {t : Terms} {vol : List ℕ} {m : Medium} {st : Store} {a x : Appender} {G : ℕ → List Segment} {b : Book} {rest : List ℕ} (c : ℕ) → x ≡ movedTo c a → Ready a rest
+first-kept : {t : Terms} {vol : List ℕ} {m : Medium} {st : Store} {a x : Appender} {G : ℕ → List Segment} {b : Fine} {rest : List ℕ} (c : ℕ) → x ≡ movedTo c a → Ready a rest
     → Live t vol m st x G b → Stands vol st x G b rest → Kept t b rest (recordOut 0 vol m st x)
 first-kept {st = st} {x = x} {G = G} c q r l s =
     let n : ℕ = length (segmentAt (G (x .slot)) (x .position) .payloads) in
     let e : 0 ≡ n = subst (λ (y : Tail). TailAt y n (st .head .chunk)) (ap (λ (y : Appender). y .tail) q) (s .tail) in
     record-kept l s (ready-moved c q r) 0 e (sane (l .whole) s .size-least)
 
-module _ {t : Terms} {vol : List ℕ} {m : Medium} {st : Store} {a : Appender} {G : ℕ → List Segment} {b : Book} {rest : List ℕ}
+module _ {t : Terms} {vol : List ℕ} {m : Medium} {st : Store} {a : Appender} {G : ℕ → List Segment} {b : Fine} {rest : List ℕ}
     (l : Live t vol m st a G b) (s : Stands vol st a G b rest) (r : Ready a rest) where
   abbrev count : ℕ
   count = length (segmentAt (G (a .slot)) (a .position) .payloads)

@@ -21,21 +21,23 @@ use Rattle.layout.proofs.Unchanged.{fresh-good}
 use Rattle.views.proofs.Commits.{format-unchanged, format-fresh}
 use Rattle.store.specs.Writing.{formatCall}
 use Rattle.power.specs.Calls.{format}
-use Rattle.power.specs.Book.{Book, entered, enteredAll, beforeSteps, afterSteps, written}
 use Rattle.power.specs.History.{World, isOk, ifOk, ran, fedBy, Clean, Given}
+use Rattle.power.specs.Book as book
+use Rattle.power.proofs.Fine.{Fine, entered, enteredAll, beforeSteps, afterSteps, written}
 use Rattle.power.proofs.Whole.{Whole, Keeps}
 use Rattle.power.proofs.Unmade.{whole-same}
 use Rattle.power.proofs.Stays.{owns-same, owns-none}
 use Rattle.power.proofs.Ties.{ties-fresh}
+use Rattle.power.proofs.Parts.{parted-fresh}
 
 -- an empty store and an empty book
-pub fresh-whole : {size : ℕ} {vol : List ℕ} {m : Medium} {o : Out} (b : Book) → b .next ≡ 1 → b .files ≡ [] → FormatMade size vol m o → Clean vol (o .ans .store)
+pub fresh-whole : {size : ℕ} {vol : List ℕ} {m : Medium} {o : Out} (b : Fine) → b .next ≡ 1 → b .files ≡ [] → b .ids ≡ 1 → b .size ≡ size → FormatMade size vol m o → Clean vol (o .ans .store)
     → Whole (o .vol) (o .ans .store) (λ s. []) b
-fresh-whole b n f made clean =
+fresh-whole b n f i z made clean =
     let fresh = format-fresh made clean in
-    record { inv = made .inv; good = fresh-good fresh; ties = rw f (ties-fresh fresh); next = n ∙ sym (made .next) }
+    record { inv = made .inv; good = fresh-good fresh; ties = rw f (ties-fresh fresh); parts = parted-fresh (b .parts) fresh; next = n ∙ sym (made .next); ids = i ∙ sym (made .next); size = z ∙ sym (made .chunk-is) }
 
-module _ (m : Medium) (size seed : ℕ) (w : World) (b : Book) where
+module _ (m : Medium) (size seed : ℕ) (w : World) (b : Fine) where
   abbrev out : Out
   out = formatOf size seed (w .vol) m
 
@@ -52,7 +54,7 @@ module _ (m : Medium) (size seed : ℕ) (w : World) (b : Book) where
   made-world q = rw q
 
   refused-book : {e : Error} → out .ans .outcome ≡ No e → written (format m size seed) (fedBy w (format m size seed)) b ≡ b
-  unfolding written fedBy ran formatCall stepsOf onDone enteredAll beforeSteps afterSteps pick
+  unfolding written fedBy ran formatCall stepsOf onDone enteredAll beforeSteps book.beforeSteps afterSteps book.afterSteps pick
   refused-book q = rw q
 
   pub format-run : out .ans .outcome ≡ Done
@@ -60,11 +62,11 @@ module _ (m : Medium) (size seed : ℕ) (w : World) (b : Book) where
   unfolding ran formatCall stepsOf onDone
   format-run q = rw q (refl, refl)
 
-  abbrev emptied : Book
-  emptied = record { next = 1; files = []; file = b .file; rollover = b .rollover; unwritten = b .unwritten }
+  abbrev emptied : Fine
+  emptied = record { next = 1; files = []; file = b .file; rollover = b .rollover; unwritten = b .unwritten; parts = b .parts; ids = 1; size = size }
 
-  made-book : out .ans .outcome ≡ Done → written (format m size seed) (fedBy w (format m size seed)) b ≡ emptied
-  unfolding written fedBy ran formatCall stepsOf onDone enteredAll entered beforeSteps afterSteps pick
+  pub made-book : out .ans .outcome ≡ Done → written (format m size seed) (fedBy w (format m size seed)) b ≡ emptied
+  unfolding written fedBy ran formatCall stepsOf onDone enteredAll entered book.entered beforeSteps book.beforeSteps afterSteps book.afterSteps pick
   made-book q = rw q
 
   accepted : out .ans .outcome ≡ Done → isOk (formatCall (w .vol) m size seed .call .answer) ≡ true
@@ -92,7 +94,7 @@ module _ (m : Medium) (size seed : ℕ) (w : World) (b : Book) where
       rw (made-world q, made-book q)
       (record {
         layout = λ s. [];
-        whole = fresh-whole emptied refl refl f (subst (Clean (w .vol)) store-is (g .1 (accepted q)));
+        whole = fresh-whole emptied refl refl refl refl f (subst (Clean (w .vol)) store-is (g .1 (accepted q)));
         owns = owns-none (f .writer);
         readable = readable-still (w .vol) (out .vol) (f .used) (f .size) (g .0);
       })

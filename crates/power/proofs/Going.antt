@@ -21,8 +21,9 @@ use Rattle.remove.specs.Remove.{closedFor, removeOf, GoneOut, goneOf, removeOld
 use Rattle.layout.specs.Segments.{Segment}
 use Rattle.writes.specs.Writes.{commitMost}
 use Rattle.writes.proofs.Beside.{remove-plain}
-use Rattle.power.specs.Book.{File, Book, keep, mayGo}
+use Rattle.power.specs.Book.{File, keep, mayGo}
 use Rattle.power.specs.Room.{chunksIn}
+use Rattle.power.proofs.Fine.{Fine}
 use Rattle.power.proofs.Whole.{fileOf, Whole}
 use Rattle.power.proofs.Members.{isNot, not-here, length-without}
 use Rattle.power.proofs.Picks.{sparedBy, may-goes}
@@ -38,7 +39,7 @@ pub record Goer (m : Medium) (st : Store) (g : GoneOut) : Type 0 where
   pub size : g .ans .store .head .chunk ≡ st .head .chunk
   pub generation : g .ans .store .head .generation ≡ st .head .generation + 1
 
-module _ (vol : List ℕ) (m : Medium) (st : Store) (G : ℕ → List Segment) (b : Book) (w : Whole vol st G b) (r : Readable vol m)
+module _ (vol : List ℕ) (m : Medium) (st : Store) (G : ℕ → List Segment) (b : Fine) (w : Whole vol st G b) (r : Readable vol m)
     (gens : st .head .generation ≡ 2 ^ 64 - 1 → ⊥) (enough : commitMost (st .head .chunks) ≤ m .left) where
   abbrev commit : ℕ → Out
   commit slot = commitOf (Remove slot) [] vol m st
@@ -70,7 +71,7 @@ module _ (vol : List ℕ) (m : Medium) (st : Store) (G : ℕ → List Segment) (
         (λ old o t. absurd (o .none t (s .0) (s .1) (f .name) (f .id) (s .2) (may-goes dir keeping kept f may)))
 
 -- a file less, and fewer chunks
-module _ {vol : List ℕ} {m : Medium} {st : Store} {G : ℕ → List Segment} {b : Book} {dir : List ℕ} {keeping : Bool} {kept : ℕ} {g : GoneOut} (w : Whole vol st G b)
+module _ {vol : List ℕ} {m : Medium} {st : Store} {G : ℕ → List Segment} {b : Fine} {dir : List ℕ} {keeping : Bool} {kept : ℕ} {g : GoneOut} (w : Whole vol st G b)
     (x : Went vol m st G b dir keeping kept g) where
   abbrev gone : File
   gone = fileOf (x .name) (x .id) (G (x .slot))

@@ -38,7 +38,8 @@ use Rattle.power.specs.Calls.{sync}
 use Rattle.power.specs.Book.{File, Book, keep, mayGo}
 use Rattle.power.specs.History.{World, Ran, withLeft, ran, openOf, EachStep}
 use Rattle.power.specs.Room.{Tells, chunksIn, TakesChunk}
-use Rattle.power.proofs.Whole.{Whole, Keeps}
+use Rattle.power.proofs.Fine.{Fine}
+use Rattle.power.proofs.Whole.{Whole, Booked, same-files}
 use Rattle.power.proofs.Members.{isNot}
 use Rattle.power.proofs.Picks.{sparedBy}
 use Rattle.power.proofs.Removing.{gone-readable}
@@ -81,7 +82,7 @@ flush-steps vol m st a = onDone-keeps (λ (x : AppOut). x .steps ≡ writeOut vo
 
 -- ---- a chunk is linked, and the record is written in it
 
-module _ (vol : List ℕ) (m : Medium) (st : Store) {G : ℕ → List Segment} {b : Book} (w : Whole vol st G b) (a : Appender) (partial : Bool) (records c : ℕ) where
+module _ (vol : List ℕ) (m : Medium) (st : Store) {G : ℕ → List Segment} {b : Fine} (w : Whole vol st G b) (a : Appender) (partial : Bool) (records c : ℕ) where
   abbrev edit : Edit
   edit = Extend (a .slot) (a .position) c (a .chunk) partial records
 
@@ -120,7 +121,7 @@ pub record Grown (w : World) (left : ℕ) : Type 0 where
   pub size : ran w (sync left) .world .store .head .chunk ≡ w .store .head .chunk
   pub generation : ran w (sync left) .world .store .head .generation ≡ w .store .head .generation + 2
 
-module _ {w : World} {b : Book} (k : Keeps w b) (left : ℕ) (writer : w .store .writer ≡ Open (w .appender .token) (w .appender .id))
+module _ {w : World} {b : Book} (k : Booked w b) (left : ℕ) (writer : w .store .writer ≡ Open (w .appender .token) (w .appender .id))
     (takes : TakesChunk (w .appender .tail) (w .store .head .chunk)) (some-bytes : b .unwritten ≡ [] → ⊥) where
   abbrev a : Appender
   a = w .appender
@@ -132,7 +133,7 @@ module _ {w : World} {b : Book} (k : Keeps w b) (left : ℕ) (writer : w .store 
   y = record { writer = writer; live = takes-live (a .tail) (w .store .head .chunk) takes }
 
   bytes : 1 ≤ a .fill
-  bytes = some-kept k y some-bytes
+  bytes = some-kept (k .keeps) y (λ e. some-bytes (ap (λ (x : Book). x .unwritten) (sym (k .same)) ∙ e))
 
   abbrev next : (partial : Bool) × ((records : ℕ) × (writeOut (w .vol) m (w .store) a ≡ andThen (extendOf (w .vol) m (w .store) a partial records) (recordOut 0)))
   next = write-next (w .vol) m (w .store) a (a .tail) refl takes
@@ -144,14 +145,14 @@ module _ {w : World} {b : Book} (k : Keeps w b) (left : ℕ) (writer : w .store 
   records = next .1 .0
 
   low : leb 32767 (a .position) ≡ false
-  low = lt-leb 32767 (a .position) (omega (arith, position-in (k .whole) (stands k y .0)))
+  low = lt-leb 32767 (a .position) (omega (arith, position-in (k .keeps .whole) (stands (k .keeps) y .0)))
 
   -- ---- a chunk is free
 
   module _ (room-left : chunksIn (b .files) < w .store .head .chunks) (gens : w .store .head .generation ≡ 2 ^ 64 - 1 → ⊥)
       (enough : recordsMost false (w .store .head .chunks) 1 ≤ left) where
     free-here : (c : ℕ) × (freeOf (w .vol) m (w .store) ≡ free.At c)
-    free-here = found (w .vol) m (w .store) (k .whole) (k .readable) room-left
+    free-here = found (w .vol) m (w .store) (k .keeps .whole) (k .keeps .readable) (rw (same-files k) room-left)
 
     extend-links : extendOf (w .vol) m (w .store) a partial records ≡ linkOut (w .vol) m (w .store) a partial records (free-here .0)
     unfolding extendOf onPick
@@ -162,21 +163,21 @@ module _ {w : World} {b : Book} (k : Keeps w b) (left : ℕ) (writer : w .store 
 
     links : Within (commitMost (w .store .head .chunks)) m (commit (w .vol) m (w .store) a partial records (free-here .0) .ans .outcome) (commit (w .vol) m (w .store) a partial records (free-here .0) .ans .medium)
     links =
-        commit-within (edit (w .vol) m (w .store) (k .whole) a partial records (free-here .0)) [] (w .vol) m (w .store) (k .whole .inv) (k .readable)
+        commit-within (edit (w .vol) m (w .store) (k .keeps .whole) a partial records (free-here .0)) [] (w .vol) m (w .store) (k .keeps .whole .inv) (k .keeps .readable)
         (extend-plain (a .slot) (a .position) (free-here .0) (a .chunk) partial records) (lit≤ tt) gens (omega (arith, plenty))
 
     abbrev both : AppOut
-    both = after (step (w .vol) m (w .store) a partial records (free-here .0) ∷ []) (last (w .vol) m (w .store) (k .whole) a partial records (free-here .0))
+    both = after (step (w .vol) m (w .store) a partial records (free-here .0) ∷ []) (last (w .vol) m (w .store) (k .keeps .whole) a partial records (free-here .0))
 
     both-is : writeOut (w .vol) m (w .store) a ≡ both
     both-is =
-        next .1 .1 ∙ ap (λ (o : AppOut). andThen o (recordOut 0)) (extend-links ∙ linked-is (w .vol) m (w .store) (k .whole) a partial records (free-here .0) _ links plenty)
+        next .1 .1 ∙ ap (λ (o : AppOut). andThen o (recordOut 0)) (extend-links ∙ linked-is (w .vol) m (w .store) (k .keeps .whole) a partial records (free-here .0) _ links plenty)
         ∙ then-done (after (step (w .vol) m (w .store) a partial records (free-here .0) ∷ []) (moved (w .vol) m (w .store) a partial records (free-here .0))) (recordOut 0) refl
 
     pub sync-extends : Tells w (sync left) (extended ∷ recorded ∷ [])
     sync-extends =
-        let d = last-done (w .vol) m (w .store) (k .whole) a partial records (free-here .0) _ links plenty in
-        rw (sync-done k y left bytes both-is (d .0), d .0, d .1) (refl, refl)
+        let d = last-done (w .vol) m (w .store) (k .keeps .whole) a partial records (free-here .0) _ links plenty in
+        rw (sync-done (k .keeps) y left bytes both-is (d .0), d .0, d .1) (refl, refl)
 
   -- ---- none is, and a file of the rollover's directory may go
 
@@ -192,17 +193,17 @@ module _ {w : World} {b : Book} (k : Keeps w b) (left : ℕ) (writer : w .store 
     x = removeOldestOf (w .vol) m (w .store) (dirBytes (a .dir)) keeping spared
 
     set : (a .rolls ≡ true) × (dirBytes (a .dir) ≡ dir)
-    set = set-dir (a .rolls) (dirBytes (a .dir)) dir (sym over ∙ stands k y .0 .rollover)
+    set = set-dir (a .rolls) (dirBytes (a .dir)) dir (sym over ∙ sym (ap (λ (x : Book). x .rollover) (k .same)) ∙ stands (k .keeps) y .0 .rollover)
 
     spares : some (b .file) ≡ sparedBy keeping spared
-    spares = ap some (stands k y .0 .file) ∙ sym (ap openOf writer) ∙ sym (spared-open (w .store .writer))
+    spares = ap some (sym (ap (λ (x : Book). x .file) (k .same)) ∙ stands (k .keeps) y .0 .file) ∙ sym (ap openOf writer) ∙ sym (spared-open (w .store .writer))
 
     two : commitMost (w .store .head .chunks) + (1 + tableOf (w .store .head .chunks) + 2) + 1 ≤ left
     two = rw (← record-over (w .store .head .chunks)) enough
 
     gone : Goer m (w .store) x
     gone =
-        oldest-goes (w .vol) m (w .store) (k .layout) b (k .whole) (k .readable) (λ e. omega (arith, e, gens)) (omega (arith, two)) (dirBytes (a .dir)) keeping spared f has
+        oldest-goes (w .vol) m (w .store) (k .keeps .layout) (k .fine) (k .keeps .whole) (k .keeps .readable) (λ e. omega (arith, e, gens)) (omega (arith, two)) (dirBytes (a .dir)) keeping spared f (rw (same-files k) has)
         (rw (set .1, ← spares) goes)
 
     -- what follows it
@@ -215,7 +216,7 @@ module _ {w : World} {b : Book} (k : Keeps w b) (left : ℕ) (writer : w .store 
     unfolding extendOf rolledOut onPick
     extend-is =
         pick-false _ _ low
-        ∙ rw (none-found (w .vol) m (w .store) (k .whole) (k .readable) none-left)
+        ∙ rw (none-found (w .vol) m (w .store) (k .keeps .whole) (k .keeps .readable) (rw (same-files k) none-left))
         (pick-true _ _ (set .0) ∙ onDone-done _ _ (gone .within .0) ∙ pick-true _ _ (gone .any))
 
     write-is : writeOut (w .vol) m (w .store) a ≡ andThen (after (rolling (x .skipped)) onward) (recordOut 0)
@@ -226,16 +227,16 @@ module _ {w : World} {b : Book} (k : Keeps w b) (left : ℕ) (writer : w .store 
       each-gone : EachSkipped Distinct (x .skipped)
       each-gone =
           rolled-first Distinct (x .skipped) onward (recordOut 0)
-          (subst (EachStep Distinct) (ap (λ (r : Ran). r .steps) (sync-flush k y left bytes) ∙ flush-steps (w .vol) m (w .store) a ∙ ap (λ (o : AppOut). o .steps) write-is) each)
+          (subst (EachStep Distinct) (ap (λ (r : Ran). r .steps) (sync-flush (k .keeps) y left bytes) ∙ flush-steps (w .vol) m (w .store) a ∙ ap (λ (o : AppOut). o .steps) write-is) each)
 
-      went : Went (w .vol) m (w .store) (k .layout) b (dirBytes (a .dir)) keeping spared x
-      went = oldest-made (w .vol) m (w .store) (k .layout) b (k .whole) (k .readable) (dirBytes (a .dir)) keeping spared (gone .any) each-gone
+      went : Went (w .vol) m (w .store) (k .keeps .layout) (k .fine) (dirBytes (a .dir)) keeping spared x
+      went = oldest-made (w .vol) m (w .store) (k .keeps .layout) (k .fine) (k .keeps .whole) (k .keeps .readable) (dirBytes (a .dir)) keeping spared (gone .any) each-gone
 
       reads : Readable (x .vol) (x .ans .medium)
-      reads = gone-readable (went .gone) (k .readable)
+      reads = gone-readable (went .gone) (k .keeps .readable)
 
-      fewer : chunksIn (keep (isNot (went .id)) (b .files)) < x .ans .store .head .chunks
-      fewer = omega (arith, went-chunks (k .whole) went, none-left, gone .chunks)
+      fewer : chunksIn (keep (isNot (went .id)) (k .fine .files)) < x .ans .store .head .chunks
+      fewer = let all : chunksIn (k .fine .files) ≡ w .store .head .chunks = rw (same-files k) none-left in omega (arith, went-chunks (k .keeps .whole) went, all, gone .chunks)
 
       free-there : (c : ℕ) × (freeOf (x .vol) (x .ans .medium) (x .ans .store) ≡ free.At c)
       free-there = found (x .vol) (x .ans .medium) (x .ans .store) (went .gone .whole) reads fewer
@@ -257,7 +258,7 @@ module _ {w : World} {b : Book} (k : Keeps w b) (left : ℕ) (writer : w .store 
       within =
           commit-after (edit (x .vol) (x .ans .medium) (x .ans .store) (went .whole) a partial records c) [] (x .vol) (x .ans .medium) (x .ans .store) (went .whole .inv) reads
           (extend-plain (a .slot) (a .position) c (a .chunk) partial records) (lit≤ tt) fresh
-          (oldest-beside (w .vol) m (w .store) (record { ok = k .whole .inv .ok; count = k .whole .inv .range .count }) (dirBytes (a .dir)) keeping spared (gone .any)) (omega (arith, ample))
+          (oldest-beside (w .vol) m (w .store) (record { ok = k .keeps .whole .inv .ok; count = k .keeps .whole .inv .range .count }) (dirBytes (a .dir)) keeping spared (gone .any)) (omega (arith, ample))
 
       -- it is linked, and the record is written
       abbrev all : AppOut
@@ -280,7 +281,7 @@ module _ {w : World} {b : Book} (k : Keeps w b) (left : ℕ) (writer : w .store 
           let d = last-done (x .vol) (x .ans .medium) (x .ans .store) (went .whole) a partial records c _ within ample in
           let s = kept (x .vol) (x .ans .medium) (x .ans .store) (went .whole) a partial records c in
           let g = later (x .vol) (x .ans .medium) (x .ans .store) (went .whole) a partial records c _ within ample in
-          let q = sync-done k y left bytes written-is (d .0) in
+          let q = sync-done (k .keeps) y left bytes written-is (d .0) in
           record {
             accepted = rw (q, d .0) refl;
             rolled = x .skipped;

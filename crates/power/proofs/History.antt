@@ -1,7 +1,7 @@
 -- Demand 3: the invariant holds after every history, so the volume shows the book; under the weaker premise, and from it under the literal one.
 -- Assumes nothing.
 use Prim.Native.Nat.{ℕ, _<_}
-use mathlib.Core.Path.{_≡_, refl}
+use mathlib.Core.Path.{_≡_, refl, ap, subst, _∙_}
 use mathlib.Core.List.{List, [], _∷_}
 use lib.ListN.{getD}
 use Rattle.medium.specs.declared.Medium.{Medium}
@@ -16,10 +16,12 @@ use Rattle.safe.proofs.Invs.{readable-still}
 use Rattle.safe.proofs.Format.{format-bytes}
 use Rattle.store.specs.Writing.{formatCall}
 use Rattle.power.specs.Calls.{Call, mount, format, create, openAppend, append, sync, delete, deleteOldest, query}
-use Rattle.power.specs.Book.{Book, newBook, written}
-use Rattle.power.specs.History.{World, ran, fedBy, after, bookOf, Clean, Given, EachStep, Honest, Premise}
-use Rattle.power.specs.Claim.{started, Demand3, Demand3Weaker}
-use Rattle.power.proofs.Whole.{Keeps}
+use Rattle.power.specs.Book as book
+use Rattle.power.specs.Book.{Book, newBook}
+use Rattle.power.specs.History.{World, ran, fedBy, after, Clean, Given, EachStep, Honest, Premise}
+use Rattle.power.specs.Claim.{Holds, started, Demand3, Demand3Weaker}
+use Rattle.power.proofs.Fine.{Fine, newFine, written, fineOf, forget-written, forget-history}
+use Rattle.power.proofs.Whole.{Keeps, Booked}
 use Rattle.power.proofs.Stays.{owns-none}
 use Rattle.power.proofs.Shown.{shown}
 use Rattle.power.proofs.Queries.{query-keeps}
@@ -33,47 +35,66 @@ use Rattle.power.proofs.Appends.{append-keeps, sync-keeps}
 -- ---- one call
 
 -- whatever a call does, the invariant holds of what it leaves and of the book with its steps
-pub call-keeps : (c : Call) (w : World) (b : Book) → Keeps w b → Given w c → EachStep Distinct (ran w c .steps) → Keeps (ran w c .world) (written c (fedBy w c) b)
+pub fine-keeps : (c : Call) (w : World) (b : Fine) → Keeps w b → Given w c → EachStep Distinct (ran w c .steps) → Keeps (ran w c .world) (written c (fedBy w c) b)
 unfolding Given
-call-keeps (mount m) w b k g e = mount-keeps m w b k g
-call-keeps (format m size seed) w b k g e = format-keeps m size seed w b k g
-call-keeps (create left name rolls dir) w b k g e = create-keeps w b k left name rolls dir e
-call-keeps (openAppend left name rolls dir) w b k g e = open-keeps left name rolls dir w b k
-call-keeps (append left bytes) w b k g e = append-keeps w b k left bytes e
-call-keeps (sync left) w b k g e = sync-keeps w b k left e
-call-keeps (delete left name) w b k g e = delete-keeps w b k left name e
-call-keeps (deleteOldest left dir) w b k g e = oldest-keeps w b k left dir e
-call-keeps (query q) w b k g e = query-keeps q w b k
+fine-keeps (mount m) w b k g e = mount-keeps m w b k g
+fine-keeps (format m size seed) w b k g e = format-keeps m size seed w b k g
+fine-keeps (create left name rolls dir) w b k g e = create-keeps w b k left name rolls dir e
+fine-keeps (openAppend left name rolls dir) w b k g e = open-keeps left name rolls dir w b k
+fine-keeps (append left bytes) w b k g e = append-keeps w b k left bytes e
+fine-keeps (sync left) w b k g e = sync-keeps w b k left e
+fine-keeps (delete left name) w b k g e = delete-keeps w b k left name e
+fine-keeps (deleteOldest left dir) w b k g e = oldest-keeps w b k left dir e
+fine-keeps (query q) w b k g e = query-keeps q w b k
 
 -- ---- all of them
 
-pub history-keeps : (cs : List Call) (w : World) (b : Book) → Keeps w b → Premise Distinct w cs → Keeps (after w cs) (bookOf w cs b)
-unfolding after bookOf Premise
+pub history-keeps : (cs : List Call) (w : World) (b : Fine) → Keeps w b → Premise Distinct w cs → Keeps (after w cs) (fineOf w cs b)
+unfolding after fineOf Premise
 history-keeps [] w b h p = h
-history-keeps (c ∷ cs) w b h p = history-keeps cs (ran w c .world) (written c (fedBy w c) b) (call-keeps c w b h (p .0) (p .1)) (p .2)
+history-keeps (c ∷ cs) w b h p = history-keeps cs (ran w c .world) (written c (fedBy w c) b) (fine-keeps c w b h (p .0) (p .1)) (p .2)
 
 -- ---- the start
 
 -- an accepted format on any bytes, beside any appender
-pub started-keeps : (vol : List ℕ) (m : Medium) (size seed : ℕ) (ap : Appender) → ((k : ℕ) → getD vol k 0 < 256) → formatCall vol m size seed .call .answer ≡ ok tt
-    → Readable vol m → Clean vol (formatCall vol m size seed .call .store) → Keeps (started (formatCall vol m size seed) ap) newBook
+pub started-fine : (vol : List ℕ) (m : Medium) (size seed : ℕ) (ap : Appender) → ((k : ℕ) → getD vol k 0 < 256) → formatCall vol m size seed .call .answer ≡ ok tt
+    → Readable vol m → Clean vol (formatCall vol m size seed .call .store) → Keeps (started (formatCall vol m size seed) ap) (newFine size)
 unfolding formatCall
-started-keeps vol m size seed ap bytes a r clean =
+started-fine vol m size seed ap bytes a r clean =
     let o : Out = formatOf size seed vol m in
     let f : FormatMade size vol m o = format-bytes size seed vol m bytes (done-told (o .ans .outcome) a) in
     record {
       layout = λ s. [];
-      whole = fresh-whole newBook refl refl f clean;
+      whole = fresh-whole (newFine size) refl refl refl refl f clean;
       owns = owns-none (f .writer);
       readable = readable-still vol (o .vol) (f .used) (f .size) r;
     }
+
+-- ---- 01's book
+
+pub call-keeps : (c : Call) (w : World) (b : Book) → Booked w b → Given w c → EachStep Distinct (ran w c .steps) → Booked (ran w c .world) (book.written c (fedBy w c) b)
+call-keeps c w b k g e =
+    record {
+      fine = written c (fedBy w c) (k .fine);
+      same = forget-written c (fedBy w c) (k .fine) ∙ ap (book.written c (fedBy w c)) (k .same);
+      keeps = fine-keeps c w (k .fine) (k .keeps) g e;
+    }
+
+pub started-keeps : (vol : List ℕ) (m : Medium) (size seed : ℕ) (ap : Appender) → ((k : ℕ) → getD vol k 0 < 256) → formatCall vol m size seed .call .answer ≡ ok tt
+    → Readable vol m → Clean vol (formatCall vol m size seed .call .store) → Booked (started (formatCall vol m size seed) ap) newBook
+started-keeps vol m size seed ap bytes a r clean = record { fine = newFine size; same = refl; keeps = started-fine vol m size seed ap bytes a r clean }
+
+-- the volume shows it
+pub booked-shown : {w : World} {b : Book} → Booked w b → Holds (w .vol) b
+booked-shown {w} k = subst (Holds (w .vol)) (k .same) (shown _ _ (k .keeps .layout) _ (k .keeps .whole))
 
 -- ---- demand 3
 
 pub no-batch-lost : Demand3Weaker
 no-batch-lost vol m size seed ap calls bytes a r clean p =
-    let h = history-keeps calls (started (formatCall vol m size seed) ap) newBook (started-keeps vol m size seed ap bytes a r clean) p in
-    shown _ _ (h .layout) _ (h .whole)
+    let w : World = started (formatCall vol m size seed) ap in
+    let h = history-keeps calls w (newFine size) (started-fine vol m size seed ap bytes a r clean) p in
+    subst (Holds (after w calls .vol)) (forget-history w calls (newFine size)) (shown _ _ (h .layout) _ (h .whole))
 
 -- a sector that holds the bytes due there holds them where the checksums are equal
 each-skipped : (l : List Skipped) → EachSkipped Honest l → EachSkipped Distinct l

@@ -1,3 +1,6 @@
+pub mod Fine
+pub mod Parts
+pub mod Grows
 pub mod Whole
 pub mod Members
 pub mod Ties
@@ -26,6 +29,14 @@ pub mod Mounting
 pub mod Formatting
 pub mod Reopening
 pub mod History
+pub mod Pins
+pub mod Marks
+pub mod Points
+pub mod ById
+pub mod Settings
+pub mod Openings
+pub mod Sets
+pub mod Remembers
 pub mod Spends
 pub mod FirstCommit
 pub mod Enough

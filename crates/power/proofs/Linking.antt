@@ -38,10 +38,13 @@ use Rattle.folds.proofs.Chunks.{free-chunk}
 use Rattle.views.specs.Edited.{Edited}
 use Rattle.views.proofs.Makes.{extended-partial, extended-full}
 use Rattle.views.proofs.Commits.{commit-edited}
-use Rattle.power.specs.Book.{Book, Terms, entered, enteredAll}
+use Rattle.power.specs.Book as book
+use Rattle.power.specs.Book.{Terms}
 use Rattle.power.specs.History.{EachStep}
+use Rattle.power.proofs.Fine.{Fine, entered, enteredAll}
 use Rattle.power.proofs.Whole.{Stands}
 use Rattle.power.proofs.Ties.{ties-extend}
+use Rattle.power.proofs.Parts.{parted-extend}
 use Rattle.power.proofs.Unmade.{commit-unmade}
 use Rattle.power.proofs.Standing.{sane, chunk-in, position-in, count-in}
 use Rattle.power.proofs.Flows.{Live, unmade-live, Kept, kept-stopped, kept-done, kept-after}
@@ -74,7 +77,7 @@ module _ (vol : List ℕ) (m : Medium) (st : Store) (a : Appender) (partial : Bo
   unfolding linkOut stepsOf onDone
   link-refused q = rw q
 
-module _ {t : Terms} {vol : List ℕ} {m : Medium} {st : Store} {a : Appender} {G : ℕ → List Segment} {b : Book} {rest : List ℕ}
+module _ {t : Terms} {vol : List ℕ} {m : Medium} {st : Store} {a : Appender} {G : ℕ → List Segment} {b : Fine} {rest : List ℕ}
     (l : Live t vol m st a G b) (s : Stands vol st a G b rest) (partial : Bool) (records c : ℕ)
     (marks : Marks partial records (length (segmentAt (G (a .slot)) (a .position) .payloads)) (st .head .chunk)) (found : freeOf vol m st ≡ free.At c) where
   abbrev edit : Edit
@@ -134,14 +137,17 @@ module _ {t : Terms} {vol : List ℕ} {m : Medium} {st : Store} {a : Appender} {
     here = subst (λ (k : ℕ). Extended (diskOf vol st) (diskOf (o .vol) (o .ans .store)) c k (plainLink (a .slot) (a .position + 1)) mark) (s .chunk) change
 
     extended-live : Live t (o .vol) (o .ans .medium) (o .ans .store) (movedTo c a) H (entered t extended b)
-    unfolding entered
+    unfolding entered book.entered
     extended-live =
         record {
           whole = record {
             inv = made .inv;
             good = extend-good (a .slot) (a .position) (l .whole .good) (s .below) (s .entry) (s .last) (unused .0) (unused .1) refl here;
             ties = rw (s .file) (ties-extend (a .slot) (l .whole .good) (l .whole .ties) (s .below) (s .entry) change);
+            parts = rw (s .file) (parted-extend (a .slot) (l .whole .good) (l .whole .parts) (s .below) (s .entry) change);
             next = l .whole .next ∙ sym (change .next);
+            ids = l .whole .ids ∙ sym (change .next);
+            size = l .whole .size ∙ sym (change .shape .size);
           };
           readable = readable-still vol (o .vol) (made .used) (made .frame .size) (l .readable);
           writer = made .writer ∙ l .writer;
@@ -155,7 +161,7 @@ module _ {t : Terms} {vol : List ℕ} {m : Medium} {st : Store} {a : Appender} {
         ∙ getD-at (G (a .slot)) (record { chunk = c; payloads = [] }) [] noSegment (a .position + 1) (sym (s .last))
 
     extended-stands : Stands (o .vol) (o .ans .store) (movedTo c a) H (entered t extended b) rest
-    unfolding entered
+    unfolding entered book.entered
     extended-stands =
         record {
           name = s .name;

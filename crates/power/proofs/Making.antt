@@ -32,10 +32,13 @@ use Rattle.safe.proofs.Unwritten.{commit-distinct}
 use Rattle.views.proofs.Commits.{inv-sane, commit-edited}
 use Rattle.views.proofs.Makes
 use Rattle.views.proofs.Stays.{writer-unchanged}
-use Rattle.power.specs.Book.{Terms, Book, openedFor, entered}
+use Rattle.power.specs.Book as book
+use Rattle.power.specs.Book.{Terms}
 use Rattle.power.specs.History.{World}
+use Rattle.power.proofs.Fine.{Fine, openedFor, entered}
 use Rattle.power.proofs.Whole.{Whole, Stands, Keeps}
 use Rattle.power.proofs.Ties.{ties-same, ties-create}
+use Rattle.power.proofs.Parts.{parted-same, parted-create}
 use Rattle.power.proofs.Asks.{Directed}
 use Rattle.power.proofs.Unmade.{Unmade, commit-unmade}
 
@@ -48,7 +51,7 @@ part-none l = refl
 abbrev firstOf : ℕ → List Segment
 firstOf c = (record { chunk = c; payloads = [] }) ∷ []
 
-module _ (w : World) (b : Book) (k : Keeps w b) (t : Terms) (slot chunk : ℕ) (hs : slot < 64) (vac : diskOf (w .vol) (w .store) .entry slot ≡ vacant)
+module _ (w : World) (b : Fine) (k : Keeps w b) (t : Terms) (slot chunk : ℕ) (hs : slot < 64) (vac : diskOf (w .vol) (w .store) .entry slot ≡ vacant)
     (new : (s i : ℕ) → s < 64 → diskOf (w .vol) (w .store) .entry s ≡ named (t .name) i → ⊥) (hc : chunk < w .store .head .chunks)
     (isFree : diskOf (w .vol) (w .store) .link chunk ≡ link.Free) (ok : nameOk (t .name) ≡ true) (small : w .store .head .«next_id» + 1 < 2 ^ 32) where
   abbrev id : ℕ
@@ -75,8 +78,8 @@ module _ (w : World) (b : Book) (k : Keeps w b) (t : Terms) (slot chunk : ℕ) (
     abbrev layout : ℕ → List Segment
     layout = replaced (k .layout) slot (firstOf chunk)
 
-    abbrev book : Book
-    book = openedFor (b .next + 1 - 1) (t .dir) (entered t created b)
+    abbrev with-new : Fine
+    with-new = openedFor (b .next + 1 - 1) (t .dir) (entered t created b)
 
     changes : Created (diskOf (w .vol) (w .store)) (diskOf (o .vol) (o .ans .store)) slot chunk (t .name)
     changes = Makes.created (inv-sane (k .whole .inv)) (commit-edited c) hs hc ok refl small
@@ -84,18 +87,21 @@ module _ (w : World) (b : Book) (k : Keeps w b) (t : Terms) (slot chunk : ℕ) (
     stays : Unchanged (diskOf (o .vol) (o .ans .store)) (diskOf (o .vol) st)
     stays = writer-unchanged (o .vol) (o .ans .store) st refl refl
 
-    made-whole : Whole (o .vol) st layout book
-    unfolding entered
+    made-whole : Whole (o .vol) st layout with-new
+    unfolding entered book.entered
     made-whole =
         record {
           inv = inv-writer refl refl (c .inv);
           good = good-same (create-good (k .whole .good) hs vac (λ s m i h e q. new s i h (rw q at e)) hc isFree changes) stays;
           ties = rw (k .whole .next) (ties-same (ties-create (k .whole .good) (k .whole .ties) hs vac changes) stays);
+          parts = rw (k .whole .ids) (parted-same (parted-create (k .whole .good) (k .whole .parts) changes) stays);
           next = rw (k .whole .next) (sym (changes .next));
+          ids = rw (k .whole .ids) (sym (changes .next));
+          size = k .whole .size ∙ sym (changes .shape .size);
         }
 
-    made-stands : Stands (o .vol) st appender layout book []
-    unfolding entered
+    made-stands : Stands (o .vol) st appender layout with-new []
+    unfolding entered book.entered
     made-stands =
         let here : layout slot ≡ firstOf chunk = replaced-here (k .layout) slot (firstOf chunk) in
         record {
@@ -112,7 +118,7 @@ module _ (w : World) (b : Book) (k : Keeps w b) (t : Terms) (slot chunk : ℕ) (
           unwritten = rw (part-none (zeros 486)) refl;
         }
 
-    pub made-keeps : Keeps (record { vol = o .vol; store = st; appender = appender; medium = withToken (o .ans .medium) }) book
+    pub made-keeps : Keeps (record { vol = o .vol; store = st; appender = appender; medium = withToken (o .ans .medium) }) with-new
     made-keeps =
         record {
           layout = layout;

@@ -30,8 +30,9 @@ use Rattle.layout.specs.Changes.{replaced}
 use Rattle.layout.proofs.Facts.{true≢false}
 use Rattle.safe.proofs.Frame.{clash}
 use Rattle.folds.proofs.Oldest.{Goes, Picked, Olds, oldest-view}
-use Rattle.power.specs.Book.{Book, withFiles, withoutOldest}
+use Rattle.power.specs.Book.{withoutOldest}
 use Rattle.power.specs.History.{openOf}
+use Rattle.power.proofs.Fine.{Fine, withFiles}
 use Rattle.power.proofs.Whole.{Whole}
 use Rattle.power.proofs.Checks.{inv-checked}
 use Rattle.power.proofs.Picks.{sparedBy, without-oldest}
@@ -45,7 +46,7 @@ spared-open Nobody = refl
 spared-open (Open token id) = refl
 
 -- the file that went
-pub record Went (vol : List ℕ) (m : Medium) (st : Store) (G : ℕ → List Segment) (b : Book) (dir : List ℕ) (keeping : Bool) (kept : ℕ) (g : GoneOut) : Type 0 where
+pub record Went (vol : List ℕ) (m : Medium) (st : Store) (G : ℕ → List Segment) (b : Fine) (dir : List ℕ) (keeping : Bool) (kept : ℕ) (g : GoneOut) : Type 0 where
   pub slot : ℕ
   pub name : List ℕ
   pub id : ℕ
@@ -60,7 +61,7 @@ goes-other {dir} {keeping} {kept} {name} {id} g k e =
     let x : (true && eqb id kept) ≡ false = rw k at (g .unspared) in
     true≢false (eq-eqb id kept e) x
 
-module _ (vol : List ℕ) (m : Medium) (st : Store) (G : ℕ → List Segment) (b : Book) (w : Whole vol st G b) (r : Readable vol m) (dir : List ℕ) (keeping : Bool) (kept : ℕ) where
+module _ (vol : List ℕ) (m : Medium) (st : Store) (G : ℕ → List Segment) (b : Fine) (w : Whole vol st G b) (r : Readable vol m) (dir : List ℕ) (keeping : Bool) (kept : ℕ) where
   abbrev found : (old : Old) × (oldestOf vol m st dir keeping kept ≡ oldest.Done old) × Olds vol st dir keeping kept 64 old
   found = oldest-view vol m st (inv-checked m (w .inv) r) G (w .good) dir keeping kept
 

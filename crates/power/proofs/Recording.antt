@@ -28,9 +28,12 @@ use Rattle.layout.specs.Changes.{replaced, Recorded}
 use Rattle.layout.proofs.Facts.{replaced-here, length-payload}
 use Rattle.layout.proofs.Records.{record-good}
 use Rattle.views.proofs.Stays.{write-recorded}
-use Rattle.power.specs.Book.{Book, Terms, entered, enteredAll}
+use Rattle.power.specs.Book as book
+use Rattle.power.specs.Book.{Terms}
+use Rattle.power.proofs.Fine.{Fine, entered, enteredAll}
 use Rattle.power.proofs.Whole.{Whole, Stands}
 use Rattle.power.proofs.Ties.{ties-record}
+use Rattle.power.proofs.Parts.{parted-record}
 use Rattle.power.proofs.Standing.{sane, last-in, chunk-in, position-in, id-small}
 use Rattle.power.proofs.Flows.{Live, Kept, kept-stopped, kept-done, kept-after}
 
@@ -61,7 +64,7 @@ payload-there G s p x h =
     ap (λ (g : List Segment). segmentAt g p) (replaced-here G s (changes.withPayload (G s) p x))
     ∙ getD-set-same (G s) p (record { chunk = segmentAt (G s) p .chunk; payloads = segmentAt (G s) p .payloads ++ (x ∷ []) }) noSegment h
 
-module _ {t : Terms} {vol : List ℕ} {m : Medium} {st : Store} {a : Appender} {G : ℕ → List Segment} {b : Book} {rest : List ℕ}
+module _ {t : Terms} {vol : List ℕ} {m : Medium} {st : Store} {a : Appender} {G : ℕ → List Segment} {b : Fine} {rest : List ℕ}
     (l : Live t vol m st a G b) (s : Stands vol st a G b rest) (r : Ready a rest) (i : ℕ)
     (at-end : i ≡ length (segmentAt (G (a .slot)) (a .position) .payloads)) (room : i < st .head .chunk) where
   abbrev x : List ℕ
@@ -119,17 +122,20 @@ module _ {t : Terms} {vol : List ℕ} {m : Medium} {st : Store} {a : Appender} {
     far = omega arith
 
     recorded-whole : Whole (w .vol) st H (entered t recorded b)
-    unfolding entered
+    unfolding entered book.entered
     recorded-whole =
         record {
           inv = inv-record vol m (dataAt st (a .chunk) i) bytes st (l .whole .inv) far inside whole-sector;
           good = record-good (a .slot) (a .position) (l .whole .good) (s .below) (s .entry) (s .last) at-end room change;
           ties = rw (s .file, s .unwritten, r .takes) (ties-record (a .slot) (a .position) (l .whole .good) (l .whole .ties) (s .below) (s .entry) (s .last) change);
+          parts = rw (s .file, s .unwritten, r .takes) (parted-record (a .slot) (a .position) (l .whole .good) (l .whole .parts) (s .below) (s .entry) (s .last) change);
           next = l .whole .next;
+          ids = l .whole .ids;
+          size = l .whole .size;
         }
 
     recorded-live : Live t (w .vol) (w .ans .medium) st (filed i a) H (entered t recorded b)
-    unfolding entered
+    unfolding entered book.entered
     recorded-live =
         record {
           whole = recorded-whole;
@@ -148,7 +154,7 @@ module _ {t : Terms} {vol : List ℕ} {m : Medium} {st : Store} {a : Appender} {
     there = payload-there G (a .slot) (a .position) x (last-in (l .whole) s)
 
     recorded-stands : Stands (w .vol) st (filed i a) H (entered t recorded b) rest
-    unfolding entered part
+    unfolding entered book.entered part
     recorded-stands =
         record {
           name = s .name;

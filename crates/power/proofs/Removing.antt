@@ -37,17 +37,19 @@ use Rattle.safe.proofs.Unwritten.{commit-distinct}
 use Rattle.views.proofs.Commits.{inv-sane, commit-edited}
 use Rattle.views.proofs.Removes.{removed}
 use Rattle.views.proofs.Stays.{writer-unchanged}
-use Rattle.power.specs.Book.{File, Book, keep, withFiles}
+use Rattle.power.specs.Book.{File, keep}
 use Rattle.medium.specs.Frame.{Spends}
 use Rattle.medium.specs.Sector.{Readable}
 use Rattle.power.specs.History.{World}
+use Rattle.power.proofs.Fine.{Fine, withFiles}
 use Rattle.power.proofs.Whole.{Whole, Stands, Writes, Owns, Keeps}
 use Rattle.power.proofs.Members.{isNot}
 use Rattle.power.proofs.Ties.{ties-same, ties-remove}
+use Rattle.power.proofs.Parts.{parted-same, parted-remove}
 use Rattle.power.proofs.Unmade.{Unmade, commit-unmade, stands-kept}
 
 -- the file of slot s, with this name and id, went: v, u and t are volume, medium and store after it
-pub record Gone (vol : List ℕ) (m : Medium) (st : Store) (G : ℕ → List Segment) (b : Book) (s : ℕ) (name : List ℕ) (id : ℕ) (v : List ℕ) (u : Medium) (t : Store) : Type 0 where
+pub record Gone (vol : List ℕ) (m : Medium) (st : Store) (G : ℕ → List Segment) (b : Fine) (s : ℕ) (name : List ℕ) (id : ℕ) (v : List ℕ) (u : Medium) (t : Store) : Type 0 where
   pub whole : Whole v t (replaced G s []) (withFiles (keep (isNot id) (b .files)) b)
   pub was : diskOf vol st .entry s ≡ named name id
   pub writer : t .writer ≡ writerWithout id (st .writer)
@@ -68,7 +70,7 @@ writes-without id (Open token held) ap {P} {Q} f h =
     (λ e. tt)
     (λ e. (h .0, h .1, λ c. f (λ q. eqb-false held id e (h .1 ∙ q)) (h .2 c)))
 
-module _ {vol : List ℕ} {m : Medium} {st : Store} {G : ℕ → List Segment} {b : Book} {s : ℕ} {name : List ℕ} {id : ℕ} {v : List ℕ} {u : Medium} {t : Store}
+module _ {vol : List ℕ} {m : Medium} {st : Store} {G : ℕ → List Segment} {b : Fine} {s : ℕ} {name : List ℕ} {id : ℕ} {v : List ℕ} {u : Medium} {t : Store}
     (g : Gone vol m st G b s name id v u t) where
   -- of another file than the appender's
   pub gone-stands : {ap : Appender} {rest : List ℕ} (files : List File) → ap .id ≢ id → Stands vol st ap G b rest → Stands v t ap (replaced G s []) (withFiles files b) rest
@@ -89,7 +91,7 @@ module _ {vol : List ℕ} {m : Medium} {st : Store} {G : ℕ → List Segment} {
   gone-readable r = readable-still vol v (g .used) (g .size) r
 
 -- between the calls, with the book's list of files in any words
-pub gone-keeps : (w : World) (b : Book) (k : Keeps w b) {m : Medium} → Readable (w .vol) m
+pub gone-keeps : (w : World) (b : Fine) (k : Keeps w b) {m : Medium} → Readable (w .vol) m
     → {s : ℕ} {name : List ℕ} {id : ℕ} {v : List ℕ} {u : Medium} {t : Store} → Gone (w .vol) m (w .store) (k .layout) b s name id v u t
     → (files : List File) → Whole v t (replaced (k .layout) s []) (withFiles files b)
     → Keeps (record { vol = v; store = t; appender = w .appender; medium = u }) (withFiles files b)
@@ -97,7 +99,7 @@ gone-keeps w b k r g files whole = record { layout = _; whole = whole; owns = go
 
 -- ---- the removal
 
-module _ (vol : List ℕ) (m : Medium) (st : Store) (G : ℕ → List Segment) (b : Book) (w : Whole vol st G b) (s id : ℕ) (hs : s < 64) where
+module _ (vol : List ℕ) (m : Medium) (st : Store) (G : ℕ → List Segment) (b : Fine) (w : Whole vol st G b) (s id : ℕ) (hs : s < 64) where
   abbrev made : Out
   made = commitOf (Remove s) [] vol m st
 
@@ -121,7 +123,10 @@ module _ (vol : List ℕ) (m : Medium) (st : Store) (G : ℕ → List Segment) (
             inv = inv-writer refl refl (c .inv);
             good = good-same (remove-good (w .good) hs r) n;
             ties = ties-same (ties-remove (w .good) (w .ties) hs is r) n;
+            parts = parted-same (parted-remove (w .parts) r) n;
             next = w .next ∙ sym (r .next);
+            ids = w .ids ∙ sym (r .next);
+            size = w .size ∙ sym (r .shape .size);
           };
           was = is;
           writer = cong (writerWithout id) (c .writer);

@@ -49,8 +49,10 @@ use Rattle.folds.proofs.Named.{find-there, find-view}
 use Rattle.store.specs.Asked.{askedOf}
 use Rattle.store.specs.Opening.{openFine, rolloverOf, opening, openCall}
 use Rattle.power.specs.Calls.{openAppend}
-use Rattle.power.specs.Book.{File, Book, idOf, ifSet, enteredAll, beforeSteps, openedFor, afterSteps, written}
+use Rattle.power.specs.Book as book
+use Rattle.power.specs.Book.{File, idOf, ifSet}
 use Rattle.power.specs.History.{World, ifOk, withLeft, ran, fedBy}
+use Rattle.power.proofs.Fine.{Fine, enteredAll, beforeSteps, openedFor, afterSteps, written}
 use Rattle.power.proofs.Whole.{fileOf, Whole, TailAt, Stands, Keeps}
 use Rattle.power.proofs.Members.{Mem}
 use Rattle.power.proofs.Checks.{inv-checked}
@@ -79,7 +81,7 @@ tail-at size n =
     (λ t. pick-keeps-by (λ (t : Tail). TailAt t n size) (eqb n size) _ _ (λ u. sym (eqb-true n size u))
     (λ u. let z : n ≡ 0 → ⊥ = eqb-false n 0 t in (refl, eqb-false n size u, omega arith)))
 
-module _ (vol : List ℕ) (m : Medium) (st : Store) (G : ℕ → List Segment) (b : Book) (w : Whole vol st G b) (r : Readable vol m) where
+module _ (vol : List ℕ) (m : Medium) (st : Store) (G : ℕ → List Segment) (b : Fine) (w : Whole vol st G b) (r : Readable vol m) where
   -- ---- the count of records in a chunk of a file
 
   module _ (s : ℕ) (name : List ℕ) (id p : ℕ) (h : s < 64) (e : diskOf vol st .entry s ≡ named name id) (l : p < length (G s)) where
@@ -158,7 +160,7 @@ module _ (vol : List ℕ) (m : Medium) (st : Store) (G : ℕ → List Segment) (
       go (found.At s id) q = let v = find-view vol m st name q in opens s id (v .0) (v .1) (file-opens over s name id (v .0) (v .1))
 
   -- the book has that file
-  book-id : (s : ℕ) (name : List ℕ) (id : ℕ) → s < 64 → diskOf vol st .entry s ≡ named name id → idOf name (b .files) ≡ id
+  pub book-id : (s : ℕ) (name : List ℕ) (id : ℕ) → s < 64 → diskOf vol st .entry s ≡ named name id → idOf name (b .files) ≡ id
   book-id s name id h e =
       id-of name (b .files) (fileOf name id (G s)) (w .ties .into s name id h e) refl
       (λ f mem n.
@@ -168,7 +170,7 @@ module _ (vol : List ℕ) (m : Medium) (st : Store) (G : ℕ → List Segment) (
 
 -- ---- the call
 
-module _ (left : ℕ) (name : List ℕ) (rolls : Bool) (dir : List ℕ) (w : World) (b : Book) (k : Keeps w b) where
+module _ (left : ℕ) (name : List ℕ) (rolls : Bool) (dir : List ℕ) (w : World) (b : Fine) (k : Keeps w b) where
   abbrev m : Medium
   m = withLeft left (w .medium)
 
@@ -187,7 +189,7 @@ module _ (left : ℕ) (name : List ℕ) (rolls : Bool) (dir : List ℕ) (w : Wor
     refused-world = rw q
 
     refused-book : written (openAppend left name rolls dir) (fedBy w (openAppend left name rolls dir)) b ≡ b
-    unfolding written fedBy ran openCall opening enteredAll beforeSteps pick
+    unfolding written fedBy ran openCall opening enteredAll beforeSteps book.beforeSteps pick
     refused-book = rw q
 
     refused-keeps : Kept
@@ -207,15 +209,15 @@ module _ (left : ℕ) (name : List ℕ) (rolls : Bool) (dir : List ℕ) (w : Wor
     abbrev served : Store
     served = writtenBy (nextToken m) id (w .store)
 
-    abbrev begun : Book
+    abbrev begun : Fine
     begun = openedFor (idOf name (b .files)) (ifSet rolls dir) b
 
-    opened-world : ran w (openAppend left name rolls dir) .world ≡ record { vol = w .vol; store = served; appender = new; medium = withToken m }
+    pub opened-world : ran w (openAppend left name rolls dir) .world ≡ record { vol = w .vol; store = served; appender = new; medium = withToken m }
     unfolding ran openCall opening ifOk openedOut
     opened-world = rw q
 
-    opened-book : written (openAppend left name rolls dir) (fedBy w (openAppend left name rolls dir)) b ≡ begun
-    unfolding written fedBy ran openCall opening openedOut enteredAll beforeSteps afterSteps pick
+    pub opened-book : written (openAppend left name rolls dir) (fedBy w (openAppend left name rolls dir)) b ≡ begun
+    unfolding written fedBy ran openCall opening openedOut enteredAll beforeSteps book.beforeSteps afterSteps book.afterSteps pick
     opened-book = rw q
 
     same-views : Unchanged (diskOf (w .vol) (w .store)) (diskOf (w .vol) served)
@@ -242,26 +244,31 @@ module _ (left : ℕ) (name : List ℕ) (rolls : Bool) (dir : List ℕ) (w : Wor
     opened-whole : Whole (w .vol) served (k .layout) begun
     opened-whole =
         let x = whole-same (k .whole) (inv-writer refl refl (k .whole .inv)) same-views in
-        record { inv = x .inv; good = x .good; ties = x .ties; next = x .next }
+        record { inv = x .inv; good = x .good; ties = x .ties; parts = x .parts; next = x .next; ids = x .ids; size = x .size }
 
     opened-keeps : Kept
     opened-keeps =
         rw (opened-world, opened-book)
         (record { layout = k .layout; whole = opened-whole; owns = record { writes = (refl, refl, λ _. (stands, omega arith)) }; readable = k .readable })
 
-  by-way : askedOf (w .vol) (w .store) (openFine name rolls dir) ≡ Done
-      → Way (w .vol) m (w .store) (k .layout) b (k .whole) (k .readable) name roll (reopenOf name roll (w .vol) m (w .store)) → Kept
+  -- it is refused, or the file of the name is opened
+  pub open-ways : (P : Type 0) → ((e : Error) → out ≡ refusedAt (w .vol) m (w .store) e → P)
+      → ((s id : ℕ) → s < 64 → diskOf (w .vol) (w .store) .entry s ≡ named name id → Directed roll (ifSet rolls dir)
+      → out ≡ opened (w .vol) m (w .store) (k .layout) b (k .whole) (k .readable) roll s id → P) → P
   unfolding onDone
-  by-way a (refuses e q) = refused-keeps e (rw a q)
-  by-way a (opens s id h e q) = opened-keeps s id h e (asked-opens (w .vol) (w .store) name rolls dir a .directed) (rw a q)
+  open-ways P f g = by-asked (askedOf (w .vol) (w .store) (openFine name rolls dir)) refl
+    where
+      by-way : askedOf (w .vol) (w .store) (openFine name rolls dir) ≡ Done
+          → Way (w .vol) m (w .store) (k .layout) b (k .whole) (k .readable) name roll (reopenOf name roll (w .vol) m (w .store)) → P
+      by-way a (refuses e q) = f e (rw a q)
+      by-way a (opens s id h e q) = g s id h e (asked-opens (w .vol) (w .store) name rolls dir a .directed) (rw a q)
 
-  by-asked : (o : Outcome) → askedOf (w .vol) (w .store) (openFine name rolls dir) ≡ o → Kept
-  unfolding onDone
-  by-asked (No e) q = refused-keeps e (rw q)
-  by-asked Done q = by-way q (way (w .vol) m (w .store) (k .layout) b (k .whole) (k .readable) name roll)
+      by-asked : (o : Outcome) → askedOf (w .vol) (w .store) (openFine name rolls dir) ≡ o → P
+      by-asked (No e) q = f e (rw q)
+      by-asked Done q = by-way q (way (w .vol) m (w .store) (k .layout) b (k .whole) (k .readable) name roll)
 
   pub open-keeps : Kept
-  open-keeps = by-asked (askedOf (w .vol) (w .store) (openFine name rolls dir)) refl
+  open-keeps = open-ways Kept refused-keeps opened-keeps
 
   -- a file that is there is opened, with no step; the header stays
   module _ (s id : ℕ) (h : s < 64) (e : diskOf (w .vol) (w .store) .entry s ≡ named name id) (fine : openFine name rolls dir ≡ true) where

@@ -29,11 +29,10 @@ use Rattle.power.specs.Book.{File, Book, newBook, keep, onFile, isSpared
 use Rattle.power.specs.History.{World, ran, fedBy, after, bookOf, Given, EachStep, Premise}
 use Rattle.power.specs.Claim.{Holds, started}
 use Rattle.power.specs.Room.{Tells, chunksIn}
-use Rattle.power.proofs.Whole.{Keeps}
-use Rattle.power.proofs.Shown.{shown}
+use Rattle.power.proofs.Whole.{Booked}
 use Rattle.power.proofs.Sanity as sanity
 use Rattle.power.proofs.Staged.{Stage, Next, told, told-more, told-end, book-more, book-end, told-fed, create-next, append-next, sync-next, spares, grow-next, open-next, format-tells}
-use Rattle.power.proofs.History.{call-keeps}
+use Rattle.power.proofs.History.{call-keeps, booked-shown}
 
 -- 66 sectors with chunks of 1 are two chunks, with a body of 9
 eleven-66 : bodyOf (chunksOf (33792 / 512) 1) + 2 ≡ 11
@@ -322,8 +321,8 @@ module _ (seed : ℕ) (m : Medium) (ap₀ : Appender) (left : 11 ≤ m .left) (r
         unfolding written termsOf enteredAll entered beforeSteps afterSteps pick
         book₁₀ = rw (told-fed w₉ format-again tells₁₀)
 
-        keeps₁₀ : Keeps (ran w₉ format-again .world) emptied
-        keeps₁₀ = subst (Keeps (ran w₉ format-again .world)) book₁₀ (call-keeps format-again w₉ with-b (stage₉ .keeps) (parts .given) (parts .each₁₀))
+        keeps₁₀ : Booked (ran w₉ format-again .world) emptied
+        keeps₁₀ = subst (Booked (ran w₉ format-again .world)) book₁₀ (call-keeps format-again w₉ with-b (stage₉ .keeps) (parts .given) (parts .each₁₀))
 
         books : (more : List Call) → bookOf w₀ (calls more) newBook ≡ bookOf w₉ more with-b
         books more =
@@ -359,7 +358,7 @@ module _ (seed : ℕ) (m : Medium) (ap₀ : Appender) (left : 11 ≤ m .left) (r
       rolled-history p = (
         tells p,
         books p [] ∙ book-end w₉ with-b,
-        shown _ _ (stage₉ p .keeps .layout) _ (stage₉ p .keeps .whole),
+        booked-shown (stage₉ p .keeps),
         books p (format-again ∷ []) ∙ book-more w₉ format-again [] with-b (book₁₀ p) ∙ book-end (ran w₉ format-again .world) emptied,
-        shown _ _ (keeps₁₀ p .layout) _ (keeps₁₀ p .whole),
+        booked-shown (keeps₁₀ p),
       )

@@ -27,8 +27,10 @@ use Rattle.layout.specs.Views.{diskOf}
 use Rattle.layout.specs.Segments.{Segment, segmentAt}
 use Rattle.layout.specs.Changes.{replaced}
 use Rattle.layout.proofs.Facts.{same-id, replaced-other}
-use Rattle.power.specs.Book.{Book, Terms, withoutOldest, entered, enteredAll}
+use Rattle.power.specs.Book as book
+use Rattle.power.specs.Book.{Terms, withoutOldest}
 use Rattle.power.specs.History.{EachStep}
+use Rattle.power.proofs.Fine.{Fine, entered, enteredAll}
 use Rattle.power.proofs.Whole.{Stands}
 use Rattle.power.proofs.Picks.{sparedBy}
 use Rattle.power.proofs.Removing.{gone-stands, gone-readable}
@@ -36,7 +38,7 @@ use Rattle.power.proofs.Oldest.{Went, goes-other, oldest-stopped, oldes
 use Rattle.power.proofs.Flows.{Live, unmade-live, KeptIf, kept-stopped, kept-after}
 use Rattle.power.proofs.Linking.{Marks, link-kept}
 
-module _ {t : Terms} {vol : List ℕ} {m : Medium} {st : Store} {a : Appender} {G : ℕ → List Segment} {b : Book} {rest : List ℕ}
+module _ {t : Terms} {vol : List ℕ} {m : Medium} {st : Store} {a : Appender} {G : ℕ → List Segment} {b : Fine} {rest : List ℕ}
     (l : Live t vol m st a G b) (s : Stands vol st a G b rest) (rolls : a .rolls ≡ true) where
   abbrev g : GoneOut
   g = removeOldestOf vol m st (dirBytes (a .dir)) (isOpen (st .writer)) (openId (st .writer))
@@ -69,7 +71,7 @@ module _ {t : Terms} {vol : List ℕ} {m : Medium} {st : Store} {a : Appender} {
     elsewhere q = other (same-id (ap (diskOf vol st .entry) (sym q) ∙ s .entry) (went .gone .was))
 
     went-live : Live t (g .vol) (g .ans .medium) (g .ans .store) a H (entered t rolledOver b)
-    unfolding entered
+    unfolding entered book.entered
     went-live =
         record {
           whole = rw (← picked) (went .whole);
@@ -80,7 +82,7 @@ module _ {t : Terms} {vol : List ℕ} {m : Medium} {st : Store} {a : Appender} {
         }
 
     went-stands : Stands (g .vol) (g .ans .store) a H (entered t rolledOver b) rest
-    unfolding entered
+    unfolding entered book.entered
     went-stands = gone-stands (went .gone) (withoutOldest (t .dir) (t .spared) (b .files)) other s
 
     marks-still : (partial : Bool) (records : ℕ) → Marks partial records (length (segmentAt (G (a .slot)) (a .position) .payloads)) (st .head .chunk)

@@ -32,8 +32,9 @@ use Rattle.layout.specs.Segments.{Segment}
 use Rattle.folds.specs.Checked.{Checked}
 use Rattle.folds.proofs.Named.{Look, look-view}
 use Rattle.folds.proofs.Chunks.{Free, free-found}
-use Rattle.power.specs.Book.{File, Book}
+use Rattle.power.specs.Book.{File}
 use Rattle.power.specs.Room.{chunksIn}
+use Rattle.power.proofs.Fine.{Fine}
 use Rattle.power.proofs.Whole.{Whole}
 use Rattle.power.proofs.Checks.{inv-checked}
 use Rattle.power.proofs.Creates.{steps-done}
@@ -52,7 +53,7 @@ module _ (name vol : List ℕ) (m : Medium) (st : Store) where
       ≡ after ((record { kind = created; skipped = creation slot chunk .skipped }) ∷ [])
       (openedOut (creation slot chunk .vol) (creation slot chunk .ans .medium) (creation slot chunk .ans .store) slot (st .head .«next_id») chunk 0 (At 0) over)))
 
-module _ (vol : List ℕ) (m : Medium) (st : Store) {G : ℕ → List Segment} {b : Book} (w : Whole vol st G b) (r : Readable vol m) where
+module _ (vol : List ℕ) (m : Medium) (st : Store) {G : ℕ → List Segment} {b : Fine} (w : Whole vol st G b) (r : Readable vol m) where
   checked : Checked vol m st
   checked = inv-checked m (w .inv) r
 

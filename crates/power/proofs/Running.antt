@@ -31,8 +31,8 @@ use Rattle.append.proofs.Runs.{run-short}
 use Rattle.store.specs.Writing.{deleteCall}
 use Rattle.store.proofs.Appends.{write-here}
 use Rattle.power.specs.Calls.{append, sync, delete}
-use Rattle.power.specs.Book.{Book}
 use Rattle.power.specs.History.{World, withLeft, ranAppend, ran}
+use Rattle.power.proofs.Fine.{Fine}
 use Rattle.power.proofs.Whole.{Stands, Writes, Keeps}
 use Rattle.power.proofs.Spends.{write-some}
 use Rattle.power.proofs.FirstCommit.{commit-few}
@@ -59,7 +59,7 @@ flush-done : (vol : List ℕ) (m : Medium) (st : Store) (a : Appender) {o : AppO
 unfolding flushOf
 flush-done vol m st a q d = rw q (onDone-done _ _ d)
 
-module _ {w : World} {b : Book} (k : Keeps w b) (y : Opened w) where
+module _ {w : World} {b : Fine} (k : Keeps w b) (y : Opened w) where
   pub stands : Stands (w .vol) (w .store) (w .appender) (k .layout) b [] × (w .appender .fill < 486)
   stands =
       subst (λ (x : Writer). Writes x (w .appender) (Stands (w .vol) (w .store) (w .appender) (k .layout) b [] × (w .appender .fill < 486))) (y .writer) (k .owns .writes) .2 (y .live)
@@ -69,6 +69,17 @@ module _ {w : World} {b : Book} (k : Keeps w b) (y : Opened w) where
 
   pub some-kept : (b .unwritten ≡ [] → ⊥) → 1 ≤ w .appender .fill
   some-kept = some-bytes (w .appender .buffer) (w .appender .fill) (stands .0 .unwritten)
+
+  -- fewer bytes than a record takes are kept
+  pub append-short : (left : ℕ) (bytes : List ℕ) → w .appender .fill + length bytes < 486
+      → ran w (append left bytes) ≡ record {
+        world = record { vol = w .vol; store = w .store; appender = withRun bytes (w .appender); medium = withLeft left (w .medium) };
+        accepted = true;
+        steps = [];
+      }
+  unfolding ran appendCall offered
+  append-short left bytes h =
+      rw (onDone-done (callOf _) _ may, run-short bytes (w .vol) (withLeft left (w .medium)) (w .store) (w .appender) (stands .0 .buffer) h)
 
   -- a sync with bytes unwritten is a flush
   module _ (left : ℕ) (some : 1 ≤ w .appender .fill) where
@@ -90,18 +101,14 @@ pub opened : {w : World} {i n : ℕ} → Ready w i n → Opened w
 unfolding isClosed
 opened y = record { writer = y .writer; live = rw (y .tail) refl }
 
-module _ {w : World} {b : Book} {i n : ℕ} (k : Keeps w b) (y : Ready w i n) where
-  -- fewer bytes than a record takes are kept
+module _ {w : World} {b : Fine} {i n : ℕ} (k : Keeps w b) (y : Ready w i n) where
   pub append-run : (left : ℕ) (bytes : List ℕ) → n + length bytes < 486
       → ran w (append left bytes) ≡ record {
         world = record { vol = w .vol; store = w .store; appender = withRun bytes (w .appender); medium = withLeft left (w .medium) };
         accepted = true;
         steps = [];
       }
-  unfolding ran appendCall offered
-  append-run left bytes h =
-      let f : w .appender .fill + length bytes < 486 = rw (y .fill) h in
-      rw (onDone-done (callOf _) _ (may k (opened y)), run-short bytes (w .vol) (withLeft left (w .medium)) (w .store) (w .appender) (stands k (opened y) .0 .buffer) f)
+  append-run left bytes h = append-short k (opened y) left bytes (rw (y .fill) h)
 
   -- and written by one write, where the chunk has room
   module _ (left : ℕ) (room : i < w .store .head .chunk) (some : 1 ≤ n) (one : 1 ≤ left) where
@@ -137,7 +144,7 @@ removed-none vol m st slot id none =
     let o : Out = commitOf (Remove slot) [] vol m st in
     onDone-keeps (λ (x : Out). stepsOf deleted x ≡ []) (o .ans .outcome) _ _ (λ d. absurd (none d)) (λ e q. no-steps deleted o q)
 
-pub delete-stopped : {w : World} {b : Book} → Keeps w b → (left : ℕ) (name : List ℕ) → left ≤ 1 → ran w (delete left name) .steps ≡ []
+pub delete-stopped : {w : World} {b : Fine} → Keeps w b → (left : ℕ) (name : List ℕ) → left ≤ 1 → ran w (delete left name) .steps ≡ []
 unfolding ran deleteCall
 delete-stopped {w} k left name few =
     onDone-keeps None _ _ _

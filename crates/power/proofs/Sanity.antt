@@ -41,14 +41,16 @@ use Rattle.power.specs.Calls.{Call, create, append, sync, delete, mount}
 use Rattle.power.specs.Book.{File, Book, newBook, onFile, termsOf, entered, enteredAll, beforeSteps, afterSteps, written}
 use Rattle.power.specs.History.{World, Ran, isOk, ifOk, withLeft, ran, openOf, fedBy, after, bookOf, Clean, Given, EachStep, Honest, Premise}
 use Rattle.power.specs.Claim.{Holds, started}
-use Rattle.power.proofs.Whole.{Keeps}
-use Rattle.power.proofs.Shown.{shown}
+use Rattle.power.proofs.Whole.{Booked}
 use Rattle.power.proofs.Queries.{pick-same}
-use Rattle.power.proofs.Mounting.{mount-book}
 use Rattle.power.proofs.FirstCreate.{Opened, create-made, create-stopped}
 use Rattle.power.proofs.Starting.{format-alone, format-generation, format-chunks, zero-bytes, zero-newest, zero-done, zero-accepted, zero-clean}
 use Rattle.power.proofs.Running.{Ready, append-run, sync-run, delete-stopped}
-use Rattle.power.proofs.History.{call-keeps, started-keeps, no-batch-lost}
+use Rattle.power.proofs.History.{call-keeps, started-keeps, booked-shown, no-batch-lost}
+
+mount-book : (m : Medium) (w : World) (b : Book) → written (mount m) (fedBy w (mount m)) b ≡ b
+unfolding written fedBy ran enteredAll beforeSteps afterSteps
+mount-book m w b = pick-same _ b
 
 -- what the book is fed, of a call whose refusal and steps are known
 pub fed-is : (w : World) (c : Call) {a : Bool} {ss : List Step} → ran w c .accepted ≡ a → ran w c .steps ≡ ss
@@ -72,7 +74,7 @@ module _ (n size seed : ℕ) (m : Medium) (ap₀ : Appender) (enough : 64 ≤ n 
   pub clean : Clean (zeros n) (formatCall (zeros n) m size seed .call .store)
   clean = zero-clean n size seed m enough r least most some room made
 
-  pub start-keeps : Keeps start newBook
+  pub start-keeps : Booked start newBook
   start-keeps = started-keeps (zeros n) m size seed ap₀ (zero-bytes n) (zero-accepted n size seed m enough r least most some room) r clean
 
   start-fresh : Fresh (diskOf (start .vol) (start .store))
@@ -120,7 +122,7 @@ module _ (n size seed : ℕ) (m : Medium) (ap₀ : Appender) (enough : 64 ≤ n 
         → (createCall (start .vol) (withLeft left (start .medium)) (start .store) name false [] .call .answer ≡ refused 4)
         × (createCall (start .vol) (withLeft left (start .medium)) (start .store) name false [] .steps ≡ [])
     stopped h =
-        create-stopped (start .vol) (withLeft left (start .medium)) (start .store) (start-keeps .whole .inv) (start-keeps .readable) start-fresh start-cursor name fine start-less
+        create-stopped (start .vol) (withLeft left (start .medium)) (start .store) (start-keeps .keeps .whole .inv) (start-keeps .keeps .readable) start-fresh start-cursor name fine start-less
         (λ e. let z : 1 ≡ 2 ^ 32 - 1 = sym start-next ∙ e in omega (arith, z)) start-alone false [] set (rw start-chunks h)
 
     stopped-run : left < needed → (ran start making .accepted ≡ false) × (ran start making .steps ≡ [])
@@ -137,7 +139,7 @@ module _ (n size seed : ℕ) (m : Medium) (ap₀ : Appender) (enough : 64 ≤ n 
     unfolding Given EachStep
     create-edge h =
         let k = call-keeps making start newBook start-keeps tt (subst (EachStep Distinct) (sym (stopped-run h .1)) tt) in
-        (stopped h .0, subst (Holds (ran start making .world .vol)) (stopped-book h) (shown _ _ (k .layout) _ (k .whole)))
+        (stopped h .0, subst (Holds (ran start making .world .vol)) (stopped-book h) (booked-shown k))
 
     -- ---- enough writes
 
@@ -145,7 +147,7 @@ module _ (n size seed : ℕ) (m : Medium) (ap₀ : Appender) (enough : 64 ≤ n 
       pub opened : Opened 1 name (start .vol) (withLeft left (start .medium)) (start .store) (rolloverOf false []) (createCall (start .vol) (withLeft left (start .medium)) (start .store) name false [])
       opened =
           subst (λ (id : ℕ). Opened id name (start .vol) (withLeft left (start .medium)) (start .store) (rolloverOf false []) (createCall (start .vol) (withLeft left (start .medium)) (start .store) name false [])) start-next
-          (create-made (start .vol) (withLeft left (start .medium)) (start .store) (start-keeps .whole .inv) (start-keeps .readable) start-fresh start-cursor name fine start-less
+          (create-made (start .vol) (withLeft left (start .medium)) (start .store) (start-keeps .keeps .whole .inv) (start-keeps .keeps .readable) start-fresh start-cursor name fine start-less
           (λ e. let z : 1 ≡ 2 ^ 32 - 1 = sym start-next ∙ e in omega (arith, z)) start-alone false [] set (rw start-chunks h))
 
       pub create-enough : createCall (start .vol) (withLeft left (start .medium)) (start .store) name false [] .call .answer ≡ ok tt
@@ -183,9 +185,9 @@ module _ (n size seed : ℕ) (m : Medium) (ap₀ : Appender) (enough : 64 ≤ n 
       unfolding EachStep EachSkipped
       create-steps P = subst (λ (x : Ran). EachStep P (x .steps)) (sym create-run) (tt, tt)
 
-      pub keeps₂ : Keeps w₂ (with [] [])
+      pub keeps₂ : Booked w₂ (with [] [])
       unfolding Given
-      keeps₂ = subst (Keeps w₂) create-book (call-keeps making start newBook start-keeps tt (create-steps Distinct))
+      keeps₂ = subst (Booked w₂) create-book (call-keeps making start newBook start-keeps tt (create-steps Distinct))
 
       ready₂ : Ready w₂ 0 0
       ready₂ = subst (λ (x : Ran). Ready (x .world) 0 0) (sym create-run) (record { writer = refl; tail = refl; fill = refl })
@@ -198,7 +200,7 @@ module _ (n size seed : ℕ) (m : Medium) (ap₀ : Appender) (enough : 64 ≤ n 
           accepted = true;
           steps = [];
         }
-        appended = append-run keeps₂ ready₂ 0 bytes (omega arith)
+        appended = append-run (keeps₂ .keeps) ready₂ 0 bytes (omega arith)
 
         abbrev w₃ : World
         w₃ = ran w₂ (append 0 bytes) .world
@@ -211,9 +213,9 @@ module _ (n size seed : ℕ) (m : Medium) (ap₀ : Appender) (enough : 64 ≤ n 
         unfolding EachStep
         append-steps P = subst (λ (x : Ran). EachStep P (x .steps)) (sym appended) tt
 
-        keeps₃ : Keeps w₃ (with [] bytes)
+        keeps₃ : Booked w₃ (with [] bytes)
         unfolding Given
-        keeps₃ = subst (Keeps w₃) append-book (call-keeps (append 0 bytes) w₂ (with [] []) keeps₂ tt (append-steps Distinct))
+        keeps₃ = subst (Booked w₃) append-book (call-keeps (append 0 bytes) w₂ (with [] []) keeps₂ tt (append-steps Distinct))
 
         ready₃ : Ready w₃ 0 (length bytes)
         ready₃ =
@@ -221,7 +223,7 @@ module _ (n size seed : ℕ) (m : Medium) (ap₀ : Appender) (enough : 64 ≤ n 
             (record { writer = ready₂ .writer; tail = ready₂ .tail; fill = ap (λ (k : ℕ). k + length bytes) (ready₂ .fill) ∙ zero-add (length bytes) })
 
         synced : (ran w₃ (sync 1) .accepted ≡ true) × (ran w₃ (sync 1) .steps ≡ (record { kind = recorded; skipped = [] }) ∷ [])
-        synced = sync-run keeps₃ ready₃ 1 (omega (arith, inv-sane (keeps₃ .whole .inv) .size-least)) least-bytes (omega arith)
+        synced = sync-run (keeps₃ .keeps) ready₃ 1 (omega (arith, inv-sane (keeps₃ .keeps .whole .inv) .size-least)) least-bytes (omega arith)
 
         abbrev w₄ : World
         w₄ = ran w₃ (sync 1) .world
@@ -236,15 +238,15 @@ module _ (n size seed : ℕ) (m : Medium) (ap₀ : Appender) (enough : 64 ≤ n 
         unfolding EachStep EachSkipped
         sync-steps P = subst (EachStep P) (sym (synced .1)) (tt, tt)
 
-        keeps₄ : Keeps w₄ (with (bytes ∷ []) [])
+        keeps₄ : Booked w₄ (with (bytes ∷ []) [])
         unfolding Given
-        keeps₄ = subst (Keeps w₄) sync-book (call-keeps (sync 1) w₃ (with [] bytes) keeps₃ tt (sync-steps Distinct))
+        keeps₄ = subst (Booked w₄) sync-book (call-keeps (sync 1) w₃ (with [] bytes) keeps₃ tt (sync-steps Distinct))
 
         abbrev w₅ : World
         w₅ = ran w₄ (delete 1 name) .world
 
         delete-none : ran w₄ (delete 1 name) .steps ≡ []
-        delete-none = delete-stopped keeps₄ 1 name (omega arith)
+        delete-none = delete-stopped (keeps₄ .keeps) 1 name (omega arith)
 
         delete-book : written (delete 1 name) (fedBy w₄ (delete 1 name)) (with (bytes ∷ []) []) ≡ with (bytes ∷ []) []
         unfolding written termsOf enteredAll beforeSteps afterSteps
@@ -254,9 +256,9 @@ module _ (n size seed : ℕ) (m : Medium) (ap₀ : Appender) (enough : 64 ≤ n 
         unfolding EachStep
         delete-steps P = subst (EachStep P) (sym delete-none) tt
 
-        keeps₅ : Keeps w₅ (with (bytes ∷ []) [])
+        keeps₅ : Booked w₅ (with (bytes ∷ []) [])
         unfolding Given
-        keeps₅ = subst (Keeps w₅) delete-book (call-keeps (delete 1 name) w₄ (with (bytes ∷ []) []) keeps₄ tt (delete-steps Distinct))
+        keeps₅ = subst (Booked w₅) delete-book (call-keeps (delete 1 name) w₄ (with (bytes ∷ []) []) keeps₄ tt (delete-steps Distinct))
 
         -- ---- the history
 
@@ -269,7 +271,7 @@ module _ (n size seed : ℕ) (m : Medium) (ap₀ : Appender) (enough : 64 ≤ n 
         -- the medium record that is left reads every sector
         pub example-reads : Readable (after start before .vol) (after start before .medium)
         unfolding after
-        example-reads = keeps₅ .readable
+        example-reads = keeps₅ .keeps .readable
 
         -- whatever is asked of sectors left unwritten: none is
         pub example-premise : (P : Skipped → Type 0) (u : Medium) → Readable (after start before .vol) u → Premise P start (calls u)

@@ -15,14 +15,17 @@ use Rattle.names.proofs.Laws.{in-root}
 use Rattle.medium.specs.declared.Medium.{Medium}
 use Rattle.medium.specs.declared.Outcome.{Outcome}
 use Rattle.medium.specs.declared.Outcome.the-variants.{Done}
-use Rattle.medium.specs.Refusal.{ok, onDone}
+use Rattle.medium.specs.Refusal.{ok, refused, onDone}
 use Rattle.medium.specs.Sector.{Readable}
 use Rattle.handles.specs.declared.Store.{Store}
 use Rattle.handles.specs.declared.Writer.the-variants.{Nobody}
 use Rattle.directory.specs.Rows.{rowOf, RowsOut, rowsOf, rowsTold}
 use Rattle.directory.specs.Scan.{onFound}
-use Rattle.table.specs.Table.{Counted, countOf, onChain}
+use Rattle.table.specs.declared.ChainParts.{ChainParts}
+use Rattle.table.specs.declared.Chained.the-variants as chained
+use Rattle.table.specs.Table.{Counted, countOf, chainOf, onChain}
 use Rattle.directory.specs.Entry.{entryAt}
+use Rattle.reader.specs.declared.Reader.{Reader}
 use Rattle.reader.specs.Reader.{startOf}
 use Rattle.safe.specs.Inv.{Inv}
 use Rattle.safe.proofs.Invs.{reads, inv-mount, inv-writer}
@@ -36,14 +39,19 @@ use Rattle.folds.specs.Checked.{Checked}
 use Rattle.folds.proofs.Chains.{chain-view}
 use Rattle.folds.proofs.Chunks.{locate-view}
 use Rattle.folds.proofs.Listings.{Listing, list-view}
-use Rattle.folds.proofs.Named.{find-there}
+use Rattle.folds.proofs.Named.{find-there, find-none}
 use Rattle.reading.specs.Gives.{Gives}
-use Rattle.reading.proofs.Reading.{reads-all}
+use Rattle.reading.specs.GivesTo.{GivesTo}
+use Rattle.reading.specs.GivesUpto.{GivesUpto}
+use Rattle.reading.specs.Below.{partsOf, endNumber, below}
+use Rattle.reading.proofs.Reading.{reads-all, reads-to}
+use Rattle.reading.proofs.Upto.{reads-below}
 use Rattle.store.specs.Asked.{askedOf}
-use Rattle.store.specs.Reading.{StoreCall, mountCall, ListCall, listAt, listCall, readerAnswer, readerCall}
+use Rattle.store.specs.Reading.{StoreCall, mountCall, ListCall, listAt, listCall, ReaderCall, readerAnswer, readerCall}
 use Rattle.store.proofs.Lists.{long-enough, rows-told}
-use Rattle.power.specs.Book.{File, Book}
+use Rattle.power.specs.Book.{File}
 use Rattle.power.specs.Claim.{Shows, Holds}
+use Rattle.power.proofs.Fine.{Fine, forget}
 use Rattle.power.proofs.Whole.{fileOf, Whole}
 use Rattle.power.proofs.Checks.{inv-checked}
 use Rattle.power.proofs.Unmade.{whole-same}
@@ -58,7 +66,7 @@ pub mount-gives : (vol : List ℕ) (m : Medium) (st : Store) → Inv vol st → 
 unfolding mountCall
 mount-gives vol m st inv r = rw (inv-mount vol m st inv r)
 
-pub whole-mounted : {vol : List ℕ} {st : Store} {G : ℕ → List Segment} {b : Book} → Whole vol st G b → Whole vol (asMounted st) G b
+pub whole-mounted : {vol : List ℕ} {st : Store} {G : ℕ → List Segment} {b : Fine} → Whole vol st G b → Whole vol (asMounted st) G b
 whole-mounted {vol} {st} w = whole-same w (inv-writer refl refl (w .inv)) (writer-unchanged vol st (asMounted st) refl refl)
 
 -- ---- the listing and the readers, by any store value on which the invariant holds
@@ -76,7 +84,7 @@ one-row {P} n turned apart j k a b p = case j k (λ e. e) (λ ne. go ne (ltb j k
     go ne true e = absurd (apart j k (ltb-true j k e) b p)
     go ne false e = absurd (apart k j (omega (arith, ltb-false j k e, ne)) a (turned j k p))
 
-module _ (vol : List ℕ) (m : Medium) (st : Store) (G : ℕ → List Segment) (b : Book) (w : Whole vol st G b) (r : Readable vol m) where
+module _ (vol : List ℕ) (m : Medium) (st : Store) (G : ℕ → List Segment) (b : Fine) (w : Whole vol st G b) (r : Readable vol m) where
   ok-all : Checked vol m st
   ok-all = inv-checked m (w .inv) r
 
@@ -133,6 +141,63 @@ module _ (vol : List ℕ) (m : Medium) (st : Store) (G : ℕ → List Segment) (
           reads-all vol m st G s id name (reads m vol r) (w .inv .ok) (w .good) h e (λ p q. locate-view vol m st ok-all G (w .good) s p h q) (segmentAt (G s) _ .chunk),
         )
 
+    -- S-1: by its slot, where it ends, and what stands below a number
+    abbrev started : Reader
+    started = startOf st s id (chainFor (st .head .chunk) s (G s))
+
+    slot-ends : GivesTo vol m st started (payloadsOf (G s)) (endNumber (st .head .chunk) (partsOf (G s)))
+    slot-ends =
+        reads-to vol m st G s id name (reads m vol r) (w .inv .ok) (w .good) h e (λ p q. locate-view vol m st ok-all G (w .good) s p h q) (segmentAt (G s) _ .chunk)
+
+    slot-below : (limit : ℕ) → GivesUpto vol m st (record { reader = started; limit = limit }) (below (st .head .chunk) limit (partsOf (G s)))
+    slot-below limit =
+        reads-below vol m st G s id name (reads m vol r) (w .inv .ok) (w .good) h e (λ p q. locate-view vol m st ok-all G (w .good) s p h q) limit (segmentAt (G s) _ .chunk)
+
+  -- S-1: no file of the book has the name
+  pub reader-none : (name : List ℕ) → nameOk name ≡ true → ((f : File) → List·Memᴰ f (b .files) → f .name ≢ name) → readerCall vol m st name .answer ≡ refused 9
+  unfolding readerCall onDone onFound
+  reader-none name fine none =
+      rw (
+        asked (nameOk name) fine,
+        find-none vol m st ok-all G (w .good) name (λ s i h e. none (fileOf name i (G s)) (w .ties .into s name i h e) refl),
+      )
+
+  -- the reader that starts in the slot of a file of the book, with its chain; the one that is asked for by name is the same
+  pub record Started (f : File) : Type 0 where
+    pub slot : ℕ
+    pub below64 : slot < 64
+    pub entry : diskOf vol st .entry slot ≡ named (f .name) (f .id)
+    pub chain : ChainParts
+    pub whole : chainOf vol m st slot ≡ chained.Whole chain
+    pub by-name : readerCall vol m st (f .name) .reader ≡ startOf st slot (f .id) chain
+    pub ends : GivesTo vol m st (startOf st slot (f .id) chain) (f .payloads) (endNumber (b .size) (b .parts (f .id)))
+    pub upto : (limit : ℕ) → GivesUpto vol m st (record { reader = startOf st slot (f .id) chain; limit = limit }) (below (b .size) limit (b .parts (f .id)))
+
+  pub file-starts : (f : File) → List·Memᴰ f (b .files) → Started f
+  file-starts f mem =
+      let o = w .ties .from f mem in
+      let chain : ChainParts = chainFor (st .head .chunk) (o .0) (G (o .0)) in
+      let parts : partsOf (G (o .0)) ≡ b .parts (f .id) = w .parts .hold (o .0) (f .name) (f .id) (o .1) (o .2) in
+      record {
+        slot = o .0;
+        below64 = o .1;
+        entry = o .2;
+        chain = chain;
+        whole = chain-view vol m st ok-all G (w .good) (o .0) (o .1) (w .good .held (o .0) (f .name) (f .id) (o .1) (o .2));
+        by-name = ap (λ (c : ReaderCall). c .reader) (reader-gives (o .0) (f .name) (f .id) (o .1) (o .2));
+        ends =
+            subst (λ (l : List (List ℕ)). GivesTo vol m st (startOf st (o .0) (f .id) chain) l (endNumber (b .size) (b .parts (f .id)))) (ap (λ (g : File). g .payloads) (sym (o .3)))
+            (rw (w .size, ← parts) (slot-ends (o .0) (f .name) (f .id) (o .1) (o .2)));
+        upto = λ limit. rw (w .size, ← parts) (slot-below (o .0) (f .name) (f .id) (o .1) (o .2) limit);
+      }
+
+  pub each-ends : (f : File) → List·Memᴰ f (b .files) → GivesTo vol m st (readerCall vol m st (f .name) .reader) (f .payloads) (endNumber (b .size) (b .parts (f .id)))
+  each-ends f mem = let x = file-starts f mem in rw (x .by-name) (x .ends)
+
+  pub each-below : (f : File) → List·Memᴰ f (b .files) → (limit : ℕ)
+      → GivesUpto vol m st (record { reader = readerCall vol m st (f .name) .reader; limit = limit }) (below (b .size) limit (b .parts (f .id)))
+  each-below f mem limit = let x = file-starts f mem in rw (x .by-name) (x .upto limit)
+
   pub each-reads : (f : File) → List·Memᴰ f (b .files) → (readerCall vol m st (f .name) .answer ≡ ok tt) × Gives vol m st (readerCall vol m st (f .name) .reader) (f .payloads)
   each-reads f mem =
       let o = w .ties .from f mem in
@@ -141,7 +206,7 @@ module _ (vol : List ℕ) (m : Medium) (st : Store) (G : ℕ → List Segment) (
 
 -- ---- the volume holds the book
 
-pub shown : (vol : List ℕ) (st : Store) (G : ℕ → List Segment) (b : Book) → Whole vol st G b → Holds vol b
+pub shown : (vol : List ℕ) (st : Store) (G : ℕ → List Segment) (b : Fine) → Whole vol st G b → Holds vol (forget b)
 shown vol st G b w =
     record {
       mounted = λ m r. ap (λ (c : StoreCall). c .answer) (mount-gives vol m st (w .inv) r);

@@ -26,7 +26,7 @@ use Rattle.power.specs.Calls.{Call, format, create, openAppend, append, 
 use Rattle.power.specs.Book.{File, Book, mayGo, written}
 use Rattle.power.specs.History.{World, Ran, ran, openOf, fedBy, bookOf, Given, EachStep}
 use Rattle.power.specs.Room.{Tells, chunksIn, TakesChunk}
-use Rattle.power.proofs.Whole.{Keeps}
+use Rattle.power.proofs.Whole.{Booked, same-files}
 use Rattle.power.proofs.Running.{Ready, opened, stands, append-run, sync-run, sync-leaves}
 use Rattle.power.proofs.Creating.{Made, made-chunks, made-size, made-generation}
 use Rattle.power.proofs.Accepted.{create-made}
@@ -38,7 +38,7 @@ use Rattle.power.proofs.History.{call-keeps}
 
 -- between the calls: two chunks of one record each, and the generation
 pub record Stage (w : World) (b : Book) (n : ℕ) : Type 0 where
-  pub keeps : Keeps w b
+  pub keeps : Booked w b
   pub chunks : w .store .head .chunks ≡ 2
   pub size : w .store .head .chunk ≡ 1
   pub generation : w .store .head .generation ≡ n
@@ -105,7 +105,7 @@ module _ {w : World} {b : Book} {n : ℕ} (s : Stage w b n) where
         }
 
   -- the store is as it was
-  same-stage : (c : Call) → ran w c .world .store ≡ w .store → Keeps (ran w c .world) (written c (fedBy w c) b) → Stage (ran w c .world) (written c (fedBy w c) b) n
+  same-stage : (c : Call) → ran w c .world .store ≡ w .store → Booked (ran w c .world) (written c (fedBy w c) b) → Stage (ran w c .world) (written c (fedBy w c) b) n
   same-stage c same k = record { keeps = k; chunks = rw same (s .chunks); size = rw same (s .size); generation = rw same (s .generation) }
 
   -- ---- append of fewer bytes than a record takes, none being unwritten
@@ -114,7 +114,7 @@ module _ {w : World} {b : Book} {n : ℕ} (s : Stage w b n) where
   unfolding Given
   append-next {i} y bytes few =
       let c : Call = append 0 bytes in
-      let q = append-run (s .keeps) y 0 bytes (omega (arith, few)) in
+      let q = append-run (s .keeps .keeps) y 0 bytes (omega (arith, few)) in
       record {
         tells = rw q (refl, refl);
         ready =
@@ -128,8 +128,8 @@ module _ {w : World} {b : Book} {n : ℕ} (s : Stage w b n) where
   pub sync-next : {k : ℕ} → Ready w 0 k → 1 ≤ k → Next w b (sync 1) (recorded ∷ []) 1 0 n
   unfolding Given
   sync-next y bytes =
-      let t = sync-run (s .keeps) y 1 (omega (arith, s .size)) bytes (lit≤ tt) in
-      let l = sync-leaves (s .keeps) y 1 (omega (arith, s .size)) bytes (lit≤ tt) in
+      let t = sync-run (s .keeps .keeps) y 1 (omega (arith, s .size)) bytes (lit≤ tt) in
+      let l = sync-leaves (s .keeps .keeps) y 1 (omega (arith, s .size)) bytes (lit≤ tt) in
       record {
         tells = (t .0, rw (t .1) refl);
         ready = record {
@@ -145,7 +145,7 @@ module _ {w : World} {b : Book} {n : ℕ} (s : Stage w b n) where
   module _ {k : ℕ} (y : Ready w 1 k) where
     -- the open file is the book's
     pub spares : openOf (w .store .writer) ≡ some (b .file)
-    spares = ap openOf (y .writer) ∙ ap some (sym (stands (s .keeps) (opened y) .0 .file))
+    spares = ap openOf (y .writer) ∙ ap some (sym (stands (s .keeps .keeps) (opened y) .0 .file) ∙ ap (λ (x : Book). x .file) (s .keeps .same))
 
     takes : TakesChunk (w .appender .tail) (w .store .head .chunk)
     takes = rw (y .tail, s .size) (lit≤ tt)
@@ -176,7 +176,7 @@ module _ {w : World} {b : Book} {n : ℕ} (s : Stage w b n) where
     opening = openAppend 0 (f .name) rolls dir
 
     opens : (ran w opening .accepted ≡ true) × (ran w opening .steps ≡ []) × (ran w opening .world .store .head ≡ w .store .head)
-    opens = let x = s .keeps .whole .ties .from f has in open-run 0 (f .name) rolls dir w b (s .keeps) (x .0) (f .id) (x .1) (x .2) fine
+    opens = let x = s .keeps .keeps .whole .ties .from f (rw (same-files (s .keeps)) has) in open-run 0 (f .name) rolls dir w (s .keeps .fine) (s .keeps .keeps) (x .0) (f .id) (x .1) (x .2) fine
 
     pub open-next : Tells w opening [] × (EachStep Distinct (ran w opening .steps) → Stage (ran w opening .world) (written opening (fedBy w opening) b) n)
     unfolding Given
@@ -197,13 +197,13 @@ module _ {w : World} {b : Book} {n : ℕ} (s : Stage w b n) where
     unfolding chunksOf
     some-chunk e =
         let taken : w .store .head .chunks * w .store .head .chunk ≡ 2 = rw (s .chunks, s .size) refl in
-        omega (arith, e, taken, inv-sane (s .keeps .whole .inv) .room)
+        omega (arith, e, taken, inv-sane (s .keeps .keeps .whole .inv) .room)
 
     formats : formatOf 1 seed (w .vol) u .ans .outcome ≡ Done
     unfolding Given
     formats =
-        again-done 1 seed (w .vol) u (s .keeps .whole .inv) (given .0) (lit≤ tt) (lit≤ tt) some-chunk (λ e. omega (arith, e, s .generation, less))
+        again-done 1 seed (w .vol) u (s .keeps .keeps .whole .inv) (given .0) (lit≤ tt) (lit≤ tt) some-chunk (λ e. omega (arith, e, s .generation, less))
         (omega (arith, chunks-most (sectorsOf (w .vol)) 1, enough))
 
     pub format-tells : Tells w (format u 1 seed) (formatted ∷ [])
-    format-tells = let q = format-run u 1 seed w b formats in (q .0, rw (q .1) refl)
+    format-tells = let q = format-run u 1 seed w (s .keeps .fine) formats in (q .0, rw (q .1) refl)

@@ -20,7 +20,7 @@ use Rattle.layout.specs.Segments.{Segment, segmentAt}
 use Rattle.layout.proofs.Tallies.{chunks-bound}
 use Rattle.layout.proofs.Judged.{named-facts}
 use Rattle.views.proofs.Commits.{inv-sane}
-use Rattle.power.specs.Book.{Book}
+use Rattle.power.proofs.Fine.{Fine}
 use Rattle.power.proofs.Whole.{Whole, TailAt, Stands}
 
 tail-ok : (x : Tail) (n size : ℕ) → n ≤ size → TailAt x n size → tailOk x size ≡ true
@@ -33,7 +33,7 @@ tail-ok (Reopened r) n size h e =
     rw (le-leb 1 r (e .2), lt-ltb r size f)
 tail-ok Closed n size h e = absurd e
 
-module _ {vol : List ℕ} {st : Store} {a : Appender} {G : ℕ → List Segment} {b : Book} {rest : List ℕ} (w : Whole vol st G b) (s : Stands vol st a G b rest) where
+module _ {vol : List ℕ} {st : Store} {a : Appender} {G : ℕ → List Segment} {b : Fine} {rest : List ℕ} (w : Whole vol st G b) (s : Stands vol st a G b rest) where
   pub sane : Sane (st .head) (sectorsOf vol)
   sane = inv-sane (w .inv)
 

@@ -9,11 +9,11 @@ use Rattle.append.specs.declared.Appender.{Appender}
 use Rattle.layout.specs.Views.{diskOf}
 use Rattle.layout.specs.Segments.{Segment}
 use Rattle.layout.specs.Changes.{Unchanged}
-use Rattle.power.specs.Book.{Book}
+use Rattle.power.proofs.Fine.{Fine}
 use Rattle.power.proofs.Whole.{Stands, Writes, Owns}
 use Rattle.power.proofs.Unmade.{stands-kept, writes-map}
 
-pub owns-same : {vol v : List ℕ} {st t : Store} {ap : Appender} {G : ℕ → List Segment} {b : Book} → Unchanged (diskOf vol st) (diskOf v t) → t .writer ≡ st .writer
+pub owns-same : {vol v : List ℕ} {st t : Store} {ap : Appender} {G : ℕ → List Segment} {b : Fine} → Unchanged (diskOf vol st) (diskOf v t) → t .writer ≡ st .writer
     → Owns vol st ap G b → Owns v t ap G b
 owns-same {v = v} {st = st} {t = t} {ap = ap} {G = G} {b = b} w e o =
     record {
@@ -22,5 +22,5 @@ owns-same {v = v} {st = st} {t = t} {ap = ap} {G = G} {b = b} w e o =
           (writes-map (st .writer) ap (λ p. (stands-kept (p .0) (w .entries (ap .slot) (p .0 .below)) (w .shape .size) refl refl refl refl, p .1)) (o .writes));
     }
 
-pub owns-none : {vol : List ℕ} {st : Store} {ap : Appender} {G : ℕ → List Segment} {b : Book} → st .writer ≡ Nobody → Owns vol st ap G b
+pub owns-none : {vol : List ℕ} {st : Store} {ap : Appender} {G : ℕ → List Segment} {b : Fine} → st .writer ≡ Nobody → Owns vol st ap G b
 owns-none {vol} {st} {ap} {G} {b} e = record { writes = subst (λ (x : Writer). Writes x ap (Stands vol st ap G b [] × (ap .fill < 486))) (sym e) tt }

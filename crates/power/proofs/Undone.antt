@@ -44,12 +44,12 @@ use Rattle.runs.proofs.Tests.{same-self}
 use Rattle.folds.proofs.Named.{find-there}
 use Rattle.store.specs.Asked.{askedName, askedOf}
 use Rattle.store.specs.Opening.{rolloverOf, createCall}
-use Rattle.store.specs.Writing.{WriteCall, formatCall, deleteCall}
+use Rattle.store.specs.Writing.{formatCall, deleteCall}
 use Rattle.power.specs.Calls.{Call, create, delete}
 use Rattle.power.specs.Book.{Book, newBook, keep, withoutName, termsOf, entered, enteredAll, beforeSteps, afterSteps, written}
 use Rattle.power.specs.History.{World, Ran, isOk, withLeft, ran, fedBy, after, bookOf, Given, EachStep, Honest, Premise}
 use Rattle.power.specs.Claim.{Holds, started}
-use Rattle.power.proofs.Whole.{Keeps}
+use Rattle.power.proofs.Whole.{Booked}
 use Rattle.power.proofs.Checks.{inv-checked}
 use Rattle.power.proofs.Creates.{steps-done}
 use Rattle.power.proofs.FirstCreate.{Opened}
@@ -79,7 +79,7 @@ module _ (seed : ℕ) (m : Medium) (ap₀ : Appender) (left : 11 ≤ m .left) (r
   abbrev w₀ : World
   w₀ = started (formatCall (zeros 65536) m 4 seed) ap₀
 
-  keeps₀ : Keeps w₀ newBook
+  keeps₀ : Booked w₀ newBook
   keeps₀ = sanity.start-keeps 65536 4 seed m ap₀ (lit≤ tt) reads (lit≤ tt) (lit≤ tt) sanity.some-128 needs
 
   next₀ : w₀ .store .head .«next_id» ≡ 1
@@ -112,8 +112,8 @@ module _ (seed : ℕ) (m : Medium) (ap₀ : Appender) (left : 11 ≤ m .left) (r
   is-w₁ : ran w₀ making .world ≡ w₁
   is-w₁ = ap (λ (x : Ran). x .world) (sanity.create-run 65536 4 seed m ap₀ (lit≤ tt) reads (lit≤ tt) (lit≤ tt) sanity.some-128 needs name fine 11 eleven)
 
-  keeps₁ : Keeps w₁ book₁
-  keeps₁ = subst (λ (w : World). Keeps w book₁) is-w₁ (sanity.keeps₂ 65536 4 seed m ap₀ (lit≤ tt) reads (lit≤ tt) (lit≤ tt) sanity.some-128 needs name fine 11 eleven)
+  keeps₁ : Booked w₁ book₁
+  keeps₁ = subst (λ (w : World). Booked w book₁) is-w₁ (sanity.keeps₂ 65536 4 seed m ap₀ (lit≤ tt) reads (lit≤ tt) (lit≤ tt) sanity.some-128 needs name fine 11 eleven)
 
   -- ---- and deleted
 
@@ -122,12 +122,12 @@ module _ (seed : ℕ) (m : Medium) (ap₀ : Appender) (left : 11 ≤ m .left) (r
 
   entry : diskOf (w₁ .vol) (w₁ .store) .entry 0 ≡ named name 1
   entry =
-      let c = Makes.created (inv-sane (keeps₀ .whole .inv)) (commit-edited (first .made)) (lit< tt) (inv-held (keeps₀ .whole .inv) .head .chunks-least) fine (sym next₀) (lit< tt) in
+      let c = Makes.created (inv-sane (keeps₀ .keeps .whole .inv)) (commit-edited (first .made)) (lit< tt) (inv-held (keeps₀ .keeps .whole .inv) .head .chunks-least) fine (sym next₀) (lit< tt) in
       writer-unchanged (first .out .vol) (first .out .ans .store) (w₁ .store) refl refl .entries 0 (lit< tt) ∙ c .entry ∙ ap (named name) next₀
 
   named-at : findOf (w₁ .vol) u (w₁ .store) name ≡ found.At 0 1
   named-at =
-      find-there (w₁ .vol) u (w₁ .store) (inv-checked u (keeps₁ .whole .inv) (keeps₁ .readable)) (keeps₁ .layout) (keeps₁ .whole .good) name 0 1 (lit< tt) entry
+      find-there (w₁ .vol) u (w₁ .store) (inv-checked u (keeps₁ .keeps .whole .inv) (keeps₁ .keeps .readable)) (keeps₁ .keeps .layout) (keeps₁ .keeps .whole .good) name 0 1 (lit< tt) entry
 
   less : w₁ .store .head .generation ≡ 2 ^ 64 - 1 → ⊥
   unfolding headAfter
@@ -148,14 +148,14 @@ module _ (seed : ℕ) (m : Medium) (ap₀ : Appender) (left : 11 ≤ m .left) (r
   is-gone : (gone .ans .outcome ≡ Done) × (gone .skipped ≡ skipped)
   unfolding removeOf
   is-gone =
-      let c = commit-two (w₀ .vol) (withLeft 11 (w₀ .medium)) (w₀ .store) (keeps₀ .whole .inv) empty name 1 (name-short name fine) (first .out) (first .made) u (w₁ .store) refl refl
-      (keeps₁ .readable) (lit≤ tt) less in
+      let c = commit-two (w₀ .vol) (withLeft 11 (w₀ .medium)) (w₀ .store) (keeps₀ .keeps .whole .inv) empty name 1 (name-short name fine) (first .out) (first .made) u (w₁ .store) refl refl
+      (keeps₁ .keeps .readable) (lit≤ tt) less in
       let x = onDone-done _ _ (c .0) in
       (ap (λ (o : Out). o .ans .outcome) x, ap (λ (o : Out). o .skipped) x ∙ c .1)
 
   asked : askedName (w₁ .vol) (w₁ .store) name ≡ Done
   unfolding askedOf pick
-  asked = rw (keeps₁ .whole .inv .ok, fine)
+  asked = rw (keeps₁ .keeps .whole .inv .ok, fine)
 
   deletes : (ran w₁ (delete 2 name) .accepted ≡ true) × (ran w₁ (delete 2 name) .steps ≡ (record { kind = deleted; skipped = skipped }) ∷ [])
   unfolding ran deleteCall onFound
@@ -173,10 +173,10 @@ module _ (seed : ℕ) (m : Medium) (ap₀ : Appender) (left : 11 ≤ m .left) (r
         accepted = deletes .0;
         skipped = skipped;
         steps = deletes .1;
-        honest = all-honest (w₀ .vol) (withLeft 11 (w₀ .medium)) (w₀ .store) (keeps₀ .whole .inv) empty name 1 (name-short name fine) (first .out) (first .made) u (w₁ .store) refl refl
-            (keeps₁ .readable);
-        nine = as-many (w₀ .vol) (withLeft 11 (w₀ .medium)) (w₀ .store) (keeps₀ .whole .inv) empty name 1 (name-short name fine) (first .out) (first .made) u (w₁ .store) refl refl
-            (keeps₁ .readable)
+        honest = all-honest (w₀ .vol) (withLeft 11 (w₀ .medium)) (w₀ .store) (keeps₀ .keeps .whole .inv) empty name 1 (name-short name fine) (first .out) (first .made) u (w₁ .store) refl refl
+            (keeps₁ .keeps .readable);
+        nine = as-many (w₀ .vol) (withLeft 11 (w₀ .medium)) (w₀ .store) (keeps₀ .keeps .whole .inv) empty name 1 (name-short name fine) (first .out) (first .made) u (w₁ .store) refl refl
+            (keeps₁ .keeps .readable)
             ∙ ap bodyOf (sanity.start-chunks 65536 4 seed m ap₀ (lit≤ tt) reads (lit≤ tt) (lit≤ tt) sanity.some-128 needs);
       }
 

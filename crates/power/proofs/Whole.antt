@@ -1,7 +1,7 @@
 -- The invariant of demand 3: what holds between the calls of a history of the volume, the store value, the appender and the book. It speaks of a
 -- layout G, which segments the file of each slot has, that stands nowhere in the store.
 use Prim.Native.Nat.{ℕ, _+_, _<_, _≤_}
-use mathlib.Core.Path.{_≡_}
+use mathlib.Core.Path.{_≡_, ap}
 use mathlib.Core.Logic.{_≢_}
 use mathlib.Core.Bool.{true, false}
 use mathlib.Core.List.{List, [], _∷_, _++_, List·Memᴰ}
@@ -22,6 +22,8 @@ use Rattle.layout.specs.Segments.{Segment, segmentAt, payloadsOf, tally, Good}
 use Rattle.folds.specs.Rows.{listedIn}
 use Rattle.power.specs.Book.{File, Book, ifSet}
 use Rattle.power.specs.History.{World}
+use Rattle.power.proofs.Fine.{Fine, forget}
+use Rattle.power.proofs.Parts.{Parted}
 
 -- ---- the files of the book and the directory
 
@@ -42,11 +44,14 @@ pub record Ties (D : Disk) (G : ℕ → List Segment) (files : List File) : Type
   pub many : length files ≡ tally (λ s. listedIn [] (D .entry s)) 64
 
 -- all but the appender
-pub record Whole (vol : List ℕ) (st : Store) (G : ℕ → List Segment) (b : Book) : Type 0 where
+pub record Whole (vol : List ℕ) (st : Store) (G : ℕ → List Segment) (b : Fine) : Type 0 where
   pub inv : Inv vol st
   pub good : Good (diskOf vol st) G
   pub ties : Ties (diskOf vol st) G (b .files)
+  pub parts : Parted (diskOf vol st) G (b .parts)
   pub next : b .next ≡ st .head .«next_id»
+  pub ids : b .ids ≡ st .head .«next_id»
+  pub size : b .size ≡ st .head .chunk
 
 -- ---- the appender
 
@@ -57,7 +62,7 @@ TailAt (Reopened r) n size = (r ≡ n) × (r ≢ size) × (1 ≤ r)
 TailAt Closed n size = ⊥
 
 -- an open appender stands at the end of its file, and the book's unwritten bytes are those in its buffer, and what of the call is still to come
-pub record Stands (vol : List ℕ) (st : Store) (ap : Appender) (G : ℕ → List Segment) (b : Book) (rest : List ℕ) : Type 0 where
+pub record Stands (vol : List ℕ) (st : Store) (ap : Appender) (G : ℕ → List Segment) (b : Fine) (rest : List ℕ) : Type 0 where
   pub name : List ℕ
   pub below : ap .slot < 64
   pub entry : diskOf vol st .entry (ap .slot) ≡ named name (ap .id)
@@ -75,13 +80,22 @@ abbrev pub Writes : Writer → Appender → Type 0 → Type 0
 Writes Nobody ap P = Unit {0}
 Writes (Open token id) ap P = (token ≡ ap .token) × (id ≡ ap .id) × (isClosed (ap .tail) ≡ false → P)
 
-pub record Owns (vol : List ℕ) (st : Store) (ap : Appender) (G : ℕ → List Segment) (b : Book) : Type 0 where
+pub record Owns (vol : List ℕ) (st : Store) (ap : Appender) (G : ℕ → List Segment) (b : Fine) : Type 0 where
   pub writes : Writes (st .writer) ap (Stands vol st ap G b [] × (ap .fill < 486))
 
 -- ---- between the calls
 
-pub record Keeps (w : World) (b : Book) : Type 0 where
+pub record Keeps (w : World) (b : Fine) : Type 0 where
   pub layout : ℕ → List Segment
   pub whole : Whole (w .vol) (w .store) layout b
   pub owns : Owns (w .vol) (w .store) (w .appender) layout b
   pub readable : Readable (w .vol) (w .medium)
+
+-- 01's book: some finer one that forgets to it is kept
+pub record Booked (w : World) (b : Book) : Type 0 where
+  pub fine : Fine
+  pub same : forget fine ≡ b
+  pub keeps : Keeps w fine
+
+pub same-files : {w : World} {b : Book} (k : Booked w b) → k .fine .files ≡ b .files
+same-files k = ap (λ (x : Book). x .files) (k .same)

@@ -4,3 +4,4 @@ pub mod History
 pub mod Claim
 pub mod Near
 pub mod Room
+pub mod Points

@@ -1,1 +1,4 @@
 pub mod Gives
+pub mod GivesTo
+pub mod GivesUpto
+pub mod Below

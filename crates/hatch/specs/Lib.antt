@@ -1,0 +1,3 @@
+pub mod Acts
+pub mod Claim
+pub mod Pins

@@ -70,7 +70,7 @@ fn tail_count(tail: Tail) -> u64
     }
 }
 
-fn flag(b: bool) -> u64
+pub fn flag(b: bool) -> u64
     ensures { λ r. ⌜ r ≡ flagOf b ⌝ }
 {
     if b {

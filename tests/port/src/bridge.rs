@@ -68,18 +68,18 @@ unsafe extern "C" {
 /// The calls that write, with their volume compared.
 const WRITING: &[&str] = &["format", "create", "open_append", "append", "appendn", "sync", "delete", "delete_oldest"];
 
-fn medium_words(m: &Medium) -> [u64; 4] {
+pub fn medium_words(m: &Medium) -> [u64; 4] {
     [m.left.into(), m.unreadable, m.entropy, Store::x_token().into()]
 }
 
-fn store_words(s: &Store) -> ([u64; 10], [u32; 24]) {
+pub fn store_words(s: &Store) -> ([u64; 10], [u32; 24]) {
     let (kind, token, id) = s.x_writer().map_or((0, 0, 0), |(t, i)| (1, t.into(), i.into()));
     let (next, cursor) = (s.x_next_id().into(), s.x_cursor().into());
     let (chunks, size) = (s.chunks().into(), s.chunk_sectors().into());
     ([s.x_copy(), s.store_id(), s.generation(), next, cursor, chunks, size, kind, token, id], s.x_crcs())
 }
 
-fn reader_words(r: &Reader) -> [u64; 10] {
+pub fn reader_words(r: &Reader) -> [u64; 10] {
     let (kind, end) = r.x_end().map_or((0, 0), |e| (1, e.into()));
     let (chunks, chunk) = (r.x_chunks().into(), r.x_chunk().into());
     let (position, index) = (r.x_position().into(), r.x_index().into());
@@ -89,18 +89,18 @@ fn reader_words(r: &Reader) -> [u64; 10] {
 /// An appender as it crosses.
 #[derive(Clone, PartialEq, Eq)]
 pub struct Words {
-    small: [u64; 10],
-    buffer: [u8; 486],
-    dir: [u8; 40],
+    pub small: [u64; 10],
+    pub buffer: [u8; 486],
+    pub dir: [u8; 40],
 }
 
 /// Where no rollover is set its bytes and length are not looked at: any will do, and they come back.
 const NO_DIR: ([u8; 40], u64) = ([0xee; 40], 77);
 /// What a refused create or open_append gives: all zeros, and closed.
-const NO_APPENDER: Words = Words { small: [0, 0, 0, 0, 0, 2, 0, 0, 0, 0], buffer: [0; 486], dir: [0; 40] };
+pub const NO_APPENDER: Words = Words { small: [0, 0, 0, 0, 0, 2, 0, 0, 0, 0], buffer: [0; 486], dir: [0; 40] };
 
 /// `unset`: the directory where no rollover is set.
-fn appender_words(a: &Appender, unset: ([u8; 40], u64)) -> Words {
+pub fn appender_words(a: &Appender, unset: ([u8; 40], u64)) -> Words {
     let (kind, count) = a.x_tail();
     let (dir, length) = a.x_rollover().map_or(unset, |d| (d.x_parts().0, d.x_parts().1.into()));
     let rolls = u64::from(a.x_rollover().is_some());

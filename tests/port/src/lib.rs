@@ -4,7 +4,9 @@
 pub mod bridge;
 pub mod firmware;
 pub mod histories;
+pub mod holds;
 pub mod make;
+pub mod world;
 pub mod writes;
 use bridge::Told;
 use driver::script::{Session, words};
@@ -265,7 +267,7 @@ pub fn differs(lines: &[String]) -> bool {
 }
 
 /// Lines taken out, the longest runs first, as long as the difference stays.
-pub fn smallest(mut lines: Vec<String>) -> Vec<String> {
+pub fn smallest(mut lines: Vec<String>, differs: impl Fn(&[String]) -> bool) -> Vec<String> {
     std::panic::set_hook(Box::new(|_| {}));
     let mut run = lines.len() / 2;
     while run > 0 {

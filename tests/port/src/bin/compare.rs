@@ -6,7 +6,7 @@
 //!   compare write answers FILE        prints the script of a file with its answers
 //! Round k of a seed is always the same one. KIND: whole, damaged, random (calls that read), history, stopped, forged (calls that write).
 use port::make::{Kind, fields, round};
-use port::{Tally, answered, play, smallest, spelled};
+use port::{Tally, answered, differs, play, smallest, spelled};
 use std::time::{Duration, Instant};
 
 const KINDS: [(&str, Kind); 6] = [
@@ -60,7 +60,7 @@ fn compare(seed: u64, until: Instant) -> Result<(), String> {
         let lines = round(kind, seed_of(seed, k));
         if let Err(stop) = play(lines.iter().map(String::as_str), &mut tally) {
             println!("DIFFERENCE: seed {seed}, round {k} ({name}), line {}: {}\n{}", stop.line, lines[stop.line - 1], stop.why);
-            let small = smallest(spelled(lines));
+            let small = smallest(spelled(lines), differs);
             let stop = play(small.iter().map(String::as_str), &mut Tally::default()).err().unwrap();
             return Err(format!("smallest script:\nrule3 on\n{}\n# {}", small.join("\n"), stop.why.replace('\n', "\n# ")));
         }

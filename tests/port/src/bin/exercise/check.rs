@@ -1,9 +1,8 @@
-//! A call of a history held against the book, at each number of writes left up to those that it has, and
-//! demand 3's reading.
+//! A call of a history held against the book, at each number of writes left up to those that it has.
 use crate::faults::{Shim, changed, is_whole_header, sector};
-use crate::world::{Next, Told, Turn, World};
 use driver::book::{Book, Call, Step};
-use driver::rig::Op;
+use port::holds::{Held, holds, same_rows};
+use port::world::{Next, Told, Turn, World};
 use std::collections::BTreeMap;
 
 /// Steps and refusals are counted of the histories' own calls, not of the further runs of each.
@@ -24,10 +23,7 @@ pub struct Stats {
     pub reopened: u64,
     pub records: u64,
     pub nexts: u64,
-    pub checks: u64,
-    pub files: u64,
-    pub payloads: u64,
-    pub most_files: usize,
+    pub held: Held,
     pub most_chunks: u32,
 }
 
@@ -43,11 +39,6 @@ pub enum Look {
 pub struct Failure {
     pub left: u32,
     pub why: String,
-}
-
-/// A plain call.
-pub fn turn(call: Call) -> Turn {
-    Turn { op: Op { call, left: None, unreadable: None, off: false }, fresh: None }
 }
 
 /// What the book foretells; number 3, the port's own, comes before 1 and the state.
@@ -87,7 +78,7 @@ pub fn one(shim: &mut Shim, world: &mut World, book: &mut Book, t: &Turn, look: 
         if seen {
             let mut after_book = book.clone();
             run.enter(&mut after_book).map_err(fail)?;
-            holds(&after.volume, &after_book, st).map_err(fail)?;
+            holds(&after.volume, &after_book, &mut st.held).map_err(fail)?;
             if left == last {
                 run.count(book, left < writes, st);
                 st.nexts += u64::from(told.next.is_some());
@@ -229,58 +220,4 @@ impl Run<'_> {
         }
         st.most_chunks = st.most_chunks.max(book.total);
     }
-}
-
-/// The book's files of a directory, in any order.
-fn same_rows(rows: &[(u32, String, u32)], book: &Book, dir: &str) -> Result<(), String> {
-    let mut rows = rows.to_vec();
-    let files = book.files.iter().filter(|f| f.name.starts_with(dir));
-    let mut want: Vec<_> = files.map(|f| (f.id, f.name.clone(), f.chunks.len() as u32)).collect();
-    rows.sort();
-    want.sort();
-    if rows == want { Ok(()) } else { Err(format!("listing {rows:?}, the book's {want:?}")) }
-}
-
-/// Demand 3, on a copy of the volume with every sector readable and no write left: a mount is accepted, the
-/// root's listing shows the book's files, and each read from its start gives its payloads, no hole, then end.
-pub fn holds(volume: &[u8], book: &Book, st: &mut Stats) -> Result<(), String> {
-    st.checks += 1;
-    let mut w = World::new(volume.to_vec());
-    let mut ask = |call: Call| w.run(&turn(call), 0);
-    let refused = |what: &str, told: &Told| Err(format!("read back: {what} refused {}", told.refusal));
-    let told = ask(Call::Mount);
-    if !book.formatted {
-        return if told.refusal == 5 { Ok(()) } else { Err(format!("mount {} before a format", told.refusal)) };
-    }
-    if told.refusal != 0 {
-        return refused("mount", &told);
-    }
-    let told = ask(Call::List(String::new()));
-    if told.refusal != 0 {
-        return refused("list", &told);
-    }
-    same_rows(&told.rows, book, "").map_err(|why| format!("read back: {why}"))?;
-    st.most_files = st.most_files.max(told.rows.len());
-    for f in &book.files {
-        let told = ask(Call::Reader(f.name.clone()));
-        if told.refusal != 0 {
-            return refused(&format!("reader of {}", f.name), &told);
-        }
-        for k in 0..=f.payloads.len() {
-            let told = ask(Call::Next);
-            let want = f.payloads.get(k).map_or(Next::End, |p| Next::Payload(p.clone()));
-            if told.refusal != 0 || told.next.as_ref() != Some(&want) {
-                let short = |n: Option<&Next>| format!("{n:?}").chars().take(60).collect::<String>();
-                let got = if told.refusal == 0 { short(told.next.as_ref()) } else { format!("refusal {}", told.refusal) };
-                return Err(format!("read back: {}, record {k} of {}: {got}, the book's {}", f.name, f.payloads.len(), short(Some(&want))));
-            }
-            st.payloads += u64::from(want != Next::End);
-        }
-        st.files += 1;
-    }
-    let header = [w.store[3], w.store[5], w.store[6]];
-    if header != [book.next_id, book.total, book.size].map(u64::from) {
-        return Err(format!("read back: next id, chunks and size {header:?}"));
-    }
-    if w.volume != volume { Err("read back: the volume changed".into()) } else { Ok(()) }
 }

@@ -1,6 +1,6 @@
 //! What stands between the exerciser and the port: nothing, or a fault that changes the writes of a call,
 //! to see that the exerciser catches it.
-use crate::world::{Told, Turn, World};
+use port::world::{Told, Turn, World};
 
 #[derive(Clone, Copy, PartialEq, Eq)]
 pub enum Fault {

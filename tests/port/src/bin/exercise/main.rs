@@ -5,17 +5,16 @@
 //! status 1. README.md says what is compared, and what a fault is.
 mod check;
 mod faults;
-mod world;
-use check::{Failure, Look, Stats, one, turn};
+use check::{Failure, Look, Stats, one};
 use driver::book::{Book, Call};
 use driver::crc32;
 use driver::rig::{Op, script};
 use driver::script::Session;
 use faults::{FAULTS, Fault, Shim, sector};
 use port::make::Rng;
+use port::world::{Turn, World, turn};
 use std::collections::HashSet;
 use std::time::{Duration, Instant};
-use world::{Turn, World};
 
 /// How it starts, as lines of a script, and its calls.
 struct History {
@@ -354,12 +353,12 @@ fn main() {
         let refused = answers.iter().enumerate().skip(1).filter(|a| *a.1 > 0).map(|(r, n)| format!(" {r}:{n}"));
         println!("{call}: {}{}", answers[0], refused.collect::<String>());
     }
-    println!("{} reader answers, {} files opened again in a partial chunk, most files {}, most chunks {}", st.nexts, st.reopened, st.most_files, st.most_chunks);
+    println!("{} reader answers, {} files opened again in a partial chunk, most files {}, most chunks {}", st.nexts, st.reopened, st.held.most_files, st.most_chunks);
     println!("formats with an id had before {again}, seeds not taken for demand 3's premise {avoided}");
-    println!("runs of calls {}, read back {} times, {} payloads", st.runs, st.checks, st.payloads);
+    println!("runs of calls {}, read back {} times, {} payloads", st.runs, st.held.checks, st.held.payloads);
     println!(
         "{} calls, {} stopped ({} after some writes), {} formats, {} creates, {} rollovers ({} in create), {} deletes, {} extensions, {} records, {} files read back, no failure",
         st.calls, st.stopped, st.stopped_inside, st.formats, st.creates, st.rollovers + st.create_rollovers, st.create_rollovers,
-        st.deletes, st.extensions, st.records, st.files
+        st.deletes, st.extensions, st.records, st.held.files
     );
 }

@@ -1,13 +1,18 @@
 //! The port alone: the volume as left and the handles last returned, as numbers, and a call on them.
+use crate::bridge::*;
 use driver::book::{Call, bytes_of};
 use driver::rig::Op;
-use port::bridge::*;
 
 /// A call with its writes left and unreadable sector; a mount or format may bring another entropy and token.
 #[derive(Clone)]
 pub struct Turn {
     pub op: Op,
     pub fresh: Option<(u64, u32)>,
+}
+
+/// A plain call.
+pub fn turn(call: Call) -> Turn {
+    Turn { op: Op { call, left: None, unreadable: None, off: false }, fresh: None }
 }
 
 /// What crosses has the order that crates/bridge and crates/bridge_write give. All zeros before the first

@@ -7,8 +7,14 @@ of tests/oracle. Taken out of the page, in its order, and run as one session on 
     ```stops CALL   the call with 0, 1, .. writes left, each from where the session stands
     <!-- table T sector=N [at=O] -->   T of draw.py; the example column must be the bytes there
 
-Blanks in calls and answers are not compared. Besides: draw.py's numbers must be those of the
-definitions, and every definition that the page cites must be declared where it says."""
+The Rust has no points, so these are made anew here:
+
+    ```line POINT ID NUMBER   the line of a point, lines OFFSET HEX [note]
+    ```says POINT             lines PAYLOAD and what it says of the point, with \\t, \\n, \\r
+
+Blanks in calls and answers are not compared. Besides: draw.py's numbers, and the line of a point
+made here, must be those of the definitions, and every definition that the page cites must be
+declared where it says."""
 import os
 import re
 import subprocess
@@ -20,7 +26,27 @@ from sources import usage
 
 ROOT = os.path.dirname(os.path.dirname(os.path.abspath(__file__)))
 D = draw
-# What the definitions must say, with draw.py's numbers in it.
+LARGEST = 2**32 - 1  # of an id or a record number in a line of MARKS
+
+
+def line_of(point, file, number):
+    return b"%s\t%d\t%d\n" % (point.encode(), file, number)
+
+
+def said(point, payload):
+    """What a record of MARKS says of a point."""
+    m = re.fullmatch(rb"%s\t(0|[1-9][0-9]*)\t(0|[1-9][0-9]*)\n" % re.escape(point.encode()), payload)
+    numbers = [int(g) for g in m.groups()] if m else [LARGEST + 1]
+    return "nothing" if max(numbers) > LARGEST else "file id %d, number %d" % tuple(numbers)
+
+
+def listed(data):
+    """Bytes as a definition writes a list."""
+    return " ∷ ".join([str(b) for b in data] + ["[]"])
+
+
+TAB, FEED = b"\t\n"
+# What the definitions must say, with draw.py's numbers in it, and with the line of a point as it is made here.
 DEFINED = [
     ("medium/Sector", f"sectorsOf vol = length vol / {D.SECTOR}"),
     ("handles/Handles", f"baseOf copy = pick (eqb copy 0) 0 {D.COPY_B}"),
@@ -42,6 +68,14 @@ DEFINED = [
     ("header/Header", "put 8 24 (h .id) ∷ put 8 32 (h .generation)"),
     ("header/Header", "put 4 40 (h .«next_id») ∷ put 4 44 (h .cursor) ∷ put 4 48 (h .chunks) ∷ put 4 52 (h .chunk)"),
     ("header/Header", "contentOf h = over 64 (words (take (bodyOf (h .chunks)) (h .crcs)))"),
+    ("marks/Line", f"marksName = {listed(b'MARKS')}"),
+    ("marks/Line", f"lineOf p id n = p ++ ({TAB} ∷ decimalText id) ++ ({TAB} ∷ decimalText n) ++ ({FEED} ∷ [])"),
+    ("marks/Line", f"saysOf p x = pick (eqb (lastByte x) {FEED}) (threeOf p (fields (allButLast x))) Nothing"),
+    ("marks/Line", f"numbersOf id n = markOf (plainOf {LARGEST} id) (plainOf {LARGEST} n)"),
+    ("marks/Edges", f"lineOf p 1 3 ≡ {listed(line_of('p', 1, 3))}"),
+    ("decimal/Decimal", "pick (ltb n 10) ((48 + n) ∷ []) (digitsOf k (n / 10) ++ ((48 + n % 10) ∷ []))"),
+    ("decimal/Fields", f"fields l = splitAt {TAB} l"),
+    ("names/Names", "pointOk l = between 1 16 (length l) && everyPlain l"),
 ]
 
 
@@ -128,12 +162,36 @@ def sector_bytes(s, sector, what, rows, rest):
     s.run("dump %d 0 512" % sector, test)
 
 
-def bytes_block(s, info, lines):
+def rows_of(lines):
     rows = []
     for line in lines:
         offset, data = re.match(r"\s*(\d+)  ((?:[0-9a-f]{2} )*[0-9a-f]{2})(?:\s{2,}.*)?$", line).groups()
         rows.append((int(offset), bytes.fromhex(data)))
-    sector_bytes(s, int(info["sector"]), "bytes", rows, info.get("rest") == "0")
+    return rows
+
+
+def bytes_block(s, info, lines):
+    sector_bytes(s, int(info["sector"]), "bytes", rows_of(lines), info.get("rest") == "0")
+
+
+def point_line(info, lines):
+    point, file, number = info.split()
+    told = b""
+    for offset, data in rows_of(lines):
+        if offset != len(told):
+            bad("line " + info, "a gap before offset %d" % offset)
+        told += data
+    want = line_of(point, int(file), int(number))
+    if told != want:
+        bad("line " + info, "it is " + want.hex(" "))
+
+
+def says(point, lines):
+    for line in lines:
+        payload, what = re.split(r"\s{2,}", line.strip())
+        want = said(point, payload.encode().decode("unicode_escape").encode())
+        if what != want:
+            bad("says %s, %s" % (point, payload), want)
 
 
 def value(cell):
@@ -173,7 +231,7 @@ def files_of(answers):
     rows = [line.split() for line in answers["list"].split("\n")[1:]]
     told = []
     for name, _, chunks in rows:
-        payloads = [bytes.fromhex(a.split()[3]).decode() for a in answers[name] if a.startswith("ok payload")]
+        payloads = [bytes.fromhex(a.split()[3]).decode().encode("unicode_escape").decode() for a in answers[name] if a.startswith("ok payload")]
         what = ": " + ", ".join(payloads) if payloads else ", no record"
         told.append("%s, %s chunk%s%s" % (name, chunks, "" if chunks == "1" else "s", what))
     return "; ".join(told) or "none"
@@ -235,8 +293,8 @@ def main():
         usage("docs/check_format.py ORACLE, the program of tests/oracle (tests/format/run makes it)")
     text = open(os.path.join(ROOT, "docs", "FORMAT.md"), encoding="utf-8").read()
     cited = definitions(text)
-    s, counts = Session(sys.argv[1]), {"calls": 0, "bytes": 0, "stops": 0, "table": 0}
-    for m in re.finditer(r"^```(calls|bytes|stops)\b(.*)\n((?:.*\n)*?)```$|^<!-- table (\w+)(.*) -->\n\n((?:\|.*\n)+)", text, re.M):
+    s, counts = Session(sys.argv[1]), dict.fromkeys(("calls", "bytes", "stops", "table", "line", "says"), 0)
+    for m in re.finditer(r"^```(calls|bytes|stops|line|says)\b(.*)\n((?:.*\n)*?)```$|^<!-- table (\w+)(.*) -->\n\n((?:\|.*\n)+)", text, re.M):
         kind, info, body, name, of, rows = m.groups()
         lines = [line for line in (body or rows).split("\n") if line.strip()]
         counts[kind or "table"] += len(lines)
@@ -246,12 +304,17 @@ def main():
             bytes_block(s, info_of(info), lines)
         elif kind == "stops":
             stops(s, info.strip(), lines)
+        elif kind == "line":
+            point_line(info.strip(), lines)
+        elif kind == "says":
+            says(info.strip(), lines)
         else:
             table(s, info_of(of), name, lines)
     if not all(counts.values()) or text.count("```") % 2 or len(re.findall(r"^```\w+", text, re.M)) * 2 != text.count("```"):
         bad("blocks", "not as expected: %s" % counts)
     s.check()
     print("format: %(calls)d lines of calls, %(bytes)d of bytes, %(stops)d of stops, %(table)d of tables agree with the Rust" % counts
+          + "; %(line)d of lines of MARKS and %(says)d of what records say are as made anew" % counts
           + "; %d definitions cited, %d held to the numbers" % (cited, len(DEFINED)))
 
 

@@ -246,17 +246,18 @@ def commit():
 
 # The crates in bands, the lowest last; docs/crates.svg. A crate leans only on crates of its own band or of lower ones.
 BANDS = [
-    ("programs and hosts", ["lines", "session", "firmware", "bridge_write", "bridge", "bench_port", "checksum_vectors", "mix_vectors"]),
-    ("demand 3, writes", ["power", "writes"]),
-    ("on offer", ["store"]),
+    ("programs and hosts", ["lines", "session", "firmware"]),
+    ("for tests and bench", ["bridge_points", "bridge_write", "bridge", "bench_port", "checksum_vectors", "mix_vectors"]),
+    ("demand 3, writes", ["hatch", "power", "writes"]),
+    ("on offer", ["points", "store"]),
     ("laws for demand 3", ["reading", "folds", "views", "layout", "safe"]),
     ("files", ["reopen", "files", "append", "remove", "reader"]),
     ("a copy anew", ["format", "commit", "plan"]),
     ("layers", ["header", "directory", "table", "record"]),
-    ("a store value, names", ["handles", "names", "words"]),
-    ("ground", ["seal", "medium", "walk", "mix", "checksum", "runs", "le"]),
+    ("a store value, names", ["handles", "marks", "names", "words"]),
+    ("ground", ["seal", "medium", "walk", "mix", "checksum", "decimal", "runs", "le"]),
 ]
-LAWS = {"power", "writes", "reading", "folds", "views", "layout", "safe"}
+LAWS = {"hatch", "power", "writes", "reading", "folds", "views", "layout", "safe"}
 FROM_KIT = {"io", "libc"}
 
 

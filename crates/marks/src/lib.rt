@@ -5,7 +5,7 @@ ghost use Prim.Native.Nat.{_≤_};
 ghost use lib.ListN.{length};
 ghost use Rattle.decimal.specs.Fields.{fields};
 ghost use Rattle.decimal.specs.Decimal.{Put};
-ghost use Rattle.marks.specs.Line.{marksName, lineOf, numbersOf, threeOf, saysOf};
+ghost use Rattle.marks.specs.Line.{lineOf, numbersOf, threeOf, saysOf};
 
 // The most bytes of a line: a name of 16, two numbers of 10, two tabs and a line feed.
 pub const LINE: usize = 39;
@@ -14,13 +14,6 @@ pub const LINE: usize = 39;
 pub enum Mark {
     Nothing,
     At { id: u32, number: u32 },
-}
-
-// The file's name.
-pub fn name() -> [u8; 5]
-    ensures { λ r. ⌜ r ≡ marksName ⌝ }
-{
-    *b"MARKS"
 }
 
 // The line at the start of the buffer; answers how many bytes it has.

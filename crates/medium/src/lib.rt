@@ -3,6 +3,7 @@ ghost use mathlib.Core.Path.{_≡_};
 ghost use Prim.Native.Nat.{_+_, _*_, _<_, _≤_};
 ghost use lib.ListN.{length};
 ghost use Rattle.le.specs.Choice.{pick};
+ghost use Rattle.le.specs.Part.{zeros};
 ghost use Rattle.medium.specs.Refusal.{numberOf, onDone};
 ghost use Rattle.medium.specs.Sector.{sectorsOf, sectorAt, readOf, spendOf, writeOf};
 
@@ -129,5 +130,20 @@ pub fn write_sector(volume: &mut [u8], medium: Medium, at: u64, sector: &[u8; 51
         return w;
     }
     runs::put_bytes(volume, 512 * (at as usize), sector);
+    w
+}
+
+// Writes a sector of zeros, where a write is left: they are put into the sector itself.
+pub fn zero_sector(volume: &mut [u8], medium: Medium, at: u64) -> Written
+    requires { ⌜ at < sectorsOf (now volume) ⌝ }
+    ensures { λ r. ⌜ (now (volume .exit) ≡ writeOf (now (volume .entry)) medium at (zeros 512) .vol)
+        × (r ≡ writeOf (now (volume .entry)) medium at (zeros 512) .ans) ⌝ }
+{
+    let w = spend(medium);
+    let o = w.outcome;
+    if let Outcome::No(_) = o {
+        return w;
+    }
+    runs::put_zeros(volume, 512 * (at as usize), 512);
     w
 }

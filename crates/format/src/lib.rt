@@ -17,6 +17,9 @@ ghost use Rattle.plan.specs.Copy.{refusedOut, bodyFrom};
 ghost use Rattle.format.specs.Format.{chunksOf, newestB, copyFor, newestOf, hasId, spareOf, idFrom, zeroCrcs, formatHead, Zeroed};
 ghost use Rattle.format.specs.Format.{formatPlan, madeOf, formatOver, formatOf};
 
+// The checksum of a sector of zeros: checksum Vector `zeros-value`.
+const ZERO_SECTOR: u32 = 0xb2aa_7578;
+
 // Chunks on a volume of so many sectors.
 fn chunks_for(sectors: u64, size: u32) -> u32
     requires { ⌜ (64 ≤ sectors) × (1 ≤ size) ⌝ }
@@ -109,16 +112,14 @@ fn id_from(c: Copies, start: u64) -> u64
     spare(c)
 }
 
-// The checksums of `n` zero sectors. That of one sector is made once.
+// The checksums of `n` zero sectors.
 fn zero_crcs(n: usize) -> [u32; 24]
     requires { ⌜ n ≤ 24 ⌝ }
     ensures { λ r. ⌜ r ≡ zeroCrcs n ⌝ }
 {
-    let zero = [0u8; 512];
-    let sum = checksum::crc32(&zero);
     let mut crcs = [0u32; 24];
     for k in 0..n {
-        crcs[k] = sum;
+        crcs[k] = ZERO_SECTOR;
     }
     crcs
 }
@@ -148,12 +149,11 @@ fn zero_body(volume: &mut [u8], medium: Medium, copy: u64, head: Header) -> Body
     ensures { λ r. ⌜ (now (volume .exit) ≡ bodyFrom (formatPlan copy head) (bodyOf (head .chunks)) 0 (now (volume .entry)) medium head .vol)
         × (r ≡ bodyFrom (formatPlan copy head) (bodyOf (head .chunks)) 0 (now (volume .entry)) medium head .ans) ⌝ }
 {
-    let zero = [0u8; 512];
     let first = handles::base(copy) + 1;
     let body = handles::body(head.chunks);
     let mut m = medium;
     for k in 0..body {
-        let w = medium::write_sector(volume, m, first + (k as u64), &zero);
+        let w = medium::zero_sector(volume, m, first + (k as u64));
         m = w.medium;
         let o = w.outcome;
         if let Outcome::No(e) = o {

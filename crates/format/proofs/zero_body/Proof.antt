@@ -3,18 +3,17 @@ use Prim.Native.Nat.{_-_, _≤_}
 use mathlib.Core.Path.{_≡_, refl, _∙_}
 use native.Mathlib.Omega.{arith}
 use lib.ListN.{length}
-use Rattle.le.specs.Part.{zeros}
 use Rattle.handles.specs.Handles.{bodyOf}
 use Rattle.format.proofs.Writes.{zeroedFrom, zero-start, zero-turn, zero-stop, zero-end}
 use Rattle.format.proofs.zero_body.Statement.{statement}
 use Rattle.format.proofs.zero_body.Tie as tie
 
 abbrev Inv-loop : tie.InvT-loop
-Inv-loop volume₀ copy head zero first body m₀ k₀ volume m k =
+Inv-loop volume₀ copy head first body m₀ k₀ volume m k =
     (k ≤ body) × (length volume ≡ length volume₀) × (zeroedFrom copy head (body - k) k volume m ≡ zeroedFrom copy head (bodyOf (head .chunks)) 0 volume₀ m₀)
 
 abbrev μ-loop : tie.MeasureT-loop
-μ-loop volume₀ copy head zero first body m₀ k₀ volume m k = body - k
+μ-loop volume₀ copy head first body m₀ k₀ volume m k = body - k
 
 base-requires : tie.Need-base-requires Inv-loop μ-loop
 base-requires c κs = search needs
@@ -30,11 +29,11 @@ loop-holds c =
     let a = c .before .before .before .args in
     (omega arith, refl, zero-start (a .copy) (a .head) (c .before .before .before .pre .2) (a .volume .now) (a .medium) (c .body .ensures))
 
-add-write-sector : tie.Need-add-write-sector Inv-loop μ-loop
-add-write-sector c = search needs
+add-zero-sector : tie.Need-add-zero-sector Inv-loop μ-loop
+add-zero-sector c = search needs
 
-write-sector-requires : tie.Need-write-sector-requires Inv-loop μ-loop
-write-sector-requires c κs = search needs
+zero-sector-requires : tie.Need-zero-sector-requires Inv-loop μ-loop
+zero-sector-requires c κs = search needs
 
 enum-known-o : tie.Need-enum-known-o Inv-loop μ-loop
 enum-known-o c = search needs
@@ -43,15 +42,14 @@ same-length : tie.Need-same-length Inv-loop μ-loop
 same-length c = search needs
 
 returns : tie.Need-returns Inv-loop μ-loop
-unfolding zeros
 returns c =
-    let at-write-sector = c .before .before .before .before .before .before in
-    let at-loop-test = at-write-sector .before .before .before in
+    let at-zero-sector = c .before .before .before .before .before .before in
+    let at-loop-test = at-zero-sector .before .before in
     let at-base = at-loop-test .before .before .before in
     let a = at-base .before .before .args in
     let l = at-loop-test .before .loop in
     zero-stop (a .copy) (a .head) (at-base .before .before .pre .2) (l .volume) (l .m) (at-loop-test .before .before .body .ensures)
-    (at-loop-test .loop-test .taken) (at-base .base .ensures .0) (at-write-sector .write-sector .ensures .0) (at-write-sector .write-sector .ensures .1)
+    (at-loop-test .loop-test .taken) (at-base .base .ensures .0) (at-zero-sector .zero-sector .ensures .0) (at-zero-sector .zero-sector .ensures .1)
     (l .inv .2) (c .before .o .given .1)
 
 enum-told : tie.Need-enum-told Inv-loop μ-loop
@@ -64,17 +62,16 @@ loop-less : tie.Need-loop-less Inv-loop μ-loop
 loop-less c = search needs
 
 loop-again : tie.Need-loop-again Inv-loop μ-loop
-unfolding zeros
 loop-again c =
-    let a = c .before .before .before .before .before .before .before .before .before .before .before .before .before .args in
-    let l = c .before .before .before .before .before .before .before .before .before .loop in (
+    let a = c .before .before .before .before .before .before .before .before .before .before .before .before .args in
+    let l = c .before .before .before .before .before .before .before .before .loop in (
       omega arith,
-      c .before .before .before .before .before .write-sector .kept .0 ∙ l .inv .1,
-      let at-write-sector = c .before .before .before .before .before in
-          let at-loop-test = at-write-sector .before .before .before in
+      c .before .before .before .before .before .zero-sector .kept .0 ∙ l .inv .1,
+      let at-zero-sector = c .before .before .before .before .before in
+          let at-loop-test = at-zero-sector .before .before in
           let at-base = at-loop-test .before .before .before in
           zero-turn (a .copy) (a .head) (at-base .before .before .pre .2) (l .volume) (l .m) (at-loop-test .before .before .body .ensures)
-          (at-loop-test .loop-test .taken) (at-base .base .ensures .0) (at-write-sector .write-sector .ensures .0) (at-write-sector .write-sector .ensures .1)
+          (at-loop-test .loop-test .taken) (at-base .base .ensures .0) (at-zero-sector .zero-sector .ensures .0) (at-zero-sector .zero-sector .ensures .1)
           (l .inv .2) (c .enum-told .given .1),
     )
 
@@ -97,8 +94,8 @@ zero-body-spec =
     add-first
     body-requires
     loop-holds
-    add-write-sector
-    write-sector-requires
+    add-zero-sector
+    zero-sector-requires
     enum-known-o
     same-length
     returns

@@ -5,22 +5,15 @@ use mathlib.Core.List.{List, _++_}
 use native.Mathlib.Omega.{arith}
 use borrow.Author.Fill.{fill-more}
 use lib.ListN.{length, set, drop, replicate, length-set}
-use Rattle.le.specs.Part.{zeros}
-use Rattle.format.proofs.Crcs.{filled}
+use Rattle.format.proofs.Crcs.{zeroSum, filled}
 use Rattle.format.proofs.zero_crcs.Statement.{statement}
 use Rattle.format.proofs.zero_crcs.Tie as tie
 
 abbrev Inv-loop : tie.InvT-loop
-Inv-loop n sum crcs₀ k₀ crcs k = (k ≤ n) × (crcs ≡ replicate k sum ++ drop k (replicate 24 0)) × (length crcs ≡ 24)
+Inv-loop n crcs₀ k₀ crcs k = (k ≤ n) × (crcs ≡ replicate k zeroSum ++ drop k (replicate 24 0)) × (length crcs ≡ 24)
 
 abbrev μ-loop : tie.MeasureT-loop
-μ-loop n sum crcs₀ k₀ crcs k = n - k
-
-slice-aggregate-crc32 : tie.Need-slice-aggregate-crc32 Inv-loop μ-loop
-slice-aggregate-crc32 c = search needs
-
-crc32-requires : tie.Need-crc32-requires Inv-loop μ-loop
-crc32-requires c κs = search needs
+μ-loop n crcs₀ k₀ crcs k = n - k
 
 loop-holds : tie.Need-loop-holds Inv-loop μ-loop
 loop-holds c = (omega arith, refl, refl)
@@ -38,16 +31,16 @@ loop-less : tie.Need-loop-less Inv-loop μ-loop
 loop-less c = search needs
 
 loop-again : tie.Need-loop-again Inv-loop μ-loop
-loop-again c = let l = c .before .loop in let s = c .before .before .crc32 .result in
-    (omega arith, ap (λ (x : List ℕ). set x (l .k) s) (l .inv .1) ∙ fill-more (l .k) s (replicate 24 0) (omega arith), simp length-set (l .inv .2))
+loop-again c =
+    let l = c .before .loop in
+    (omega arith, ap (λ (x : List ℕ). set x (l .k) zeroSum) (l .inv .1) ∙ fill-more (l .k) zeroSum (replicate 24 0) (omega arith), simp length-set (l .inv .2))
 
 returns : tie.Need-returns Inv-loop μ-loop
-unfolding zeros
 returns c =
     let l = c .before .loop in
-    let n = c .before .before .before .before .args .n in
+    let n = c .before .before .args .n in
     let e : l .k ≡ n = omega arith in
-    filled n (c .before .before .before .before .pre) (c .before .before .crc32 .ensures) (rw e at (l .inv .1))
+    filled n (c .before .before .pre) (rw e at (l .inv .1))
 
 pub zero-crcs-spec : {M : Type 1} → statement M
 zero-crcs-spec =
@@ -55,8 +48,6 @@ zero-crcs-spec =
     (tie.spec
     Inv-loop
     μ-loop
-    slice-aggregate-crc32
-    crc32-requires
     loop-holds
     mul-crcs
     array-write-crcs

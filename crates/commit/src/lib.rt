@@ -208,8 +208,7 @@ fn rewrite(
         × (r ≡ copyOut (commitPlan found edit (now (name .entry)) store) (now (volume .entry)) medium .ans) ⌝ }
 {
     let copy = 1 - store.copy;
-    let zero = [0u8; 512];
-    let z = medium::write_sector(&mut *volume, medium, handles::base(copy), &zero);
+    let z = medium::zero_sector(&mut *volume, medium, handles::base(copy));
     let zo = z.outcome;
     let zm = z.medium;
     if let Outcome::No(e) = zo {

@@ -2,7 +2,6 @@ use borrow.Author.Needs.{needs}
 use mathlib.Core.Path.{_∙_}
 use native.Mathlib.Omega.{arith}
 use Rattle.handles.proofs.Laws.{store-facts}
-use Rattle.le.specs.Part.{zeros}
 use Rattle.plan.specs.Edit.{headAfter}
 use Rattle.plan.specs.Copy.{Plan}
 use Rattle.medium.specs.Sector.{sectorsOf}
@@ -15,10 +14,10 @@ use Rattle.commit.proofs.rewrite.Tie as tie
 
 -- ---- places: from each write back to the one before it
 
-abbrev start : tie.After-write-sector → tie.Start
-start c = c .before .before .before .before .before .before .before
+abbrev start : tie.After-zero-sector → tie.Start
+start c = c .before .before .before .before .before .before
 
-abbrev first : tie.After-write-body → tie.After-write-sector
+abbrev first : tie.After-write-body → tie.After-zero-sector
 first c = c .before .before .before .before .before .before .before
 
 abbrev body : tie.After-write-head → tie.After-write-body
@@ -36,12 +35,12 @@ sub-copy c = omega (arith, let s = c .before .before .before in store-facts (s .
 base-requires : tie.Need-base-requires
 base-requires c κs = search needs
 
-write-sector-requires : tie.Need-write-sector-requires
-write-sector-requires c κs =
+zero-sector-requires : tie.Need-zero-sector-requires
+zero-sector-requires c κs =
     omega (
       arith,
-      c .before .base .ensures .1,
-      let s = c .before .before .before .before .before .before in store-facts (s .args .store) _ (s .pre .0) .enough,
+      c .base .ensures .1,
+      let s = c .before .before .before .before .before in store-facts (s .args .store) _ (s .pre .0) .enough,
     )
 
 enum-known-zo : tie.Need-enum-known-zo
@@ -54,12 +53,12 @@ same-length : tie.Need-same-length
 same-length c = search needs
 
 returns : tie.Need-returns
-unfolding commitPlan zeros
+unfolding commitPlan
 returns c =
     let z = c .before .before .before .before .before .before .before in
     let s = start z in
-    made-of (c .refused .ensures) (first-refused (plan s) (s .args .volume .now) (s .args .medium) (z .before .before .base .ensures .0)
-    (z .write-sector .ensures) (c .before .before .zo .given .1))
+    made-of (c .refused .ensures) (first-refused (plan s) (s .args .volume .now) (s .args .medium) (z .before .base .ensures .0)
+    (z .zero-sector .ensures) (c .before .before .zo .given .1))
 
 enum-told : tie.Need-enum-told
 enum-told c = search needs
@@ -68,7 +67,7 @@ write-body-requires : tie.Need-write-body-requires
 write-body-requires c κs =
     let z = c .before .before .before .before .before .before in
     let s = start z in (
-      fits-still (s .args .store) (s .args .volume .now) (z .write-sector .last .0) (z .write-sector .kept .0) (s .pre .0),
+      fits-still (s .args .store) (s .args .volume .now) (z .zero-sector .last .0) (z .zero-sector .kept .0) (s .pre .0),
       s .pre .1,
       s .pre .2,
       s .pre .3,
@@ -85,13 +84,13 @@ same-length-2 : tie.Need-same-length-2
 same-length-2 c = search needs
 
 returns-2 : tie.Need-returns-2
-unfolding commitPlan headAfter zeros
+unfolding commitPlan headAfter
 returns-2 c =
     let b = c .before .before .before .before .before .before .before in
     let z = first b in
     let s = start z in
-    made-of (c .refused2 .ensures) (body-refused (plan s) (s .args .volume .now) (s .args .medium) (z .before .before .base .ensures .0)
-    (z .write-sector .ensures) (b .before .before .enum-told .given .1) (b .write-body .ensures) (c .before .before .bo .given .1))
+    made-of (c .refused2 .ensures) (body-refused (plan s) (s .args .volume .now) (s .args .medium) (z .before .base .ensures .0)
+    (z .zero-sector .ensures) (b .before .before .enum-told .given .1) (b .write-body .ensures) (c .before .before .bo .given .1))
 
 enum-told-2 : tie.Need-enum-told-2
 enum-told-2 c = search needs
@@ -106,7 +105,7 @@ ranges b =
     let z = first b in
     let s = start z in
     let f = store-facts (s .args .store) _ (s .pre .0) in
-    let e : 64 ≤ sectorsOf (z .write-sector .last .0) = omega (arith, f .enough, z .write-sector .kept .0) in
+    let e : 64 ≤ sectorsOf (z .zero-sector .last .0) = omega (arith, f .enough, z .zero-sector .kept .0) in
     let q = body-chunks (plan s) _ _ (b .write-body .ensures) (record { short = s .pre .4; enough = e }) (f .head .chunks-most) in
     (omega (arith, e, b .write-body .kept .0), omega (arith, f .head .chunks-most, q))
 
@@ -122,17 +121,17 @@ refused-requires-3 c κs = search needs
 same-length-3 : tie.Need-same-length-3
 same-length-3 c =
     let w = c .before .before .before .before .before .before .before in
-    w .write-head .kept .0 ∙ body w .write-body .kept .0 ∙ first (body w) .write-sector .kept .0
+    w .write-head .kept .0 ∙ body w .write-body .kept .0 ∙ first (body w) .zero-sector .kept .0
 
 returns-3 : tie.Need-returns-3
-unfolding commitPlan headAfter zeros
+unfolding commitPlan headAfter
 returns-3 c =
     let w = c .before .before .before .before .before .before .before in
     let b = body w in
     let z = first b in
     let s = start z in
-    made-of (c .refused3 .ensures) (last-refused (plan s) (s .args .volume .now) (s .args .medium) (z .before .before .base .ensures .0)
-    (z .write-sector .ensures) (b .before .before .enum-told .given .1) (b .write-body .ensures) (w .before .before .before .enum-told2 .given .1)
+    made-of (c .refused3 .ensures) (last-refused (plan s) (s .args .volume .now) (s .args .medium) (z .before .base .ensures .0)
+    (z .zero-sector .ensures) (b .before .before .enum-told .given .1) (b .write-body .ensures) (w .before .before .before .enum-told2 .given .1)
     (w .write-head .ensures) (c .before .before .wo .given .1))
 
 enum-told-3 : tie.Need-enum-told-3
@@ -142,13 +141,13 @@ same-length-4 : tie.Need-same-length-4
 same-length-4 c = search needs
 
 returns-4 : tie.Need-returns-4
-unfolding commitPlan headAfter zeros
+unfolding commitPlan headAfter
 returns-4 c =
     let w = c .before .before .before .before .before in
     let b = body w in
     let z = first b in
     let s = start z in
-    made (plan s) (s .args .volume .now) (s .args .medium) (z .before .before .base .ensures .0) (z .write-sector .ensures)
+    made (plan s) (s .args .volume .now) (s .args .medium) (z .before .base .ensures .0) (z .zero-sector .ensures)
     (b .before .before .enum-told .given .1) (b .write-body .ensures) (w .before .before .before .enum-told2 .given .1) (w .write-head .ensures)
     (c .enum-told3 .given .1)
 
@@ -158,7 +157,7 @@ rewrite-spec =
     (tie.spec
     sub-copy
     base-requires
-    write-sector-requires
+    zero-sector-requires
     enum-known-zo
     refused-requires
     same-length

@@ -17,7 +17,7 @@
  *     makes a call, unless its entry first steps over those 128 bytes: give
  *     handlers a stack of their own, or make the calls with interrupts off.
  *   - Stack, at most, for any input, without what memcpy and memset use: mount
- *     2,272 bytes, format 2,048, delete 4,304, list 2,704.
+ *     2,272 bytes, format 1,648, delete 4,304, list 2,704.
  *
  * The whole volume is in memory. A medium that is not has to be read into an
  * array before a call and its changed sectors written back after it. What is

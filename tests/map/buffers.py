@@ -7,9 +7,10 @@ import sys
 
 SECTOR = 512
 MADE = ["commit::write_body_sector"]
-ARRAY = re.compile(r"(&(?:mut )?)?\[([^\[\];]+); *(\w+)\]")
+ARRAY = re.compile(r"(&(?:mut )?)?\[\s*([^\[\];]+);\s*(\w+)\s*\]")
+TYPE = re.compile(r"u(?:8|16|32|64)|usize|bool|[A-Z]\w*")
 TRIED = {
-    "let zero = [0u8; 512];": 1, "put(volume, &[0; 512]);": 1, "let sector: [u8; 512] = other;": 1, "fn image() -> [u8; 5_12]": 1, "[0u32; 128]": 1, "[0u8; SIZE]": 1,
+    "let zero = [0u8; 512];": 1, "put(volume, &[0; 512]);": 1, "put(volume, &[zero; 512]);": 1, "let sector: [u8; 512] = other;": 1, "fn image() -> [u8; 0x200]": 1, "[0u32; 128]": 1, "[0u8; SIZE]": 1,
     "sector: &mut [u8; 512]": 0, "sector: &[u8]": 0, "[0u32; 24]": 0, "[head, head]": 0, "// as [0u8; 512]": 0,
 }  # fmt: skip
 
@@ -29,8 +30,8 @@ def arrays(text):
     for m in ARRAY.finditer(text):
         lent, element, count = m.groups()
         width = re.search(r"(?:^|[\d_])u(8|16|32|64)$", element)
-        size = int(count.replace("_", "")) if count[0].isdigit() else SECTOR
-        if size * (int(width[1]) // 8 if width else 1) >= SECTOR and not (lent and element[0].isalpha()):
+        size = int(count, 0) if count[0].isdigit() else SECTOR
+        if size * (int(width[1]) // 8 if width else 1) >= SECTOR and not (lent and TYPE.fullmatch(element)):
             yield (["no function"] + re.findall(r"\bfn (\w+)", text[: m.start()]))[-1]
 
 

@@ -7,11 +7,13 @@ import sys
 
 SECTOR = 512
 MADE = ["commit::write_body_sector"]
-ARRAY = re.compile(r"(&(?:mut )?)?\[\s*([^\[\];]+);\s*(\w+)\s*\]")
-TYPE = re.compile(r"u(?:8|16|32|64)|usize|bool|[A-Z]\w*")
+NUMBER = re.compile(r"u(8|16|32|64)$")
+TYPE = re.compile(r"u(?:8|16|32|64)|usize|bool|\[.*|[A-Z]\w*[a-z]\w*")
+COPY = re.compile(r"= \*\w+;")
 TRIED = {
-    "let zero = [0u8; 512];": 1, "put(volume, &[0; 512]);": 1, "put(volume, &[zero; 512]);": 1, "let sector: [u8; 512] = other;": 1, "fn image() -> [u8; 0x200]": 1, "[0u32; 128]": 1, "[0u8; SIZE]": 1,
-    "sector: &mut [u8; 512]": 0, "sector: &[u8]": 0, "[0u32; 24]": 0, "[head, head]": 0, "// as [0u8; 512]": 0,
+    1: ["let zero = [0u8; 512];", "[0u32; 128]", "[0; 64]", "[0u8; SIZE]", "[0u8; medium::SECTOR]", "[0u8; 2 * 256]", "[[0u8; 64]; 8]", "&[0; 512]", "&[ZERO; 512]"],
+    2: ["let sector: [u8; 512] = *lent;", "fn image() -> [u8; 0x200] { [0; 512] }"],
+    0: ["sector: &mut [u8; 512]", "sector: &[u8]", "[0u32; 24]", "[Header; 2]", "[head, head]", "&volume[a..a + 512]", "// as [0u8; 512]"],
 }  # fmt: skip
 
 
@@ -24,21 +26,30 @@ def below(*tops):
     return found
 
 
+def size(array):
+    """The bytes of `element; count`: where one of the two cannot be read, as many as it may have."""
+    element, count = (part.strip() for part in array.rsplit(";", 1))
+    width = int(m[1]) // 8 if (m := NUMBER.search(element)) else size(element[1:-1]) if element[:1] == "[" and ";" in element else 8
+    return width * (int(count, 0) if re.fullmatch(r"\d\w*", count) else SECTOR)
+
+
 def arrays(text):
-    """The name of the function before each array of a sector's size: made by an expression, or a type that is not behind a `&`."""
+    """The name of the function before each array of a sector's size: made by an expression, a type that is not behind a `&`, or a copy of what is lent."""
     text = re.sub(r"//.*", "", text)
-    for m in ARRAY.finditer(text):
-        lent, element, count = m.groups()
-        width = re.search(r"(?:^|[\d_])u(8|16|32|64)$", element)
-        size = int(count, 0) if count[0].isdigit() else SECTOR
-        if size * (int(width[1]) // 8 if width else 1) >= SECTOR and not (lent and TYPE.fullmatch(element)):
-            yield (["no function"] + re.findall(r"\bfn (\w+)", text[: m.start()]))[-1]
+    inner = r"(?:[^\[\]]|\[[^\[\]]*\])*"
+    found = [m.start() for m in COPY.finditer(text)]
+    for m in re.finditer(rf"(&(?:mut )?)?\[({inner};{inner})\]", text):
+        if size(m[2]) >= SECTOR and not (m[1] and TYPE.fullmatch(m[2].rsplit(";", 1)[0].strip())):
+            found.append(m.start())
+    for at in sorted(found):
+        yield (["no function"] + re.findall(r"\bfn (\w+)", text[:at]))[-1]
 
 
-misread = [text for text, count in TRIED.items() if len(list(arrays(text))) != count]
+misread = [text for count, texts in TRIED.items() for text in texts if len(list(arrays(text))) != count]
 crates = sorted(set(below("commit", "format")) - {"checksum"})
-made = [f"{crate}::{name}" for crate in crates for path in sorted(glob.glob(f"crates/{crate}/src/*.rt")) for name in arrays(open(path, encoding="utf-8").read())]
-print(f"buffers: {len(crates)} crates make and write headers; arrays of {SECTOR} bytes or more: {', '.join(made) or 'none'}")
+sources = [(crate, path) for crate in crates for path in sorted(glob.glob(f"crates/{crate}/src/**/*.rt", recursive=True))]
+made = [f"{crate}::{name}" for crate, path in sources for name in arrays(open(path, encoding="utf-8").read())]
+print(f"buffers: {len(crates)} crates, those of format and commit and below; arrays of {SECTOR} bytes or more: {', '.join(made) or 'none'}")
 for text in misread:
     print("buffers: this script misreads:", text)
 if made != MADE:

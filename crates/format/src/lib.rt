@@ -18,7 +18,7 @@ ghost use Rattle.format.specs.Format.{chunksOf, newestB, copyFor, newest
 ghost use Rattle.format.specs.Format.{formatPlan, madeOf, formatOver, formatOf};
 
 // The checksum of a sector of zeros: checksum Vector `zeros-value`.
-const ZERO_SECTOR: u32 = 0xb2aa_7578;
+const ZERO_SUM: u32 = 0xb2aa_7578;
 
 // Chunks on a volume of so many sectors.
 fn chunks_for(sectors: u64, size: u32) -> u32
@@ -119,7 +119,7 @@ fn zero_crcs(n: usize) -> [u32; 24]
 {
     let mut crcs = [0u32; 24];
     for k in 0..n {
-        crcs[k] = ZERO_SECTOR;
+        crcs[k] = ZERO_SUM;
     }
     crcs
 }

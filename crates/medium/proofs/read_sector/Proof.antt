@@ -12,36 +12,28 @@ use Rattle.medium.proofs.read_sector.Reads as reads
 use Rattle.medium.proofs.read_sector.Lts as lts
 use Rattle.runs.proofs.put_bytes.Reads as put-bytes-reads
 
--- src/lib.rt:105:9
 returns : tie.Need-returns
 unfolding readOf pick onDone
 returns c = simp (eq-eqb _ _ (c .if1 .taken)) (refl, refl)
 
--- src/lib.rt:107:17
 mul-start : tie.Need-mul-start
 mul-start c = search needs
 
--- src/lib.rt:108:15
 add-end : tie.Need-add-end
 add-end c = search needs
 
--- src/lib.rt:109:32
 sub-put-bytes : tie.Need-sub-put-bytes
 sub-put-bytes c = search needs
 
--- src/lib.rt:109:32
 part-put-bytes-start : tie.Need-part-put-bytes-start
 part-put-bytes-start c = search needs
 
--- src/lib.rt:109:32
 part-put-bytes-end : tie.Need-part-put-bytes-end
 part-put-bytes-end c = search needs
 
--- src/lib.rt:109:5
 put-bytes-requires : tie.Need-put-bytes-requires
 put-bytes-requires c κs = search needs
 
--- src/lib.rt:100:1
 returns-2 : tie.Need-returns-2
 unfolding readOf pick onDone
 returns-2 c =

@@ -7,12 +7,10 @@ use Rattle.medium.proofs.readable.Tie as tie
 use Rattle.medium.proofs.readable.Reads as reads
 use Rattle.medium.proofs.readable.Lts as lts
 
--- src/lib.rt:75:9
 returns : tie.Need-returns
 unfolding readOf pick
 returns c = simp (eq-eqb _ _ (c .if1 .taken))
 
--- src/lib.rt:71:1
 returns-2 : tie.Need-returns-2
 unfolding readOf pick
 returns-2 c = simp (ne-eqb _ _ (c .if1 .left))

@@ -8,16 +8,13 @@ use Rattle.medium.proofs.spend.Tie as tie
 use Rattle.medium.proofs.spend.Reads as reads
 use Rattle.medium.proofs.spend.Lts as lts
 
--- src/lib.rt:86:9
 returns : tie.Need-returns
 unfolding spendOf pick
 returns c = simp (eq-eqb _ _ (c .if1 .taken))
 
--- src/lib.rt:92:18
 sub-after : tie.Need-sub-after
 sub-after c = search needs
 
--- src/lib.rt:81:1
 returns-2 : tie.Need-returns-2
 unfolding spendOf pick
 returns-2 c = simp (ne-eqb _ _ (c .if1 .left))

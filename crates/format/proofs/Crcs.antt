@@ -12,7 +12,6 @@ use Rattle.le.specs.Part.{zeros}
 use Rattle.le.proofs.Parts.{length-zeros, getD-zeros}
 use Rattle.checksum.specs.Crc.{crc32Of}
 use Rattle.checksum.proofs.Steps.{crc32-lt}
-use Rattle.checksum.proofs.Vector.{zeros-value}
 use Rattle.medium.specs.declared.Medium.{Medium}
 use Rattle.handles.specs.Handles.{bodyOf}
 use Rattle.header.specs.declared.answers.Copies.{Copies}
@@ -26,14 +25,10 @@ rest n h =
     ap (λ (k : ℕ). drop n (replicate k 0)) (sym e) ∙ ap (drop n) (sym (replicate-append-replicate n (24 - n) 0))
     ∙ drop-at (replicate n 0) (replicate (24 - n) 0) n (length-replicate n 0)
 
--- the code's constant
-abbrev pub zeroSum : ℕ
-zeroSum = 0xb2aa_7578
-
 -- the loop's end
-pub filled : (n : ℕ) {l : List ℕ} → n ≤ 24 → l ≡ replicate n zeroSum ++ drop n (replicate 24 0) → l ≡ zeroCrcs n
-unfolding zeroCrcs zeros
-filled n h el = el ∙ rw (zeros-value, rest n h)
+pub filled : (n : ℕ) {c : ℕ} {l : List ℕ} → n ≤ 24 → c ≡ crc32Of (zeros 512) → l ≡ replicate n c ++ drop n (replicate 24 0) → l ≡ zeroCrcs n
+unfolding zeroCrcs
+filled n h ec el = el ∙ rw (ec, rest n h)
 
 module _ (n : ℕ) where
   pub length-crcs : n ≤ 24 → length (zeroCrcs n) ≡ 24

@@ -6,23 +6,23 @@ use Prim.Native.Nat.{ℕ, zero, suc, _+_, _-_, _*_, _/_, _^_, _≤_, _<_}
 use native.Mathlib.Nat.{min-le-left, min-le-right, div-mul-le-self, mul-le-mul-right, le-trans}
 use native.Mathlib.Omega.{arith}
 use borrow.Author.Tests.{lt-ltb, le-leb, ne-eqb}
-use lib.Dec.{leb, lit<}
+use lib.Dec.{ltb, lit<}
 use Rattle.le.proofs.Choices.{pick-keeps, pick-keeps-by}
 use Rattle.le.proofs.Bools.{and-true}
 use Rattle.medium.specs.declared.Medium.{Medium}
 use Rattle.medium.specs.Sector.{sectorsOf}
 use Rattle.handles.specs.Handles.{bodyOf, saneOf}
 use Rattle.header.specs.declared.answers.Copies.{Copies}
-use Rattle.header.specs.Copies.{isOurs, copyOf, bothOf}
+use Rattle.header.specs.Copies.{isOurs, copyOf, bothOf, takesB}
 use Rattle.header.specs.Header.{Bytes, InRange}
 use Rattle.header.proofs.Accepted.{copy-valid, copy-range}
-use Rattle.format.specs.Format.{chunksOf, newestB, copyFor, newestOf, idFor, formatHead}
+use Rattle.format.specs.Format.{chunksOf, copyFor, newestOf, idFor, formatHead}
 use Rattle.format.proofs.Crcs.{length-crcs, crcs-past, crcs-lt}
 use Rattle.format.proofs.Ids.{id-fresh, id-lt}
 
 pub copy-lt : (c : Copies) → copyFor c < 2
 unfolding copyFor
-copy-lt c = pick-keeps (λ (k : ℕ). k < 2) (newestB c) _ _ (lit< tt) (pick-keeps (λ (k : ℕ). k < 2) (isOurs (c .a)) _ _ (lit< tt) (lit< tt))
+copy-lt c = pick-keeps (λ (k : ℕ). k < 2) (takesB c) _ _ (lit< tt) (pick-keeps (λ (k : ℕ). k < 2) (isOurs (c .a)) _ _ (lit< tt) (lit< tt))
 
 pub chunks-most : (sectors size : ℕ) → chunksOf sectors size ≤ 2048
 unfolding chunksOf
@@ -66,9 +66,9 @@ module _ (c : Copies) (m : Medium) (sectors size seed : ℕ) (most : size ≤ 51
 
 -- the newest's generation is one that a sector holds
 pub newest-lt : (vol : List ℕ) → Bytes vol → 64 ≤ sectorsOf vol → newestOf (bothOf (copyOf vol 0) (copyOf vol 32)) < 2 ^ 64
-unfolding newestOf newestB
+unfolding newestOf takesB
 newest-lt vol small enough =
-    pick-keeps-by (λ (g : ℕ). g < 2 ^ 64) (isOurs (copyOf vol 32 .kind) && (not (isOurs (copyOf vol 0 .kind)) || leb (copyOf vol 0 .head .generation) (copyOf vol 32 .head .generation))) _ _
+    pick-keeps-by (λ (g : ℕ). g < 2 ^ 64) (isOurs (copyOf vol 32 .kind) && (not (isOurs (copyOf vol 0 .kind)) || ltb (copyOf vol 0 .head .generation) (copyOf vol 32 .head .generation))) _ _
     (λ t. held 32 (omega arith) (and-true (isOurs (copyOf vol 32 .kind)) _ t .0))
     (λ _. pick-keeps-by (λ (g : ℕ). g < 2 ^ 64) (isOurs (copyOf vol 0 .kind)) _ _ (held 0 (omega arith)) (λ _. lit< tt))
   where

@@ -1,7 +1,7 @@
 -- 01, "Header": what format writes, and where it refuses. Assumes nothing.
 use mathlib.Core.Path.{_≡_}
 use Prim.Native.Nat.{ℕ, zero, suc, _+_, _-_, _/_, _^_, _<_, min}
-use mathlib.Core.Bool.{Bool, false, not, _&&_, _||_}
+use mathlib.Core.Bool.{Bool, false, _&&_, _||_}
 use mathlib.Core.List.{List, [], _++_}
 use lib.Bits.{bitXor}
 use lib.Dec.{eqb, leb}
@@ -17,7 +17,7 @@ use Rattle.medium.specs.Sector.{sectorsOf}
 use Rattle.handles.specs.declared.Header.{Header}
 use Rattle.handles.specs.Handles.{bodyOf, noStore}
 use Rattle.header.specs.declared.answers.Copies.{Copies}
-use Rattle.header.specs.Copies.{headersOf, isOurs, headA, headB}
+use Rattle.header.specs.Copies.{headersOf, isOurs, headA, headB, takesB}
 use Rattle.header.specs.Header.{unmarkedOf}
 use Rattle.plan.specs.declared.Edit.the-variants.{Format}
 use Rattle.plan.specs.Copy.{Plan, Out, refusedOut, copyOut}
@@ -26,17 +26,13 @@ use Rattle.plan.specs.Copy.{Plan, Out, refusedOut, copyOut}
 unfoldable pub chunksOf : ℕ → ℕ → ℕ
 chunksOf sectors size = min ((sectors - 64) / size) 2048
 
--- the newest valid copy is B: it is valid, and A is not or has no larger generation. At equal generations newest is B
-unfoldable pub newestB : Copies → Bool
-newestB c = isOurs (c .b) && (not (isOurs (c .a)) || leb (headA c .generation) (headB c .generation))
-
--- the copy opposite the newest; with no valid copy A
+-- the copy opposite the newest, which is the one that mount takes (02, S-7); with no valid copy A
 unfoldable pub copyFor : Copies → ℕ
-copyFor c = pick (newestB c) 0 (pick (isOurs (c .a)) 1 0)
+copyFor c = pick (takesB c) 0 (pick (isOurs (c .a)) 1 0)
 
 -- the newest's generation; 0 where there is none
 unfoldable pub newestOf : Copies → ℕ
-newestOf c = pick (newestB c) (headB c .generation) (pick (isOurs (c .a)) (headA c .generation) 0)
+newestOf c = pick (takesB c) (headB c .generation) (pick (isOurs (c .a)) (headA c .generation) 0)
 
 -- a valid copy has this id
 unfoldable pub hasId : Copies → ℕ → Bool

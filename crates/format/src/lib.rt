@@ -14,7 +14,7 @@ ghost use Prim.Native.Nat.{_+_, _^_, _<_, _≤_};
 ghost use Rattle.medium.specs.Sector.{sectorsOf};
 ghost use Rattle.handles.specs.Handles.{bodyOf, noStore};
 ghost use Rattle.plan.specs.Copy.{refusedOut, bodyFrom};
-ghost use Rattle.format.specs.Format.{chunksOf, newestB, copyFor, newestOf, hasId, spareOf, idFrom, zeroCrcs, formatHead, Zeroed};
+ghost use Rattle.format.specs.Format.{chunksOf, copyFor, newestOf, hasId, spareOf, idFrom, zeroCrcs, formatHead, Zeroed};
 ghost use Rattle.format.specs.Format.{formatPlan, madeOf, formatOver, formatOf};
 
 // The checksum of a sector of zeros: checksum Vector `zeros-value`.
@@ -32,23 +32,12 @@ fn chunks_for(sectors: u64, size: u32) -> u32
     2048
 }
 
-// Whether the newest valid copy is B: at equal generations it is, though mount takes A.
-fn newest_b(c: Copies) -> bool
-    ensures { λ r. ⌜ r ≡ newestB c ⌝ }
-{
-    let ka = c.a;
-    let kb = c.b;
-    let x = c.heads[0];
-    let y = c.heads[1];
-    header::is_ours(kb) & (!header::is_ours(ka) | (x.generation <= y.generation))
-}
-
-// The copy to write: opposite the newest, so that the newest stays until the last write.
+// The copy to write: opposite the newest, the one that mount takes, so that mount takes it until the last write.
 fn copy_for(c: Copies) -> u64
     ensures { λ r. ⌜ r ≡ copyFor c ⌝ }
 {
     let ka = c.a;
-    if newest_b(c) {
+    if header::takes_b(c) {
         return 0;
     }
     if header::is_ours(ka) {
@@ -64,7 +53,7 @@ fn newest(c: Copies) -> u64
     let ka = c.a;
     let x = c.heads[0];
     let y = c.heads[1];
-    if newest_b(c) {
+    if header::takes_b(c) {
         return y.generation;
     }
     if header::is_ours(ka) {

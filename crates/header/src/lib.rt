@@ -116,7 +116,7 @@ pub fn headers(volume: &[u8], medium: Medium) -> Copies
 }
 
 // Whether mount takes copy B.
-fn takes_b(c: Copies) -> bool
+pub fn takes_b(c: Copies) -> bool
     ensures { λ r. ⌜ r ≡ takesB c ⌝ }
 {
     let ka = c.a;

@@ -27,6 +27,7 @@ pub mod Shown
 pub mod Queries
 pub mod Mounting
 pub mod Formatting
+pub mod OldOrNew
 pub mod Reopening
 pub mod History
 pub mod Pins

@@ -21,7 +21,7 @@ use Rattle.handles.specs.declared.Store.{Store}
 use Rattle.handles.specs.Handles.{bodyOf, baseOf}
 use Rattle.header.specs.declared.codec.Replica.the-variants.{Absent}
 use Rattle.header.specs.Header.{ours, bare}
-use Rattle.header.specs.Copies.{copyOf, bothOf, headersOf, sameStore}
+use Rattle.header.specs.Copies.{copyOf, bothOf, headersOf, sameStore, takesB}
 use Rattle.header.proofs.Accepted.{headers-both}
 use Rattle.header.proofs.Edges.{headers-read}
 use Rattle.header.proofs.Fill.{length-unmarked}
@@ -29,7 +29,7 @@ use Rattle.header.proofs.RoundTrip.{zeros-absent}
 use Rattle.record.specs.Record.{matchesOf, carriesOf, dataAt}
 use Rattle.record.proofs.Laws.{data-inside}
 use Rattle.plan.specs.Copy.{Plan, Out, isFormat}
-use Rattle.format.specs.Format.{chunksOf, newestB, copyFor, newestOf, formatHead, formatPlan, formatOf}
+use Rattle.format.specs.Format.{chunksOf, copyFor, newestOf, formatHead, formatPlan, formatOf}
 use Rattle.format.proofs.Accepted.{Made, format-made}
 use Rattle.format.proofs.Crcs.{length-crcs}
 use Rattle.format.proofs.Enough.{format-is, format-done}
@@ -107,7 +107,7 @@ pub again-done : (size seed : ℕ) (vol : List ℕ) (m : Medium) {st : Store} �
 again-done size seed vol m {st} inv r least most some less left =
     let e : 64 ≤ sectorsOf vol = inv .sound .stands .enough in
     let h = stands-headers vol (st .head) m (reads m vol r 0 (omega arith)) (reads m vol r 32 (omega arith)) (st .copy) (inv .sound .stands) in
-    format-done size seed vol m (rw h refl) least most some (λ q. less (sym (newest-is vol (st .head) (st .copy) (inv .sound .stands) (inv .newer)) ∙ (rw h at q))) left
+    format-done size seed vol m (rw h refl) least most some (λ q. less (sym (newest-is vol (st .head) (st .copy) (inv .sound .stands)) ∙ (rw h at q))) left
 
 -- ---- a zeroed volume
 
@@ -148,7 +148,7 @@ module _ (n size seed : ℕ) (m : Medium) (enough : 64 ≤ n / 512) (r : Readabl
       headers-read vol m s (reads m vol r 0 (omega arith)) (reads m vol r 32 (omega arith)) (rw a refl) (rw b refl) ∙ rw (a, b)
 
   pub zero-newest : newestOf (headersOf vol m) ≡ 0
-  unfolding newestOf newestB pick
+  unfolding newestOf takesB pick
   zero-newest = rw headers-none
 
   module _ (least : 1 ≤ size) (most : size ≤ 512) (some : chunksOf (n / 512) size ≡ 0 → ⊥) (left : bodyOf (chunksOf (n / 512) size) + 2 ≤ m .left) where

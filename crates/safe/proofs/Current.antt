@@ -30,7 +30,7 @@ use Rattle.safe.proofs.Frame.{clash}
 
 module _ (vol : List ℕ) (h : Header) where
   -- B is not taken beside an A that stands
-  not-b : Stands vol 0 h → takesB (bothOf (copyOf vol 0) (copyOf vol 32)) ≡ false
+  pub not-b : Stands vol 0 h → takesB (bothOf (copyOf vol 0) (copyOf vol 32)) ≡ false
   unfolding takesB baseOf pick
   not-b s = rw (s .found) (go (isOurs (copyOf vol 32 .kind)) refl)
     where
@@ -38,7 +38,7 @@ module _ (vol : List ℕ) (h : Header) where
       go true q = le-ltb (h .generation) (copyOf vol 32 .head .generation) (omega (arith, s .older (copyOf vol 32 .head) (copy-valid vol 32 q)))
       go false q = refl
 
-  yes-b : Stands vol 1 h → takesB (bothOf (copyOf vol 0) (copyOf vol 32)) ≡ true
+  pub yes-b : Stands vol 1 h → takesB (bothOf (copyOf vol 0) (copyOf vol 32)) ≡ true
   unfolding takesB baseOf pick
   yes-b s = rw (s .found) (go (isOurs (copyOf vol 0 .kind)) refl)
     where

@@ -1,10 +1,10 @@
 -- A format, whatever the writes left: refused it leaves a store that was there, accepted it leaves an empty one. Assumes nothing.
 use mathlib.Core.Path.{_≡_, refl, sym, ap, _∙_}
-use mathlib.Core.Bool.{Bool, true, false, not, _&&_, _||_}
+use mathlib.Core.Bool.{Bool, true, false, _&&_}
 use mathlib.Core.List.{List}
 use Prim.Native.Nat.{ℕ, zero, suc, _+_, _-_, _^_, _<_, _≤_}
 use native.Mathlib.Omega.{arith}
-use borrow.Author.Tests.{leb-true, le-leb, lt-leb, eqb-true, eqb-false}
+use borrow.Author.Tests.{leb-true, eqb-true, eqb-false}
 use lib.Dec.{eqb, leb, lit<, lit≤}
 use lib.ListN.{length}
 use Rattle.le.specs.Choice.{pick}
@@ -23,12 +23,12 @@ use Rattle.handles.specs.Handles.{bodyOf, baseOf, saneOf, noStore}
 use Rattle.handles.proofs.Laws.{Sane, sane-facts, next-fits}
 use Rattle.header.specs.declared.answers.Copies.{Copies}
 use Rattle.header.specs.Header.{ours, Bytes}
-use Rattle.header.specs.Copies.{isOurs, isForeign, copyOf, bothOf, headersOf, sameStore}
+use Rattle.header.specs.Copies.{isOurs, isForeign, copyOf, bothOf, headersOf, takesB, sameStore}
 use Rattle.header.proofs.Accepted.{Both, headers-both, copy-valid}
 use Rattle.header.proofs.Fill.{length-unmarked}
 use Rattle.header.proofs.Range.{no-way}
 use Rattle.plan.specs.Copy.{Plan, Out, isFormat, refusedOut, copyOut}
-use Rattle.format.specs.Format.{chunksOf, newestB, copyFor, newestOf, formatHead, formatPlan, formatOver, formatOf}
+use Rattle.format.specs.Format.{chunksOf, copyFor, newestOf, formatHead, formatPlan, formatOver, formatOf}
 use Rattle.format.proofs.Crcs.{length-crcs}
 use Rattle.format.proofs.Absent.{format-first}
 use Rattle.format.proofs.Ids.{id-fresh, neither-has}
@@ -39,6 +39,8 @@ use Rattle.safe.specs.Inv.{Inv, Numbered, FormatStopped, FormatMade}
 use Rattle.safe.proofs.Frame.{clash, body-beside}
 use Rattle.safe.proofs.Moves.{due-format}
 use Rattle.safe.proofs.Copy.{copy-frame, copy-used, copy-stopped, copy-finished}
+use Rattle.safe.proofs.Current.{not-b, yes-b}
+use Rattle.safe.proofs.Mounts.{stopped-stands}
 use Rattle.safe.proofs.Sums.{format-distinct, finished-body}
 use Rattle.safe.proofs.Bodies.{format-tied}
 use Rattle.safe.proofs.Invs.{inv-numbered, bytes-numbered, kept-records, stopped-inv, finished-inv}
@@ -50,10 +52,10 @@ both vol = bothOf (copyOf vol 0) (copyOf vol 32)
 
 -- a copy beside the one written is of a smaller generation
 pub copy-older : (vol : List ℕ) (g : Header) → copyOf vol (baseOf (1 - copyFor (both vol))) ≡ ours g → g .generation ≤ newestOf (both vol)
-unfolding copyFor newestOf newestB baseOf pick
-copy-older vol g = go (newestB (both vol)) (isOurs (copyOf vol 0 .kind)) refl refl
+unfolding copyFor newestOf takesB baseOf pick
+copy-older vol g = go (takesB (both vol)) (isOurs (copyOf vol 0 .kind)) refl refl
   where
-    go : (t u : Bool) → newestB (both vol) ≡ t → isOurs (copyOf vol 0 .kind) ≡ u
+    go : (t u : Bool) → takesB (both vol) ≡ t → isOurs (copyOf vol 0 .kind) ≡ u
         → copyOf vol (baseOf (1 - pick t 0 (pick u 1 0))) ≡ ours g → g .generation ≤ pick t (copyOf vol 32 .head .generation) (pick u (copyOf vol 0 .head .generation) 0)
     go true u a b e = rw e (omega arith)
     go false true a b e = rw e (omega arith)
@@ -61,37 +63,18 @@ copy-older vol g = go (newestB (both vol)) (isOurs (copyOf vol 0 .kind)) refl re
 
 -- beside a store that stands, the copy written is the other one
 module _ (vol : List ℕ) (h : Header) where
-  abbrev Newer : ℕ → Type 0
-  Newer c = (g : Header) → copyOf vol (baseOf (1 - c)) ≡ ours g → g .generation < h .generation
-
-  newest-a : Stands vol 0 h → Newer 0 → newestB (both vol) ≡ false
-  unfolding newestB baseOf pick
-  newest-a s newer = rw (s .found) (go (isOurs (copyOf vol 32 .kind)) refl)
-    where
-      go : (t : Bool) → isOurs (copyOf vol 32 .kind) ≡ t → (t && leb (h .generation) (copyOf vol 32 .head .generation)) ≡ false
-      go true q = lt-leb (h .generation) (copyOf vol 32 .head .generation) (newer (copyOf vol 32 .head) (copy-valid vol 32 q))
-      go false q = refl
-
-  newest-b : Stands vol 1 h → Newer 1 → newestB (both vol) ≡ true
-  unfolding newestB baseOf pick
-  newest-b s newer = rw (s .found) (go (isOurs (copyOf vol 0 .kind)) refl)
-    where
-      go : (t : Bool) → isOurs (copyOf vol 0 .kind) ≡ t → (not t || leb (copyOf vol 0 .head .generation) (h .generation)) ≡ true
-      go true q = le-leb (copyOf vol 0 .head .generation) (h .generation) (omega (arith, newer (copyOf vol 0 .head) (copy-valid vol 0 q)))
-      go false q = refl
-
-  copy-other : (c : ℕ) → Stands vol c h → Newer c → c + copyFor (both vol) ≡ 1
+  copy-other : (c : ℕ) → Stands vol c h → c + copyFor (both vol) ≡ 1
   unfolding copyFor baseOf pick
-  copy-other zero s newer = rw (newest-a s newer, s .found)
-  copy-other (suc zero) s newer = rw (newest-b s newer)
-  copy-other (suc (suc c)) s newer = absurd (let f : ⊥ = omega (arith, s .number) in f)
+  copy-other zero s = rw (not-b vol h s, s .found)
+  copy-other (suc zero) s = rw (yes-b vol h s)
+  copy-other (suc (suc c)) s = absurd (let f : ⊥ = omega (arith, s .number) in f)
 
   -- and its generation the newest
-  pub newest-is : (c : ℕ) → Stands vol c h → Newer c → newestOf (both vol) ≡ h .generation
+  pub newest-is : (c : ℕ) → Stands vol c h → newestOf (both vol) ≡ h .generation
   unfolding newestOf baseOf pick
-  newest-is zero s newer = rw (newest-a s newer, s .found)
-  newest-is (suc zero) s newer = rw (newest-b s newer, s .found)
-  newest-is (suc (suc c)) s newer = absurd (let f : ⊥ = omega (arith, s .number) in f)
+  newest-is zero s = rw (not-b vol h s, s .found)
+  newest-is (suc zero) s = rw (yes-b vol h s, s .found)
+  newest-is (suc (suc c)) s = absurd (let f : ⊥ = omega (arith, s .number) in f)
 
 same-id : (h g : Header) → sameStore h g ≡ true → h .id ≡ g .id
 unfolding sameStore
@@ -175,9 +158,9 @@ module _ (size seed : ℕ) (vol : List ℕ) (m : Medium) where
         pick-keeps (λ (k : ℕ). (h : Header) → copyOf vol k ≡ ours h → h .id ≡ head .id → ⊥) (eqb c 0) 0 32 (t .0) (t .1)
 
     newest-lt : Numbered vol → newestOf (both vol) < 2 ^ 64
-    unfolding newestOf newestB baseOf pick
+    unfolding newestOf takesB baseOf pick
     newest-lt small =
-        pick-keeps-by (λ (g : ℕ). g < 2 ^ 64) (newestB (both vol)) _ _
+        pick-keeps-by (λ (g : ℕ). g < 2 ^ 64) (takesB (both vol)) _ _
         (λ t. small 1 (copyOf vol 32 .head) (copy-valid vol 32 (and-true (isOurs (copyOf vol 32 .kind)) _ t .0)))
         (λ _. pick-keeps-by (λ (g : ℕ). g < 2 ^ 64) (isOurs (copyOf vol 0 .kind)) _ _ (λ t. small 0 (copyOf vol 0 .head) (copy-valid vol 0 t)) (λ _. lit< tt))
 
@@ -199,15 +182,17 @@ module _ (size seed : ℕ) (vol : List ℕ) (m : Medium) where
   unfolding formatPlan
   format-stopped {e} =
       ways (λ (o : Out). o .ans .outcome ≡ No e → FormatStopped vol m o)
-      (λ x _. record { store = refl; size = refl; inv = λ st i. i; body = λ st i k l. refl; records = λ j l. refl; used = spends-none m })
+      (λ x _. record { store = refl; size = refl; stands = λ st s. s; inv = λ st i. i; body = λ st s k l. refl; records = λ j l. refl; used = spends-none m })
       (λ a q.
       let kept = copy-frame plan vol m (good a) in
-      let two : (st : Store) → Inv vol st → st .copy + copyFor (both vol) ≡ 1 = λ st i. copy-other vol (st .head) (st .copy) (i .sound .stands) (λ g e. omega (arith, i .newer g e)) in
+      let first = format-first (copyFor (both vol)) head (sectorsOf vol) in
+      let two : (st : Store) → Stands vol (st .copy) (st .head) → st .copy + copyFor (both vol) ≡ 1 = λ st. copy-other vol (st .head) (st .copy) in
       record {
         store = copy-stopped plan vol m (good a) q .0;
         size = kept .size;
-        inv = λ st i. stopped-inv plan vol m (good a) (format-first (copyFor (both vol)) head (sectorsOf vol)) i (two st i) q;
-        body = λ st i. body-beside (st .copy) (copyFor (both vol)) (two st i) kept;
+        stands = λ st s. stopped-stands plan vol m (good a) first s (two st s) q;
+        inv = λ st i. stopped-inv plan vol m (good a) first i (two st (i .sound .stands)) q;
+        body = λ st s. body-beside (st .copy) (copyFor (both vol)) (two st s) kept;
         records = kept-records (copyFor (both vol)) kept;
         used = copy-used plan vol m (good a);
       })

@@ -21,7 +21,7 @@ use Rattle.plan.specs.Copy.{Plan, Out}
 use Rattle.plan.specs.Edit.{editedOf, headAfter}
 use Rattle.commit.specs.Commit.{commitPlan}
 use Rattle.safe.specs.Copy.{PlanDistinct}
-use Rattle.safe.specs.Mounts.{Sound}
+use Rattle.safe.specs.Mounts.{Stands, Sound}
 
 -- the store value is the one that mount gives: its copy stands with its header and the body that this lists. The other copy, where it is valid, is
 -- strictly older; equal generations are met only before the first format
@@ -70,12 +70,13 @@ pub record CommitMade (edit : Edit) (name vol : List ℕ) (m : Medium) (st : Sto
 abbrev pub Numbered : List ℕ → Type 0
 Numbered vol = (c : ℕ) (h : Header) → copyOf vol (baseOf c) ≡ ours h → h .generation < 2 ^ 64
 
--- refused, however many writes were made: a store that was there is there
+-- refused, however many writes were made: a store that was there is there. That its copy stands is enough, whatever body its header lists
 pub record FormatStopped (vol : List ℕ) (m : Medium) (o : Out) : Type 0 where
   pub store : o .ans .store ≡ noStore
   pub size : length (o .vol) ≡ length vol
+  pub stands : (st : Store) → Stands vol (st .copy) (st .head) → Stands (o .vol) (st .copy) (st .head)
   pub inv : (st : Store) → Inv vol st → Inv (o .vol) st
-  pub body : (st : Store) → Inv vol st → (k : ℕ) → k < 24 → sectorAt (o .vol) (bodyAt st k) ≡ sectorAt vol (bodyAt st k)
+  pub body : (st : Store) → Stands vol (st .copy) (st .head) → (k : ℕ) → k < 24 → sectorAt (o .vol) (bodyAt st k) ≡ sectorAt vol (bodyAt st k)
   pub records : SameRecords vol (o .vol)
   pub used : Spends m (o .ans .medium)
 

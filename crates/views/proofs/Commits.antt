@@ -32,7 +32,7 @@ pub commit-unchanged : {vol : List ℕ} {m : Medium} {st : Store} {o : Out} → 
 commit-unchanged {vol} {m} {st} {o} inv c = rw (c .store) (volume-unchanged vol (o .vol) st (λ k h. c .body k (body-most inv h)) (c .records))
 
 pub format-unchanged : {vol : List ℕ} {m : Medium} {st : Store} {o : Out} → Inv vol st → FormatStopped vol m o → Unchanged (diskOf vol st) (diskOf (o .vol) st)
-format-unchanged {vol} {m} {st} {o} inv f = volume-unchanged vol (o .vol) st (λ k h. f .body st inv k (body-most inv h)) (f .records)
+format-unchanged {vol} {m} {st} {o} inv f = volume-unchanged vol (o .vol) st (λ k h. f .body st (inv .sound .stands) k (body-most inv h)) (f .records)
 
 -- accepted: an edited body, and an empty one
 pub commit-edited : {edit : Edit} {name vol : List ℕ} {m : Medium} {st : Store} {o : Out} → CommitMade edit name vol m st o → Edited edit name vol st (o .vol) (o .ans .store)

@@ -10,23 +10,23 @@ element-copy-out-x c = search needs
 element-copy-out-y : tie.Need-element-copy-out-y
 element-copy-out-y c = search needs
 
-newest-b-requires : tie.Need-newest-b-requires
-newest-b-requires c κs = search needs
+takes-b-requires : tie.Need-takes-b-requires
+takes-b-requires c κs = search needs
 
 returns : tie.Need-returns
 unfolding newestOf pick
-returns c = rw (← c .before .newest-b .ensures, c .if1 .taken)
+returns c = rw (← c .before .takes-b .ensures, c .if1 .taken)
 
 is-ours-requires : tie.Need-is-ours-requires
 is-ours-requires c κs = search needs
 
 returns-2 : tie.Need-returns-2
 unfolding newestOf pick
-returns-2 c = rw (← c .before .before .before .newest-b .ensures, c .before .before .if1 .left, ← c .before .is-ours .ensures, c .if2 .taken)
+returns-2 c = rw (← c .before .before .before .takes-b .ensures, c .before .before .if1 .left, ← c .before .is-ours .ensures, c .if2 .taken)
 
 returns-3 : tie.Need-returns-3
 unfolding newestOf pick
-returns-3 c = rw (← c .before .before .before .newest-b .ensures, c .before .before .if1 .left, ← c .before .is-ours .ensures, c .if2 .left)
+returns-3 c = rw (← c .before .before .before .takes-b .ensures, c .before .before .if1 .left, ← c .before .is-ours .ensures, c .if2 .left)
 
 pub newest-spec : {M : Type 1} → statement M
 newest-spec =
@@ -34,7 +34,7 @@ newest-spec =
     (tie.spec
     element-copy-out-x
     element-copy-out-y
-    newest-b-requires
+    takes-b-requires
     returns
     is-ours-requires
     returns-2

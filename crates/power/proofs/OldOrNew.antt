@@ -1,0 +1,86 @@
+-- 02, S-7: after a format, refused or accepted, a mount gives the old store or the new. Assumes nothing.
+use mathlib.Core.Path.{_≡_, refl, sym, _∙_, subst}
+use mathlib.Core.Bool.{true, false, _||_}
+use mathlib.Core.List.{List}
+use Prim.Native.Nat.{ℕ}
+use native.Mathlib.Omega.{arith}
+use Rattle.le.proofs.Choices.{pick-keeps-by}
+use Rattle.medium.specs.declared.Medium.{Medium}
+use Rattle.medium.specs.declared.Outcome.{Outcome}
+use Rattle.medium.specs.declared.Outcome.the-variants.{Done, No}
+use Rattle.medium.specs.Refusal.{ok, refused, onDone}
+use Rattle.medium.proofs.Laws.{done-told, not-done}
+use Rattle.handles.specs.declared.Store.{Store}
+use Rattle.handles.specs.declared.Writer.the-variants.{Nobody}
+use Rattle.header.specs.declared.answers.Copies.{Copies}
+use Rattle.header.specs.declared.answers.Current.{Current}
+use Rattle.header.specs.declared.answers.Mounted.{Mounted}
+use Rattle.header.specs.Header.{Bytes}
+use Rattle.header.specs.Copies.{isOurs, copyOf, bothOf, takesB, takenOf, choiceOf, currentOf, mountOf}
+use Rattle.header.proofs.Accepted.{mount-current}
+use Rattle.header.proofs.Edges.{headers-read}
+use Rattle.header.proofs.Range.{no-way}
+use Rattle.plan.specs.Copy.{Out}
+use Rattle.format.specs.Format.{formatOf}
+use Rattle.safe.specs.Inv.{FormatStopped, FormatMade}
+use Rattle.safe.specs.Mounts.{Stands}
+use Rattle.safe.proofs.Current.{stands-mount, current-stands}
+use Rattle.safe.proofs.Format.{format-stopped, format-bytes}
+use Rattle.store.specs.Reading.{mountCall}
+use Rattle.store.specs.Writing.{formatCall}
+use Rattle.power.specs.OldOrNew.{HeadersRead, MountGives, OldStore, OldOrNew, AfterFormat, OneValid}
+
+-- mount gives the store whose copy stands
+stands-gives : (vol : List ℕ) (st : Store) → st .writer ≡ Nobody → Stands vol (st .copy) (st .head) → MountGives vol st
+unfolding mountCall
+stands-gives vol st w s u r = rw (stands-mount vol (st .head) u (r .0) (r .1) (st .copy) s, sym w)
+
+-- and the store of an accepted mount is one
+mount-stands : (vol : List ℕ) (u : Medium) → mountOf vol u .outcome ≡ Done → (mountOf vol u .store .writer ≡ Nobody) × Stands vol (mountOf vol u .store .copy) (mountOf vol u .store .head)
+mount-stands vol u q =
+    let t = mount-current vol u q in
+    subst (λ (r : Mounted). (r .store .writer ≡ Nobody) × Stands vol (r .store .copy) (r .store .head)) (sym (t .1)) (refl, current-stands vol u (t .0))
+
+module _ (vol : List ℕ) (m : Medium) (size seed : ℕ) (st : Store) (w : st .writer ≡ Nobody) (stands : Stands vol (st .copy) (st .head)) (bytes : Bytes vol) where
+  abbrev out : Out
+  out = formatOf size seed vol m
+
+  by-outcome : (o : Outcome) → out .ans .outcome ≡ o → OldOrNew vol st (formatCall vol m size seed)
+  unfolding formatCall
+  by-outcome (No e) q =
+      let f : FormatStopped vol m out = format-stopped size seed vol m q in
+      record {
+        old = λ n _. record { mounts = stands-gives (out .vol) st w (f .stands st stands); body = f .body st stands; records = f .records };
+        new = λ t. not-done (sym q ∙ done-told (out .ans .outcome) t);
+      }
+  by-outcome Done q =
+      let f : FormatMade size vol m out = format-bytes size seed vol m bytes q in
+      record {
+        old = λ n t. absurd (let z : _≡_ {A = ℕ} 0 1 = cc in omega arith);
+        new = λ _. stands-gives (out .vol) (out .ans .store) (f .writer) (f .inv .sound .stands);
+      }
+
+pub old-or-new : AfterFormat
+unfolding mountCall
+old-or-new vol u m size seed bytes a =
+    let t = mount-stands vol u (done-told (mountOf vol u .outcome) a) in
+    by-outcome vol m size seed (mountOf vol u .store) (t .0) (t .1) bytes (formatOf size seed vol m .ans .outcome) refl
+
+-- ---- 02's words for such a volume
+
+-- with a valid copy one is taken
+choice-done : (c : Copies) → (isOurs (c .a) || isOurs (c .b)) ≡ true → choiceOf c .outcome ≡ Done
+unfolding choiceOf takesB takenOf
+choice-done c v =
+    pick-keeps-by Taken (takesB c) _ _ (λ _. refl)
+    (λ t. pick-keeps-by Taken (isOurs (c .a)) _ _ (λ _. refl)
+    (λ a. let b : isOurs (c .b) ≡ true = rw a at v in no-way (sym (rw (a, b) at t))))
+  where
+    Taken : Current → Type 0
+    Taken r = r .outcome ≡ Done
+
+-- so where both headers read and neither is foreign, a mount is accepted
+pub valid-mounts : (vol : List ℕ) (u : Medium) → HeadersRead u → OneValid vol → mountCall vol u .answer ≡ ok tt
+unfolding mountCall mountOf currentOf onDone
+valid-mounts vol u r v =
+    rw (headers-read vol u (v .enough) (r .0) (r .1) (v .known-a) (v .known-b), choice-done (bothOf (copyOf vol 0) (copyOf vol 32)) (v .valid))

@@ -1,0 +1,50 @@
+-- 02, S-7, beside demand 3: a format on any volume of bytes that has a store. Whatever the size, the seed and the medium record, and so after a stop at
+-- any of its writes, a mount gives the old store or the new, and the answer tells which. No history comes before it. Assumes nothing.
+use Prim.Native.Nat.{ℕ, _≤_, _<_}
+use mathlib.Core.Path.{_≡_}
+use mathlib.Core.Bool.{true, false, _||_}
+use mathlib.Core.List.{List}
+use lib.ListN.{getD}
+use Rattle.medium.specs.declared.Medium.{Medium}
+use Rattle.medium.specs.declared.Outcome.the-variants.{Done}
+use Rattle.medium.specs.Refusal.{ok, refused}
+use Rattle.medium.specs.Sector.{sectorsOf, sectorAt, readOf}
+use Rattle.handles.specs.declared.Store.{Store}
+use Rattle.handles.specs.Body.{bodyAt}
+use Rattle.header.specs.Copies.{isOurs, isForeign, copyOf}
+use Rattle.store.specs.Reading.{mountCall}
+use Rattle.store.specs.Writing.{WriteCall, formatCall}
+
+-- both header sectors read
+abbrev pub HeadersRead : Medium → Type 0
+HeadersRead u = (readOf u 0 ≡ Done) × (readOf u 32 ≡ Done)
+
+-- mount gives this store, by every medium record with which both header sectors read
+abbrev pub MountGives : List ℕ → Store → Type 0
+MountGives vol st = (u : Medium) → HeadersRead u → mountCall vol u ≡ record { answer = ok tt; store = st; medium = u }
+
+-- the old store on v, which was vol: mount gives it, and its body sectors and every data sector hold the bytes that they held
+pub record OldStore (vol v : List ℕ) (st : Store) : Type 0 where
+  pub mounts : MountGives v st
+  pub body : (k : ℕ) → k < 24 → sectorAt v (bodyAt st k) ≡ sectorAt vol (bodyAt st k)
+  pub records : (j : ℕ) → 64 ≤ j → sectorAt v j ≡ sectorAt vol j
+
+-- refused, with whichever number, a format leaves the old store; accepted, the one that it answers
+pub record OldOrNew (vol : List ℕ) (st : Store) (c : WriteCall) : Type 0 where
+  pub old : (n : ℕ) → c .call .answer ≡ refused n → OldStore vol (c .vol) st
+  pub new : c .call .answer ≡ ok tt → MountGives (c .vol) (c .call .store)
+
+-- the claim: on every volume of bytes on which a mount is accepted
+abbrev pub AfterFormat : Type 0
+AfterFormat =
+    (vol : List ℕ) (u m : Medium) (size seed : ℕ)
+    → ((k : ℕ) → getD vol k 0 < 256)
+    → mountCall vol u .answer ≡ ok tt
+    → OldOrNew vol (mountCall vol u .store) (formatCall vol m size seed)
+
+-- 02's words for such a volume: at least one header copy is valid and none foreign
+pub record OneValid (vol : List ℕ) : Type 0 where
+  pub enough : 64 ≤ sectorsOf vol
+  pub valid : (isOurs (copyOf vol 0 .kind) || isOurs (copyOf vol 32 .kind)) ≡ true
+  pub known-a : isForeign (copyOf vol 0 .kind) ≡ false
+  pub known-b : isForeign (copyOf vol 32 .kind) ≡ false

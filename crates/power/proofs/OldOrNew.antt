@@ -1,17 +1,21 @@
 -- 02, S-7: after a format, refused or accepted, a mount gives the old store or the new. Assumes nothing.
 use mathlib.Core.Path.{_≡_, refl, sym, _∙_, subst}
-use mathlib.Core.Bool.{true, false, _||_}
+use mathlib.Core.Bool.{true, _||_}
 use mathlib.Core.List.{List}
-use Prim.Native.Nat.{ℕ}
+use Prim.Native.Nat.{ℕ, _+_, _<_, _≤_}
 use native.Mathlib.Omega.{arith}
+use lib.ListN.{length}
 use Rattle.le.proofs.Choices.{pick-keeps-by}
 use Rattle.medium.specs.declared.Medium.{Medium}
 use Rattle.medium.specs.declared.Outcome.{Outcome}
 use Rattle.medium.specs.declared.Outcome.the-variants.{Done, No}
-use Rattle.medium.specs.Refusal.{ok, refused, onDone}
+use Rattle.medium.specs.Refusal.{ok, onDone}
+use Rattle.medium.specs.Sector.{sectorAt}
 use Rattle.medium.proofs.Laws.{done-told, not-done}
 use Rattle.handles.specs.declared.Store.{Store}
 use Rattle.handles.specs.declared.Writer.the-variants.{Nobody}
+use Rattle.handles.specs.Body.{bodyAt}
+use Rattle.handles.specs.Handles.{tableOf, bodyOf, baseOf}
 use Rattle.header.specs.declared.answers.Copies.{Copies}
 use Rattle.header.specs.declared.answers.Current.{Current}
 use Rattle.header.specs.declared.answers.Mounted.{Mounted}
@@ -24,11 +28,14 @@ use Rattle.plan.specs.Copy.{Out}
 use Rattle.format.specs.Format.{formatOf}
 use Rattle.safe.specs.Inv.{FormatStopped, FormatMade}
 use Rattle.safe.specs.Mounts.{Stands}
+use Rattle.safe.proofs.Bodies.{copy-most}
 use Rattle.safe.proofs.Current.{stands-mount, current-stands}
 use Rattle.safe.proofs.Format.{format-stopped, format-bytes}
+use Rattle.reader.proofs.Frame.{next-frame, seek-frame}
 use Rattle.store.specs.Reading.{mountCall}
 use Rattle.store.specs.Writing.{formatCall}
-use Rattle.power.specs.OldOrNew.{HeadersRead, MountGives, OldStore, OldOrNew, AfterFormat, OneValid}
+use Rattle.store.proofs.Frame.{find-frame, list-frame, reader-frame}
+use Rattle.power.specs.OldOrNew.{HeadersRead, MountGives, SameReadings, OldOrNew, AfterFormat, OneValid}
 
 -- mount gives the store whose copy stands
 stands-gives : (vol : List ℕ) (st : Store) → st .writer ≡ Nobody → Stands vol (st .copy) (st .head) → MountGives vol st
@@ -41,6 +48,21 @@ mount-stands vol u q =
     let t = mount-current vol u q in
     subst (λ (r : Mounted). (r .store .writer ≡ Nobody) × Stands vol (r .store .copy) (r .store .head)) (sym (t .1)) (refl, current-stands vol u (t .0))
 
+-- a store whose body and data sectors are as they were reads as it did
+old-reads : {vol v : List ℕ} {st : Store} → Stands vol (st .copy) (st .head) → length v ≡ length vol
+    → ((k : ℕ) → k < 24 → sectorAt v (bodyAt st k) ≡ sectorAt vol (bodyAt st k)) → ((j : ℕ) → 64 ≤ j → sectorAt v j ≡ sectorAt vol j) → SameReadings vol v st
+old-reads {vol} {v} {st} s size held records =
+    let most = copy-most vol (baseOf (st .copy)) (st .head) (s .found) in
+    let body : (k : ℕ) → k < bodyOf (st .head .chunks) → sectorAt v (bodyAt st k) ≡ sectorAt vol (bodyAt st k) = λ k l. held k (omega arith) in
+    let links : (t : ℕ) → t < tableOf (st .head .chunks) → sectorAt v (bodyAt st (8 + t)) ≡ sectorAt vol (bodyAt st (8 + t)) = λ t l. body (8 + t) (omega arith) in
+    record {
+      list = λ m. list-frame vol v m st size body;
+      find = λ m. find-frame vol v m st size body;
+      reader = λ m. reader-frame vol v m st size body;
+      next = λ m. next-frame vol v m st size links records;
+      seek = λ m. seek-frame vol v m st size links records;
+    }
+
 module _ (vol : List ℕ) (m : Medium) (size seed : ℕ) (st : Store) (w : st .writer ≡ Nobody) (stands : Stands vol (st .copy) (st .head)) (bytes : Bytes vol) where
   abbrev out : Out
   out = formatOf size seed vol m
@@ -50,7 +72,12 @@ module _ (vol : List ℕ) (m : Medium) (size seed : ℕ) (st : Store) (w : st .w
   by-outcome (No e) q =
       let f : FormatStopped vol m out = format-stopped size seed vol m q in
       record {
-        old = λ n _. record { mounts = stands-gives (out .vol) st w (f .stands st stands); body = f .body st stands; records = f .records };
+        old = λ n _. record {
+          mounts = stands-gives (out .vol) st w (f .stands st stands);
+          body = f .body st stands;
+          records = f .records;
+          readings = old-reads stands (f .size) (f .body st stands) (f .records);
+        };
         new = λ t. not-done (sym q ∙ done-told (out .ans .outcome) t);
       }
   by-outcome Done q =

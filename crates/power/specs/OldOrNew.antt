@@ -12,7 +12,9 @@ use Rattle.medium.specs.Sector.{sectorsOf, sectorAt, readOf}
 use Rattle.handles.specs.declared.Store.{Store}
 use Rattle.handles.specs.Body.{bodyAt}
 use Rattle.header.specs.Copies.{isOurs, isForeign, copyOf}
-use Rattle.store.specs.Reading.{mountCall}
+use Rattle.reader.specs.declared.Reader.{Reader}
+use Rattle.reader.specs.Calls.{nextCall, seekCall}
+use Rattle.store.specs.Reading.{mountCall, findCall, listCall, readerCall}
 use Rattle.store.specs.Writing.{WriteCall, formatCall}
 
 -- both header sectors read
@@ -23,11 +25,20 @@ HeadersRead u = (readOf u 0 ≡ Done) × (readOf u 32 ≡ Done)
 abbrev pub MountGives : List ℕ → Store → Type 0
 MountGives vol st = (u : Medium) → HeadersRead u → mountCall vol u ≡ record { answer = ok tt; store = st; medium = u }
 
--- the old store on v, which was vol: mount gives it, and its body sectors and every data sector hold the bytes that they held
+-- each call that only reads gives on v what it gave on vol
+pub record SameReadings (vol v : List ℕ) (st : Store) : Type 0 where
+  pub list : (m : Medium) (dir counts rows : List ℕ) → listCall v m st dir counts rows ≡ listCall vol m st dir counts rows
+  pub find : (m : Medium) (name : List ℕ) → findCall v m st name ≡ findCall vol m st name
+  pub reader : (m : Medium) (name : List ℕ) → readerCall v m st name ≡ readerCall vol m st name
+  pub next : (m : Medium) (rd : Reader) (out : List ℕ) → nextCall v m st rd out ≡ nextCall vol m st rd out
+  pub seek : (m : Medium) (rd : Reader) (number : ℕ) → seekCall v m st rd number ≡ seekCall vol m st rd number
+
+-- the old store on v, which was vol: mount gives it, its body sectors and every data sector hold the bytes that they held, and so it reads as it did
 pub record OldStore (vol v : List ℕ) (st : Store) : Type 0 where
   pub mounts : MountGives v st
   pub body : (k : ℕ) → k < 24 → sectorAt v (bodyAt st k) ≡ sectorAt vol (bodyAt st k)
   pub records : (j : ℕ) → 64 ≤ j → sectorAt v j ≡ sectorAt vol j
+  pub readings : SameReadings vol v st
 
 -- refused, with whichever number, a format leaves the old store; accepted, the one that it answers
 pub record OldOrNew (vol : List ℕ) (st : Store) (c : WriteCall) : Type 0 where

@@ -6,3 +6,4 @@ pub mod Offers
 pub mod Cuts
 pub mod Handed
 pub mod Forward
+pub mod Frame

@@ -175,7 +175,6 @@ module _ (edit : Edit) (name vol : List ℕ) (m : Medium) (st : Store) (inv : In
       unfolding commitPlan headAfter
       copy-inv d less =
           finished-inv (planOf edit name vol m st) vol m (fitting short) (plan-newest fits less) (plan-tied d)
-          (λ g e. rw (own-head g e) (omega arith))
           (λ g e _. rw (back, own-head g e) (inv .sound .own))
 
       -- the new store is sound even without the premise on the sectors left unwritten

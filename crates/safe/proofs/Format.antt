@@ -210,7 +210,7 @@ module _ (size seed : ℕ) (vol : List ℕ) (m : Medium) where
       let i : st .head .id ≡ head .id = ap (λ (h : Header). h .id) (done .head) in
       let n : st .head .chunks ≡ head .chunks = ap (λ (h : Header). h .chunks) (done .head) in
       record {
-        inv = finished-inv plan vol m (good a) (newest a small) (tied a) (λ g e. omega (arith, copy-older vol g e))
+        inv = finished-inv plan vol m (good a) (newest a small) (tied a)
             (λ g e t. absurd (fresh a (1 - copyFor (both vol)) g e (sym (same-id head g t)))) q;
         writer = ap (λ (s : Store). s .writer) (done .store);
         next = ap (λ (h : Header). h .«next_id») (done .head);

@@ -34,7 +34,7 @@ use Rattle.safe.specs.Inv.{Inv, SameRecords, Numbered}
 use Rattle.safe.proofs.Copy.{copy-frame, copy-finished}
 use Rattle.safe.proofs.Sums.{finished-range, finished-sane}
 use Rattle.safe.proofs.Current.{stands-mount}
-use Rattle.safe.proofs.Mounts.{copy-same, beside, gone, stopped-copy}
+use Rattle.safe.proofs.Mounts.{copy-same}
 use Rattle.safe.proofs.Bodies.{copy-most, stopped-sound, finished-sound}
 
 -- ---- a medium whose sectors all read
@@ -72,7 +72,7 @@ module _ (vol : List ℕ) (m : Medium) (st : Store) (inv : Inv vol st) (r : Read
 pub inv-writer : {vol : List ℕ} {st su : Store} → su .copy ≡ st .copy → su .head ≡ st .head → Inv vol st → Inv vol su
 unfolding storeOk
 inv-writer {vol} {st} {su} a b inv =
-    record { ok = rw (a, b) (inv .ok); range = rw b (inv .range); sound = rw (a, b) (inv .sound); newer = rw (a, b) (inv .newer) }
+    record { ok = rw (a, b) (inv .ok); range = rw b (inv .range); sound = rw (a, b) (inv .sound) }
 
 -- ---- writing a record
 
@@ -98,7 +98,6 @@ inv-beyond vol v st inv size same =
             let x = sym (head (1 - st .copy)) ∙ e in
             rw (body (1 - st .copy) k (omega (arith, copy-most vol (baseOf (1 - st .copy)) g x))) (s .other g x q k l);
       };
-      newer = λ g e. inv .newer g (sym (head (1 - st .copy)) ∙ e);
     }
 
 pub inv-record : (vol : List ℕ) (m : Medium) (k : ℕ) (bytes : List ℕ) (st : Store) → Inv vol st → 64 ≤ k → k < sectorsOf vol → length bytes ≡ 512 → Inv (writeOf vol m k bytes .vol) st
@@ -116,33 +115,21 @@ module _ (p : Plan) (vol : List ℕ) (m : Medium) (good : Good p vol) where
   -- refused: the store beside it holds on
   pub stopped-inv : {st : Store} {e : Error} → decodeOf (p .first) (sectorsOf vol) ≡ bare Absent → Inv vol st → st .copy + p .copy ≡ 1
       → copyOut p vol m .ans .outcome ≡ No e → Inv (copyOut p vol m .vol) st
-  stopped-inv {st} none inv two q =
-      let b : 1 - st .copy ≡ p .copy = omega arith in
-      record {
-        ok = rw (kept-sectors (copy-frame p vol m good)) (inv .ok);
-        range = inv .range;
-        sound = stopped-sound p vol m good none (inv .sound) two q;
-        newer = ⊎-elim
-            (λ a. rw a (inv .newer))
-            (λ a g x. gone (sym a ∙ (rw b at x)))
-            (stopped-copy p vol m good none q);
-      }
+  stopped-inv none inv two q =
+      record { ok = rw (kept-sectors (copy-frame p vol m good)) (inv .ok); range = inv .range; sound = stopped-sound p vol m good none (inv .sound) two q }
 
   -- accepted: the new store holds
-  pub finished-inv : Newest p vol → Tied p vol → ((g : Header) → copyOf vol (baseOf (1 - p .copy)) ≡ ours g → g .generation < p .head .generation)
+  pub finished-inv : Newest p vol → Tied p vol
       → ((g : Header) → copyOf vol (baseOf (1 - p .copy)) ≡ ours g → sameStore (p .head) g ≡ true → Lists vol (1 - p .copy) g)
       → copyOut p vol m .ans .outcome ≡ Done → Inv (copyOut p vol m .vol) (copyOut p vol m .ans .store)
   unfolding storeOk
-  finished-inv new tied newer old q =
+  finished-inv new tied old q =
       let done = copy-finished p vol m good q in
-      let kept = copy-frame p vol m good in
       let c : copyOut p vol m .ans .store .copy ≡ p .copy = ap (λ (s : Store). s .copy) (done .store) in
-      let same = beside (1 - p .copy) (p .copy) (omega (arith, new .number)) kept in
       record {
-        ok = rw (c, kept-sectors kept, lt-ltb (p .copy) 2 (new .number)) (finished-sane done (sectorsOf vol) ∙ new .sane);
+        ok = rw (c, kept-sectors (copy-frame p vol m good), lt-ltb (p .copy) 2 (new .number)) (finished-sane done (sectorsOf vol) ∙ new .sane);
         range = finished-range done (new .range);
         sound = rw c (finished-sound p vol m good new tied old q);
-        newer = rw c (λ g e. rw (done .head) (omega (arith, newer g (sym same ∙ e))));
       }
 
 -- ---- generations
@@ -160,7 +147,7 @@ pub inv-numbered : {vol : List ℕ} {st : Store} → Inv vol st → Numbered vol
 inv-numbered {vol} {st} inv c h e =
     ⊎-elim
     (λ q. let g : h ≡ st .head = ap (λ (d : Decoded). d .head) (sym e ∙ ap (copyOf vol) q ∙ inv .sound .stands .found) in rw g (inv .range .generation))
-    (λ q. omega (arith, inv .newer h (ap (copyOf vol) (sym q) ∙ e), inv .range .generation))
+    (λ q. omega (arith, inv .sound .stands .older h (ap (copyOf vol) (sym q) ∙ e), inv .range .generation))
     (either c (st .copy) (inv-held inv .copy))
 
 pub bytes-numbered : (vol : List ℕ) → Bytes vol → 64 ≤ sectorsOf vol → Numbered vol

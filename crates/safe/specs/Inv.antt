@@ -23,13 +23,11 @@ use Rattle.commit.specs.Commit.{commitPlan}
 use Rattle.safe.specs.Copy.{PlanDistinct}
 use Rattle.safe.specs.Mounts.{Stands, Sound}
 
--- the store value is the one that mount gives: its copy stands with its header and the body that this lists. The other copy, where it is valid, is
--- strictly older; equal generations are met only before the first format
+-- the store value is the one that mount gives: its copy stands with its header and the body that this lists
 pub record Inv (vol : List ℕ) (st : Store) : Type 0 where
   pub ok : storeOk st (sectorsOf vol) ≡ true
   pub range : InRange (st .head)
   pub sound : Sound vol (st .copy) (st .head)
-  pub newer : (g : Header) → copyOf vol (baseOf (1 - st .copy)) ≡ ours g → g .generation < st .head .generation
 
 -- every sector from 64 on, where the records are, is as it was
 abbrev pub SameRecords : List ℕ → List ℕ → Type 0

@@ -7,4 +7,5 @@ pub mod Appends
 pub mod Live
 pub mod Starred
 pub mod Rests
+pub mod Frame
 pub mod Stale

@@ -122,7 +122,9 @@ uint32_t store_mount(const uint8_t *volume, size_t volume_length,
 
 /* Makes a new, empty store with chunks of `size` sectors (1 to 512), in place
  * of any store there; `seed` and `entropy` make its id. At most T + 10 sector
- * writes, with the T of the new store.
+ * writes, with the T of the new store. The old store goes with the last of them:
+ * cut before it, or refused, a format leaves the store that a mount found before,
+ * if it found one.
  * Accepted: 256 + its data chunks (1 to 2,048).
  * Refused: 2, 4, 6, 12. */
 uint32_t store_format(uint8_t *volume, size_t volume_length,

@@ -56,7 +56,7 @@ size_t on_stack(void (*call)(void));
 
 /* ---- the two halves of the run */
 
-void rules(void);                 /* rules.c: written from document 01 */
+void rules(void);                 /* rules.c: written from documents 01 and 02 */
 long recorded(const char *path); /* recorded.c: what the Rust answered; how many calls */
 
 #endif

@@ -1,4 +1,4 @@
-/* Checks written from the rules, document 01. */
+/* Checks written from the rules, document 01 and, where it says so, 02. */
 #include "calls.h"
 
 #include <string.h>
@@ -252,6 +252,26 @@ static void stops(void)
     }
 }
 
+/* 02, S-7: a bench tool wrote one header to both places, beside other bodies. A counts, so a format
+ * writes B: whatever the writes left, A and the data stay, and a stop leaves A's files. */
+static void one_header_twice(void)
+{
+    uint32_t n;
+    part = "one header twice";
+    for (n = 0; n <= 11; n++) {
+        two_files();
+        memcpy(sector(32), sector(0), STORE_SECTOR);
+        medium.left = n;
+        CHECK(do_format(8, 5) == (n < 11 ? (uint32_t)STORE_E_MEDIA : STORE_ACCEPTED + 8));
+        CHECK(memcmp(sector(0), at(&before), 32 * STORE_SECTOR) == 0);
+        CHECK(memcmp(sector(64), at(&before) + 64 * STORE_SECTOR, 64 * STORE_SECTOR) == 0);
+        all_allowed();
+        CHECK(do_mount() == STORE_ACCEPTED + (n < 11 ? 16 : 8));
+        CHECK(list_in("") == STORE_ACCEPTED + (n < 11 ? 2 : 0));
+        CHECK(n == 11 || (row_is(0, "a/1", 1, 1) && row_is(1, "b", 2, 1)));
+    }
+}
+
 static void unreadable(void)
 {
     part = "unreadable";
@@ -351,6 +371,7 @@ void rules(void)
     files();
     full();
     stops();
+    one_header_twice();
     unreadable();
     damaged_and_foreign();
     spent();

@@ -26,7 +26,7 @@ use Rattle.plan.specs.Copy.{Plan, Out, refusedOut, copyOut}
 unfoldable pub chunksOf : ℕ → ℕ → ℕ
 chunksOf sectors size = min ((sectors - 64) / size) 2048
 
--- the copy opposite the newest, which is the one that mount takes (02, S-7); with no valid copy A
+-- the copy opposite the newest. Newest is the copy that mount takes (02, S-7). With no valid copy A
 unfoldable pub copyFor : Copies → ℕ
 copyFor c = pick (takesB c) 0 (pick (isOurs (c .a)) 1 0)
 

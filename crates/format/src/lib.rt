@@ -32,7 +32,7 @@ fn chunks_for(sectors: u64, size: u32) -> u32
     2048
 }
 
-// The copy to write: opposite the newest, the one that mount takes, so that mount takes it until the last write.
+// The copy to write: opposite the newest. Newest is the copy that mount takes, so mount takes it until the last write.
 fn copy_for(c: Copies) -> u64
     ensures { λ r. ⌜ r ≡ copyFor c ⌝ }
 {

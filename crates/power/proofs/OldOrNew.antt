@@ -1,6 +1,6 @@
 -- 02, S-7: after a format, refused or accepted, a mount gives the old store or the new. Assumes nothing.
 use mathlib.Core.Path.{_≡_, refl, sym, _∙_, subst}
-use mathlib.Core.Bool.{true, _||_}
+use mathlib.Core.Bool.{Bool, true, false, _||_}
 use mathlib.Core.List.{List}
 use Prim.Native.Nat.{ℕ, _+_, _<_, _≤_}
 use native.Mathlib.Omega.{arith}
@@ -9,19 +9,20 @@ use Rattle.le.proofs.Choices.{pick-keeps-by}
 use Rattle.medium.specs.declared.Medium.{Medium}
 use Rattle.medium.specs.declared.Outcome.{Outcome}
 use Rattle.medium.specs.declared.Outcome.the-variants.{Done, No}
-use Rattle.medium.specs.Refusal.{ok, onDone}
-use Rattle.medium.specs.Sector.{sectorAt}
+use Rattle.medium.specs.Refusal.{onDone}
+use Rattle.medium.specs.Sector.{sectorsOf, sectorAt}
 use Rattle.medium.proofs.Laws.{done-told, not-done}
 use Rattle.handles.specs.declared.Store.{Store}
 use Rattle.handles.specs.declared.Writer.the-variants.{Nobody}
 use Rattle.handles.specs.Body.{bodyAt}
 use Rattle.handles.specs.Handles.{tableOf, bodyOf, baseOf}
+use Rattle.handles.proofs.Laws.{sane-facts}
 use Rattle.header.specs.declared.answers.Copies.{Copies}
 use Rattle.header.specs.declared.answers.Current.{Current}
 use Rattle.header.specs.declared.answers.Mounted.{Mounted}
 use Rattle.header.specs.Header.{Bytes}
 use Rattle.header.specs.Copies.{isOurs, copyOf, bothOf, takesB, takenOf, choiceOf, currentOf, mountOf}
-use Rattle.header.proofs.Accepted.{mount-current}
+use Rattle.header.proofs.Accepted.{copy-valid, copy-sane, mount-current}
 use Rattle.header.proofs.Edges.{headers-read}
 use Rattle.header.proofs.Range.{no-way}
 use Rattle.plan.specs.Copy.{Out}
@@ -35,7 +36,7 @@ use Rattle.reader.proofs.Frame.{next-frame, seek-frame}
 use Rattle.store.specs.Reading.{mountCall}
 use Rattle.store.specs.Writing.{formatCall}
 use Rattle.store.proofs.Frame.{find-frame, list-frame, reader-frame}
-use Rattle.power.specs.OldOrNew.{HeadersRead, MountGives, SameReadings, OldOrNew, AfterFormat, OneValid}
+use Rattle.power.specs.OldOrNew.{MountGives, SameReadings, OldOrNew, AfterFormat, ValidMounts}
 
 -- mount gives the store whose copy stands
 stands-gives : (vol : List ℕ) (st : Store) → st .writer ≡ Nobody → Stands vol (st .copy) (st .head) → MountGives vol st
@@ -106,8 +107,19 @@ choice-done c v =
     Taken : Current → Type 0
     Taken r = r .outcome ≡ Done
 
+-- and there are 64 sectors
+valid-room : (vol : List ℕ) (k : ℕ) → isOurs (copyOf vol k .kind) ≡ true → 64 ≤ sectorsOf vol
+valid-room vol k e = omega (arith, sane-facts (copyOf vol k .head) (sectorsOf vol) (copy-sane vol k (copyOf vol k .head) (copy-valid vol k e)) .room)
+
+enough : (vol : List ℕ) → (isOurs (copyOf vol 0 .kind) || isOurs (copyOf vol 32 .kind)) ≡ true → 64 ≤ sectorsOf vol
+enough vol = go (isOurs (copyOf vol 0 .kind)) refl
+  where
+    go : (t : Bool) → isOurs (copyOf vol 0 .kind) ≡ t → (t || isOurs (copyOf vol 32 .kind)) ≡ true → 64 ≤ sectorsOf vol
+    go true e v = valid-room vol 0 e
+    go false e v = valid-room vol 32 v
+
 -- so where both headers read and neither is foreign, a mount is accepted
-pub valid-mounts : (vol : List ℕ) (u : Medium) → HeadersRead u → OneValid vol → mountCall vol u .answer ≡ ok tt
+pub valid-mounts : ValidMounts
 unfolding mountCall mountOf currentOf onDone
 valid-mounts vol u r v =
-    rw (headers-read vol u (v .enough) (r .0) (r .1) (v .known-a) (v .known-b), choice-done (bothOf (copyOf vol 0) (copyOf vol 32)) (v .valid))
+    rw (headers-read vol u (enough vol (v .valid)) (r .0) (r .1) (v .known-a) (v .known-b), choice-done (bothOf (copyOf vol 0) (copyOf vol 32)) (v .valid))

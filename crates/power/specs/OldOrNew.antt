@@ -8,7 +8,7 @@ use lib.ListN.{getD}
 use Rattle.medium.specs.declared.Medium.{Medium}
 use Rattle.medium.specs.declared.Outcome.the-variants.{Done}
 use Rattle.medium.specs.Refusal.{ok, refused}
-use Rattle.medium.specs.Sector.{sectorsOf, sectorAt, readOf}
+use Rattle.medium.specs.Sector.{sectorAt, readOf}
 use Rattle.handles.specs.declared.Store.{Store}
 use Rattle.handles.specs.Body.{bodyAt}
 use Rattle.header.specs.Copies.{isOurs, isForeign, copyOf}
@@ -25,7 +25,7 @@ HeadersRead u = (readOf u 0 ≡ Done) × (readOf u 32 ≡ Done)
 abbrev pub MountGives : List ℕ → Store → Type 0
 MountGives vol st = (u : Medium) → HeadersRead u → mountCall vol u ≡ record { answer = ok tt; store = st; medium = u }
 
--- each call that only reads gives on v what it gave on vol
+-- demand 3's queries give on v what they gave on vol
 pub record SameReadings (vol v : List ℕ) (st : Store) : Type 0 where
   pub list : (m : Medium) (dir counts rows : List ℕ) → listCall v m st dir counts rows ≡ listCall vol m st dir counts rows
   pub find : (m : Medium) (name : List ℕ) → findCall v m st name ≡ findCall vol m st name
@@ -33,7 +33,7 @@ pub record SameReadings (vol v : List ℕ) (st : Store) : Type 0 where
   pub next : (m : Medium) (rd : Reader) (out : List ℕ) → nextCall v m st rd out ≡ nextCall vol m st rd out
   pub seek : (m : Medium) (rd : Reader) (number : ℕ) → seekCall v m st rd number ≡ seekCall vol m st rd number
 
--- the old store on v, which was vol: mount gives it, its body sectors and every data sector hold the bytes that they held, and so it reads as it did
+-- the old store on v, which was vol: mount gives it, its body sectors and every data sector hold the bytes that they held, and it reads as it did
 pub record OldStore (vol v : List ℕ) (st : Store) : Type 0 where
   pub mounts : MountGives v st
   pub body : (k : ℕ) → k < 24 → sectorAt v (bodyAt st k) ≡ sectorAt vol (bodyAt st k)
@@ -53,9 +53,11 @@ AfterFormat =
     → mountCall vol u .answer ≡ ok tt
     → OldOrNew vol (mountCall vol u .store) (formatCall vol m size seed)
 
--- 02's words for such a volume: at least one header copy is valid and none foreign
+-- 02's words for such a volume: at least one header copy is valid and none foreign. A mount that reads both headers is accepted there
 pub record OneValid (vol : List ℕ) : Type 0 where
-  pub enough : 64 ≤ sectorsOf vol
   pub valid : (isOurs (copyOf vol 0 .kind) || isOurs (copyOf vol 32 .kind)) ≡ true
   pub known-a : isForeign (copyOf vol 0 .kind) ≡ false
   pub known-b : isForeign (copyOf vol 32 .kind) ≡ false
+
+abbrev pub ValidMounts : Type 0
+ValidMounts = (vol : List ℕ) (u : Medium) → HeadersRead u → OneValid vol → mountCall vol u .answer ≡ ok tt

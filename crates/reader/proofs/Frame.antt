@@ -22,7 +22,7 @@ use Rattle.reader.specs.Reader.{enterOf, seekOf}
 use Rattle.reader.specs.Calls.{usableOf, nextCall, seekCall}
 use Rattle.reader.specs.Next.{limitOf, arriveStep, arriveOf, recordHere, searchStep, searchOf, holeOf, takeOf, nextOf}
 
--- steps that agree everywhere give the same walk, wherever it begins
+-- steps that agree everywhere give the same walk, also one that begins past its end, as that of a reader that no call gave
 walk-same : {S R : Type 0} (f g : ℕ → S → Visit S R) (done : S → R) → ((k : ℕ) (t : S) → f k t ≡ g k t) → (count i : ℕ) (s : S) → walk f done count i s ≡ walk g done count i s
 walk-same f g done agree count i s =
     let e : i + count - i ≡ count = omega arith in

@@ -50,7 +50,7 @@ use Rattle.safe.proofs.Invs.{inv-numbered, bytes-numbered, kept-records
 abbrev both : List ℕ → Copies
 both vol = bothOf (copyOf vol 0) (copyOf vol 32)
 
--- a copy beside the one written is of a smaller generation
+-- a copy beside the one written is of no larger generation than the newest
 pub copy-older : (vol : List ℕ) (g : Header) → copyOf vol (baseOf (1 - copyFor (both vol))) ≡ ours g → g .generation ≤ newestOf (both vol)
 unfolding copyFor newestOf takesB baseOf pick
 copy-older vol g = go (takesB (both vol)) (isOurs (copyOf vol 0 .kind)) refl refl
@@ -63,7 +63,7 @@ copy-older vol g = go (takesB (both vol)) (isOurs (copyOf vol 0 .kind)) refl ref
 
 -- beside a store that stands, the copy written is the other one
 module _ (vol : List ℕ) (h : Header) where
-  copy-other : (c : ℕ) → Stands vol c h → c + copyFor (both vol) ≡ 1
+  pub copy-other : (c : ℕ) → Stands vol c h → c + copyFor (both vol) ≡ 1
   unfolding copyFor baseOf pick
   copy-other zero s = rw (not-b vol h s, s .found)
   copy-other (suc zero) s = rw (yes-b vol h s)

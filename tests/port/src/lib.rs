@@ -9,7 +9,7 @@ pub mod make;
 pub mod world;
 pub mod writes;
 use bridge::Told;
-use driver::script::{Session, words};
+use driver::script::{Session, equal_generations, words};
 use std::collections::{BTreeMap, BTreeSet, VecDeque};
 use std::panic::{AssertUnwindSafe, catch_unwind};
 use writes::{Asked, Writes};
@@ -53,6 +53,8 @@ pub struct Tally {
     geometries: BTreeSet<(u64, u32)>,
     /// What the port's calls wrote, beside the laws.
     pub writes: Writes,
+    /// Formats at equal generations, which are not of the common domain.
+    equal: u64,
 }
 
 impl Tally {
@@ -78,11 +80,11 @@ impl Tally {
         };
         let mut text: Vec<_> = CALLS.iter().map(|(call, _)| line(call, &|c| c == *call)).collect();
         text.extend(self.writes.show());
-        text.push(format!("geometries: {}", self.geometries.len()));
+        text.push(format!("geometries: {}; formats at equal generations: {}", self.geometries.len(), self.equal));
         text.push(line("no difference", &|_| true));
         text.join("\n")
     }
-    /// Each call's refusals that were not seen.
+    /// Each call's refusals that were not seen, and a format at equal generations if none was.
     pub fn missing(&self) -> Vec<String> {
         let mut none = vec![];
         for (call, refusals) in CALLS {
@@ -91,6 +93,9 @@ impl Tally {
                     none.push(format!("{call} {r}"));
                 }
             }
+        }
+        if self.equal == 0 {
+            none.push("format at equal generations".into());
         }
         none
     }
@@ -142,6 +147,7 @@ impl<'a> Play<'a> {
         let port = w.first().and_then(|_| bridge::ask(&self.session, &w));
         if let Some(port) = &port {
             self.hold(&w, port)?;
+            self.tally.equal += u64::from(w[0] == "format" && equal_generations(&self.session.st.m));
         }
         let text = self.session.line(line).unwrap_or_default();
         if let Some(port) = port {

@@ -12,7 +12,7 @@
 //!
 //! With `--reads` before a script, its lines `mount`, `list DIR` and `find NAME` are
 //! recorded too, the last as a delete on a copy.
-use driver::script::{Session, bytes_of, num, words};
+use driver::script::{Session, bytes_of, equal_generations, num, words};
 use driver::{Dir, Error, Medium, Name, Sector, Store, hex, mount, number};
 use std::fmt::Write as _;
 
@@ -38,6 +38,8 @@ fn call(m: &mut Medium, w: &[&str], rows: &mut [u8]) -> u32 {
     let sector: &mut Sector = &mut [0xa5; 512];
     let told = match w[0] {
         "mount" => mount(m, sector).map(|s| s.chunks()),
+        // there S-7 has another copy written than the Rust: rules.c has it
+        "format" if equal_generations(m) => panic!("a format at equal generations is not of the common domain"),
         "format" => match num(w[1]).unwrap() {
             size @ 1..=512 => Store::x_format(m, num(w[2]).unwrap(), size as u32, sector).map(|s| s.chunks()),
             _ => Err(Error::Range), // 01's test; the Rust has no such argument

@@ -32,6 +32,8 @@ pub struct Medium {
     pub ops: Option<Vec<String>>,
     /// A commit of the last generation ends in `Spent` before its first write.
     pub spent: bool,
+    /// The Rust finds copy A where B stands, and B where A stands.
+    pub exchanged: bool,
 }
 
 /// 01's refusal 12 in a commit, unwound out of the Rust, which has no such number.
@@ -50,7 +52,12 @@ impl Medium {
             reads: 0,
             ops: None,
             spent: false,
+            exchanged: false,
         }
+    }
+    /// Where the sector stands that the Rust asks for.
+    fn place(&self, sector: u64) -> u64 {
+        if self.exchanged && sector < 64 { sector ^ 32 } else { sector }
     }
     /// The generation that a header has, magic or not.
     pub fn generation(&self, header: u64) -> u64 {
@@ -66,6 +73,7 @@ impl Medium {
         self.log.clear();
         self.refused_write = false;
         self.refused_read = false;
+        self.exchanged = false; // left so by a format that ended in 12
         self.reads = 0;
         if let Some(o) = &mut self.ops {
             o.clear();
@@ -94,6 +102,7 @@ impl ReadWrite for Medium {
         Ok(OwnedInfo { sectors: self.sectors() })
     }
     fn owned_read(&mut self, sector: u64, out: &mut [u8; SECTOR_SIZE]) -> Result<(), MediaError> {
+        let sector = self.place(sector);
         self.reads += 1;
         if let Some(o) = &mut self.ops {
             o.push(format!("r{sector}"));
@@ -107,6 +116,7 @@ impl ReadWrite for Medium {
         Ok(())
     }
     fn owned_write(&mut self, sector: u64, data: &[u8; SECTOR_SIZE]) -> Result<(), MediaError> {
+        let sector = self.place(sector);
         assert!(sector < self.sectors(), "write of sector {sector} outside the volume");
         // Only a commit writes a header of zeros, its first write; the other header is then the current one.
         if self.spent && (sector == 0 || sector == 32) && *data == [0; SECTOR_SIZE] && self.generation(32 - sector) == u64::MAX {

@@ -136,7 +136,7 @@ pub fn next_text(next: Next, out: &[u8]) -> String {
     }
 }
 
-/// One call; the answer's text. `rule3` applies 01's handle tests.
+/// One call; the answer's text. `rule3` applies what is the port's own: 01's handle tests and numbers, and S-7's format.
 fn call(st: &mut State, lent: &mut Lent, words: &[&str], rule3: bool) -> String {
     let sector: &mut Sector = &mut [0xa5; 512];
     let State { m, store, app, reader, .. } = st;
@@ -172,7 +172,7 @@ fn call(st: &mut State, lent: &mut Lent, words: &[&str], rule3: bool) -> String 
             if !(1..=512).contains(&size) {
                 return "no 2".into(); // the port's test; the Rust has no such argument
             }
-            match Store::x_format(m, seed, size as u32, sector) {
+            match format(m, seed, size as u32, sector, rule3 && equal_generations(m)) {
                 Ok(s) => {
                     *store = Some(s);
                     format!("ok {}", s.chunks())
@@ -347,6 +347,24 @@ fn call(st: &mut State, lent: &mut Lent, words: &[&str], rule3: bool) -> String 
         }
         _ => "-- word".into(),
     }
+}
+
+/// Whether both copies are valid and of one generation: there format is not as the Rust's (02, S-7).
+pub fn equal_generations(m: &Medium) -> bool {
+    let mut m = Medium { unreadable: u64::MAX, ..m.clone() };
+    matches!(Store::x_generations(&mut m, &mut [0; 512]), Ok([Some(a), Some(b)]) if a == b)
+}
+
+/// A format. At equal generations the Rust writes over A, the copy that mount takes, and by S-7 B is written. No byte of
+/// a header tells its place, so the Rust is asked with the two places exchanged: it writes over B what it would write over A.
+fn format(m: &mut Medium, seed: u64, size: u32, sector: &mut Sector, equal: bool) -> Result<Store, Error> {
+    m.exchanged = equal;
+    let made = Store::x_format(m, seed, size, sector);
+    m.exchanged = false;
+    made.map(|mut s| {
+        s.x_set("copy", s.x_copy() ^ u64::from(equal));
+        s
+    })
 }
 
 /// An append. By the port's numbers a record that needs another chunk at position 32,767 or above is refused with 7

@@ -7,8 +7,9 @@
 
 A column counts what the columns before it do not need: the contracts of the calls on offer (demands 1 and 2); the claim of demand 3; old or new
 (S-7: what is claimed of a stop in a format); points (S-1: their calls, and what is claimed of them over histories); the starred edges; how
-many writes a call makes; the hosts (the C calls and the line program). What is left serves proofs, contracts inside, and the comparison with the Rust: who trusts the checker need not read it. A line is
-one of a definition or of the comment right above it; imports, empty lines and heads of files are not counted."""
+many writes a call makes; the hosts (the C calls and the line program). What is left serves proofs, contracts inside, and the comparison with
+the Rust: who trusts the checker need not read it. A line is one of a definition or of the comment right above it; imports, empty lines and heads
+of files are not counted."""
 import os
 import re
 import sys

@@ -22,7 +22,7 @@ use Rattle.format.proofs.Ids.{id-fresh, id-lt}
 
 pub copy-lt : (c : Copies) → copyFor c < 2
 unfolding copyFor
-copy-lt c = pick-keeps (λ (k : ℕ). k < 2) (takesB c) _ _ (lit< tt) (pick-keeps (λ (k : ℕ). k < 2) (isOurs (c .a)) _ _ (lit< tt) (lit< tt))
+copy-lt c = pick-keeps (λ (k : ℕ). k < 2) _ _ _ (lit< tt) (pick-keeps (λ (k : ℕ). k < 2) _ _ _ (lit< tt) (lit< tt))
 
 pub chunks-most : (sectors size : ℕ) → chunksOf sectors size ≤ 2048
 unfolding chunksOf

@@ -230,6 +230,20 @@ static void full(void)
     CHECK(do_format(512, 1) == STORE_ACCEPTED + 4);
 }
 
+/* A format of two_files with n writes left, of the 11 that it makes: copy A and the data stay, and until the last
+ * write they are what a mount finds. */
+static void format_with(uint32_t n)
+{
+    medium.left = n;
+    CHECK(do_format(8, 5) == (n < 11 ? (uint32_t)STORE_E_MEDIA : STORE_ACCEPTED + 8));
+    CHECK(memcmp(sector(0), at(&before), 32 * STORE_SECTOR) == 0);
+    CHECK(memcmp(sector(64), at(&before) + 64 * STORE_SECTOR, 64 * STORE_SECTOR) == 0);
+    all_allowed();
+    CHECK(do_mount() == STORE_ACCEPTED + (n < 11 ? 16 : 8));
+    CHECK(list_in("") == STORE_ACCEPTED + (n < 11 ? 2 : 0));
+    CHECK(n == 11 || (row_is(0, "a/1", 1, 1) && row_is(1, "b", 2, 1)));
+}
+
 /* A stop after n writes: the old store, until all are done. Copy B is absent, so a delete writes
  * its header, the 9 sectors of its body and the header again. */
 static void stops(void)
@@ -244,16 +258,11 @@ static void stops(void)
         CHECK(do_mount() == STORE_ACCEPTED + 16);
         CHECK(list_in("") == STORE_ACCEPTED + (n < 11 ? 2 : 1));
         two_files();
-        medium.left = n;
-        CHECK(do_format(8, 5) == (n < 11 ? (uint32_t)STORE_E_MEDIA : STORE_ACCEPTED + 8));
-        all_allowed();
-        CHECK(do_mount() == STORE_ACCEPTED + (n < 11 ? 16 : 8));
-        CHECK(list_in("") == STORE_ACCEPTED + (n < 11 ? 2 : 0));
+        format_with(n);
     }
 }
 
-/* 02, S-7: a bench tool wrote one header to both places, beside other bodies. A counts, so a format
- * writes B: whatever the writes left, A and the data stay, and a stop leaves A's files. */
+/* 02, S-7: a bench tool wrote one header to both places, beside other bodies. A counts, so a format writes B. */
 static void one_header_twice(void)
 {
     uint32_t n;
@@ -261,14 +270,7 @@ static void one_header_twice(void)
     for (n = 0; n <= 11; n++) {
         two_files();
         memcpy(sector(32), sector(0), STORE_SECTOR);
-        medium.left = n;
-        CHECK(do_format(8, 5) == (n < 11 ? (uint32_t)STORE_E_MEDIA : STORE_ACCEPTED + 8));
-        CHECK(memcmp(sector(0), at(&before), 32 * STORE_SECTOR) == 0);
-        CHECK(memcmp(sector(64), at(&before) + 64 * STORE_SECTOR, 64 * STORE_SECTOR) == 0);
-        all_allowed();
-        CHECK(do_mount() == STORE_ACCEPTED + (n < 11 ? 16 : 8));
-        CHECK(list_in("") == STORE_ACCEPTED + (n < 11 ? 2 : 0));
-        CHECK(n == 11 || (row_is(0, "a/1", 1, 1) && row_is(1, "b", 2, 1)));
+        format_with(n);
     }
 }
 

@@ -63,6 +63,7 @@ DEFINED = [
     ("record/Record", f"dataAt st chunk index = {D.DATA} + chunk * st .head .chunk + index"),
     ("record/Record", f"leb (getLe 2 20 sector) {D.PAYLOAD}"),
     ("record/Record", "put 8 4 id ∷ put 4 12 file ∷ put 4 16 number ∷ put 2 20 n"),
+    ("record/Record", "isBlank sector = allSame 0 sector || allSame 255 sector"),
     ("seal/Seal", f"sealed l = putLe 4 {D.SECTOR - 4}"),
     ("header/Header", "put 2 16 1 ∷ put 2 18 8 ∷ put 2 20 (tableOf (h .chunks))"),
     ("header/Header", "put 8 24 (h .id) ∷ put 8 32 (h .generation)"),

@@ -25,6 +25,10 @@ pub trait Side {
     fn seek(&mut self, record: u32);
     /// The payload's length, or nothing at the end.
     fn next(&mut self) -> Option<usize>;
+    /// How many records the hole has that comes next.
+    fn hole(&mut self) -> u32;
+    /// The sectors of these records of the only file are as erased flash is.
+    fn erase(&mut self, records: std::ops::Range<u32>);
     fn volume(&self) -> &[u8];
     fn rows(&self) -> &[u8];
     fn out(&self) -> &[u8];
@@ -177,6 +181,17 @@ impl Side for Rust {
             Next::Hole { .. } => panic!("a hole"),
         }
     }
+    #[inline(never)]
+    fn hole(&mut self) -> u32 {
+        let (r, s) = (self.reader.as_mut().unwrap(), self.store.as_ref().unwrap());
+        match fine(r.next(s, &mut self.medium, &mut self.out, &mut self.sector)) {
+            Next::Hole { from, to } => to - from,
+            _ => panic!("no hole"),
+        }
+    }
+    fn erase(&mut self, records: std::ops::Range<u32>) {
+        erase(&mut self.medium.volume, records);
+    }
     fn volume(&self) -> &[u8] {
         &self.medium.volume
     }
@@ -207,7 +222,7 @@ unsafe extern "C" {
     ) -> u32;
     fn port_next(
         volume: *const u8, length: usize, medium: &mut [u64; 4], store: &[u64; 10], crcs: &[u32; 24],
-        reader: &mut [u64; 10], out: *mut u8, out_length: usize, answer: &mut [u64; 3],
+        reader: &mut [u64; 10], out: *mut u8, out_length: usize, answer: &mut [u64; 4],
     ) -> u32;
     fn port_seek(
         volume: *const u8, length: usize, medium: &mut [u64; 4], store: &[u64; 10], crcs: &[u32; 24],
@@ -264,9 +279,18 @@ pub struct Port {
     over: [u8; 40],
     reader: [u64; 10],
     answer: [u64; 3],
+    item: [u64; 4],
     counts: [u32; 64],
     rows: Vec<u8>,
     out: [u8; 486],
+}
+
+fn erase(volume: &mut [u8], records: std::ops::Range<u32>) {
+    for sector in volume[64 * SECTOR_SIZE..].chunks_exact_mut(SECTOR_SIZE).filter(|s| s.starts_with(b"CSRD")) {
+        if records.contains(&u32::from_le_bytes(sector[16..20].try_into().unwrap())) {
+            sector.fill(0xff);
+        }
+    }
 }
 
 fn done(no: u32) {
@@ -286,6 +310,7 @@ impl Side for Port {
             over: [0; 40],
             reader: [0; 10],
             answer: [0; 3],
+            item: [0; 4],
             counts: [0; 64],
             rows: vec![0; 64 * 48],
             out: [0; 486],
@@ -393,15 +418,27 @@ impl Side for Port {
     }
     #[inline(never)]
     fn next(&mut self) -> Option<usize> {
-        let Port { volume, medium, store, crcs, reader, out, answer, .. } = self;
+        let Port { volume, medium, store, crcs, reader, out, item, .. } = self;
         done(unsafe {
-            port_next(volume.as_ptr(), volume.len(), medium, store, crcs, reader, out.as_mut_ptr(), out.len(), answer)
+            port_next(volume.as_ptr(), volume.len(), medium, store, crcs, reader, out.as_mut_ptr(), out.len(), item)
         });
-        match answer[0] {
+        match item[0] {
             0 => None,
-            1 => Some(answer[1] as usize),
+            1 => Some(item[1] as usize),
             _ => panic!("a hole"),
         }
+    }
+    #[inline(never)]
+    fn hole(&mut self) -> u32 {
+        let Port { volume, medium, store, crcs, reader, out, item, .. } = self;
+        done(unsafe {
+            port_next(volume.as_ptr(), volume.len(), medium, store, crcs, reader, out.as_mut_ptr(), out.len(), item)
+        });
+        assert_eq!(item[0], 2, "no hole");
+        (item[2] - item[1]) as u32
+    }
+    fn erase(&mut self, records: std::ops::Range<u32>) {
+        erase(&mut self.volume, records);
     }
     fn volume(&self) -> &[u8] {
         &self.volume

@@ -124,6 +124,9 @@ pub fn table<S: Side>() -> Vec<Work<S>> {
             (0..100).for_each(|_| s.open_append("log"));
         }),
         work("read a file, by record", 128, SIZE, 1024, |s: &mut S| written(s, 1024), |s: &mut S| read_all(s, 1024)),
+        work("a hole of 62 erased sectors", 128, SIZE, 200, |s: &mut S| { written(s, 480); s.erase(1..63); s.reader("log") }, |s: &mut S| {
+            (0..200).for_each(|_| { s.seek(1); assert_eq!(s.hole(), 62) });
+        }),
         work("seek to another chunk", 128, SIZE, 200, |s: &mut S| { written(s, 480); s.reader("log") }, |s: &mut S| {
             (0..200).for_each(|n| s.seek(n % 2 * 400));
         }),

@@ -89,10 +89,10 @@ readerWords r =
 
 -- what next found
 abbrev pub itemWords : Answer Item → List ℕ
-itemWords (ok (payload n)) = 1 ∷ n ∷ 0 ∷ []
-itemWords (ok (hole from to)) = 2 ∷ from ∷ to ∷ []
-itemWords (ok end) = 0 ∷ 0 ∷ 0 ∷ []
-itemWords (refused n) = 0 ∷ 0 ∷ 0 ∷ []
+itemWords (ok (payload n)) = 1 ∷ n ∷ 0 ∷ 0 ∷ []
+itemWords (ok (hole from to blank)) = 2 ∷ from ∷ to ∷ blank ∷ []
+itemWords (ok end) = 0 ∷ 0 ∷ 0 ∷ 0 ∷ []
+itemWords (refused n) = 0 ∷ 0 ∷ 0 ∷ 0 ∷ []
 
 abbrev pub numberWords : Answer ℕ → List ℕ
 numberWords (ok n) = n ∷ 0 ∷ 0 ∷ []

@@ -109,7 +109,7 @@ pub extern "C" fn port_reader(
     numbers::code(o)
 }
 
-// Answer: 0 the end; 1 and the payload's length; 2 and a hole's first record and the one past it.
+// Answer: 0 the end; 1 and the payload's length; 2 and a hole's first record, the one past it and how many of its sectors are blank.
 #[no_mangle]
 pub extern "C" fn port_next(
     volume: &[u8],
@@ -118,7 +118,7 @@ pub extern "C" fn port_next(
     crcs: &[u32; 24],
     reader: &mut [u64; 10],
     out: &mut [u8],
-    answer: &mut [u64; 3],
+    answer: &mut [u64; 4],
 ) -> u32
     ensures { λ r. ⌜ (r, now (answer .exit), now (reader .exit), now (out .exit), now (medium .exit))
         ≡ nextAt (now (volume .entry)) (now (medium .entry)) (now (store .entry)) (now (crcs .entry)) (now (reader .entry)) (now (out .entry)) ⌝ }

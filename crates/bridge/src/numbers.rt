@@ -210,20 +210,24 @@ pub fn next_code(n: Next) -> u32
     match n {
         Next::Refused(e) => medium::number(e),
         Next::Payload(_) => 0,
-        Next::Hole { from: _, to: _ } => 0,
+        Next::Hole {
+            from: _,
+            to: _,
+            blank: _,
+        } => 0,
         Next::End => 0,
     }
 }
 
-// 0 the end; 1 and the payload's length; 2 and a hole's first record and the one past it.
-pub fn next_words(n: Next) -> [u64; 3]
+// 0 the end; 1 and the payload's length; 2 and a hole's first record, the one past it and how many of its sectors are blank.
+pub fn next_words(n: Next) -> [u64; 4]
     ensures { λ r. ⌜ r ≡ itemWords (nextAnswer n) ⌝ }
 {
     match n {
-        Next::Refused(_) => [0, 0, 0],
-        Next::Payload(length) => [1, length as u64, 0],
-        Next::Hole { from, to } => [2, from as u64, to as u64],
-        Next::End => [0, 0, 0],
+        Next::Refused(_) => [0, 0, 0, 0],
+        Next::Payload(length) => [1, length as u64, 0, 0],
+        Next::Hole { from, to, blank } => [2, from as u64, to as u64, blank as u64],
+        Next::End => [0, 0, 0, 0],
     }
 }
 

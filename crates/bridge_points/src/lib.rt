@@ -93,7 +93,7 @@ pub extern "C" fn port_upto_next(
     reader: &mut [u64; 10],
     limit: &mut [u64; 1],
     out: &mut [u8],
-    answer: &mut [u64; 3],
+    answer: &mut [u64; 4],
 ) -> u32
     ensures { λ r. ⌜ (r, now (answer .exit), now (reader .exit), now (limit .exit), now (out .exit), now (medium .exit))
         ≡ belowAt (now (volume .entry)) (now (medium .entry)) (now (store .entry)) (now (crcs .entry)) (now (reader .entry))

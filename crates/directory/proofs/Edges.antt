@@ -4,7 +4,7 @@ use mathlib.Core.List.{[], _∷_}
 use Rattle.le.specs.Choice.{pick}
 use Rattle.le.specs.Field.{leNumber, leBytes, getLe, putLe}
 use Rattle.le.specs.Part.{part, over, zeros}
-use Rattle.runs.specs.Run.{allZero}
+use Rattle.runs.specs.Run.{allSame}
 use Rattle.runs.specs.Split.{longer, splitAt}
 use Rattle.names.specs.Names.{plainByte, everyByte, noneEmpty, nameOk, textLen}
 use Rattle.directory.specs.declared.Slot.the-variants.{Free, File}
@@ -15,5 +15,5 @@ pub record Edges : Type 0 where
   pub file : entryOf (entryBytes (97 ∷ []) 1) ≡ File 1 1
 
 pub edges : Edges
-unfolding pick leNumber leBytes getLe putLe part over zeros allZero plainByte everyByte longer splitAt noneEmpty nameOk textLen entryBytes lenOf entryOk entryOf
+unfolding pick leNumber leBytes getLe putLe part over zeros allSame plainByte everyByte longer splitAt noneEmpty nameOk textLen entryBytes lenOf entryOk entryOf
 edges = record { free = refl; file = refl }

@@ -10,8 +10,10 @@ use borrow.Author.Tests.{eqb-true, eqb-false, eq-eqb, ne-eqb, ltb-true, ltb-fals
 use lib.Dec.{eqb, ltb}
 use lib.ListN.{length}
 use Rattle.le.specs.Choice.{pick}
+use Rattle.le.specs.Tally.{tally}
 use Rattle.le.proofs.Choices.{pick-keeps-by, pick-true}
 use Rattle.le.proofs.Bools.{or-false, or-right}
+use Rattle.le.proofs.Tallies.{tally-start}
 use Rattle.medium.specs.declared.Medium.{Medium}
 use Rattle.handles.specs.declared.Store.{Store}
 use Rattle.table.specs.declared.Link.{Link}
@@ -22,12 +24,11 @@ use Rattle.table.specs.declared.ChainState.{ChainState}
 use Rattle.table.specs.declared.Chained.the-variants as chained
 use Rattle.table.specs.Table.{locateStep, firstStep, higher, chainMore, chainStep, chainEnd, wholeOf, chainV, noChain, chainOf}
 use Rattle.layout.specs.Views.{diskOf, linkView}
-use Rattle.layout.specs.Segments.{Segment, segmentAt, linkFor, tally, Good}
+use Rattle.layout.specs.Segments.{Segment, segmentAt, linkFor, Good}
 use Rattle.layout.proofs.Facts.{case, same-link, free≢linked, link-slot, one-place}
 use Rattle.folds.specs.Checked.{Checked}
 use Rattle.folds.specs.Chain.{chainFor}
 use Rattle.folds.proofs.Walked.{table-views}
-use Rattle.folds.proofs.Numbered.{tally-start}
 use Rattle.folds.proofs.Chunks.{ofSlot, counts-free, counts-here, counts-other, owns, at-link, Met, met-free, met-link}
 
 -- a step of the chain's first chunk is one of the chunk at position 0

@@ -11,9 +11,11 @@ use lib.Dec.{eqb}
 use lib.ListN.{length, getD, set, drop, length-set, List·getD-append}
 use lib.Seq.{getD-set-same, getD-set-other}
 use Rattle.le.specs.Part.{over, zeros}
+use Rattle.le.specs.Tally.{tally}
 use Rattle.le.proofs.Choices.{pick-keeps, pick-keeps-by}
 use Rattle.le.proofs.Parts.{length-zeros, length-over, getD-zeros}
 use Rattle.le.proofs.Bools.{and-true}
+use Rattle.le.proofs.Tallies.{tally-yes, tally-no, tally-start}
 use Rattle.medium.specs.declared.Medium.{Medium}
 use Rattle.medium.specs.declared.Outcome.the-variants.{Done}
 use Rattle.medium.proofs.Laws.{onDone-keeps}
@@ -29,11 +31,10 @@ use Rattle.table.specs.Link.{linkAt}
 use Rattle.table.specs.Table.{linksOf, sought, locateStep, locateV, locateOf, freeStep, freeV, freeOf, Counted, countV, countOf}
 use Rattle.table.proofs.Nearest.{Nearest, free-nearest, free-range}
 use Rattle.layout.specs.Views.{diskOf, linkView}
-use Rattle.layout.specs.Segments.{Segment, segmentAt, linkFor, isOf, tally, Good}
+use Rattle.layout.specs.Segments.{Segment, segmentAt, linkFor, isOf, Good}
 use Rattle.layout.proofs.Facts.{case, same-link, free≢linked, link-slot, link-position, is-of, not-of, free-of, true≢false}
 use Rattle.folds.specs.Checked.{Checked}
 use Rattle.folds.proofs.Walked.{table-views}
-use Rattle.folds.proofs.Numbered.{tally-yes, tally-no, tally-start}
 
 getD-cleared : (l : List ℕ) (s : ℕ) → s < 64 → getD (over 0 (zeros 64) l) s 0 ≡ 0
 unfolding over

@@ -1,5 +1,5 @@
 pub mod Walked
-pub mod Numbered
+pub mod Placed
 pub mod Named
 pub mod Oldest
 pub mod Listed

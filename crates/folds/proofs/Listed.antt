@@ -9,8 +9,10 @@ use lib.ListN.{length, getD, take, length-append}
 use lib.Seq.{take-at, take-append-seam}
 use Rattle.le.specs.Field.{leBytes}
 use Rattle.le.specs.Part.{part, over, zeros}
+use Rattle.le.specs.Tally.{tally}
 use Rattle.le.proofs.Choices.{pick-keeps-by}
 use Rattle.le.proofs.Parts.{length-zeros, length-over, part-over, part-before}
+use Rattle.le.proofs.Tallies.{tally-yes, tally-no, tally-start}
 use Rattle.names.specs.Names.{nameOk, textLen, inDir}
 use Rattle.names.proofs.Laws.{name-short, name-padded}
 use Rattle.medium.specs.declared.Medium.{Medium}
@@ -19,13 +21,13 @@ use Rattle.handles.specs.declared.Store.{Store}
 use Rattle.directory.specs.Rows.{rowOf, Made, rowMade, listing, rowsOf}
 use Rattle.directory.proofs.RowParts.{length-row}
 use Rattle.layout.specs.Views.{vacant, named, diskOf}
-use Rattle.layout.specs.Segments.{Segment, tally, Good}
+use Rattle.layout.specs.Segments.{Segment, Good}
 use Rattle.layout.proofs.Facts.{vacant≢named, same-name, true≢false}
 use Rattle.folds.specs.Checked.{Checked}
 use Rattle.folds.specs.Rows.{listedIn}
 use Rattle.folds.proofs.Walked.{scan-views}
 use Rattle.folds.proofs.Named.{view-file}
-use Rattle.folds.proofs.Numbered.{tally-yes, tally-no, tally-start, placed, placed-here, placed-below}
+use Rattle.folds.proofs.Placed.{placed, placed-here, placed-below}
 
 module _ (vol : List ℕ) (st : Store) (dir counts : List ℕ) where
   abbrev listed : ℕ → Bool

@@ -6,6 +6,7 @@ use mathlib.Core.Bool.{true}
 use mathlib.Core.List.{List}
 use lib.ListN.{length}
 use Rattle.le.specs.Part.{part, over, zeros}
+use Rattle.le.specs.Tally.{tally}
 use Rattle.names.specs.Names.{inDir}
 use Rattle.medium.specs.declared.Medium.{Medium}
 use Rattle.medium.specs.declared.Outcome.the-variants.{Done}
@@ -13,7 +14,7 @@ use Rattle.handles.specs.declared.Store.{Store}
 use Rattle.directory.specs.Rows.{rowOf, RowsOut, rowsOf}
 use Rattle.table.specs.Table.{Counted, countOf}
 use Rattle.layout.specs.Views.{named, diskOf}
-use Rattle.layout.specs.Segments.{Segment, tally, Good}
+use Rattle.layout.specs.Segments.{Segment, Good}
 use Rattle.layout.proofs.Facts.{same-name, same-id}
 use Rattle.folds.specs.Checked.{Checked}
 use Rattle.folds.specs.Rows.{listedIn}

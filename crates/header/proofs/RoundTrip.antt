@@ -16,7 +16,7 @@ use Rattle.le.proofs.Choices.{pick-false}
 use Rattle.le.proofs.Parts.{part-over, part-before, part-after, part-part, length-zeros, getD-zeros, part-zeros}
 use Rattle.le.proofs.Fields.{put-before}
 use Rattle.le.proofs.Layouts.{got, outside}
-use Rattle.runs.specs.Run.{startsWith, allZero}
+use Rattle.runs.specs.Run.{startsWith, allSame, allZero}
 use Rattle.runs.proofs.Tests.{zeros-pass, starts-front}
 use Rattle.seal.specs.Seal.{sealed, isSealed}
 use Rattle.seal.proofs.Laws.{sealed-is}
@@ -61,7 +61,7 @@ module _ (h : Header) (count : length (h .crcs) ≡ 24) (most : h .chunks ≤ 20
 
   -- the bytes that must be 0
   gaps : (zeroFrom 22 24 (encodeOf h) ≡ true) × (zeroFrom 56 64 (encodeOf h) ≡ true)
-  unfolding zeroFrom fieldsOf magic zeros part allZero
+  unfolding zeroFrom fieldsOf magic zeros part allSame
   gaps = (
     ap allZero (front 22 2 (lit≤ tt) ∙ outside 512 2 22 (fieldsOf h) (magic ++ zeros 496) refl tt tt),
     ap allZero (front 56 8 (lit≤ tt) ∙ outside 512 8 56 (fieldsOf h) (magic ++ zeros 496) refl tt tt),

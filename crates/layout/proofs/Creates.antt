@@ -6,11 +6,12 @@ use mathlib.Core.List.{List, [], _∷_}
 use Prim.Native.Nat.{ℕ, _≤_, _<_}
 use native.Mathlib.Omega.{arith}
 use lib.ListN.{length}
+use Rattle.le.specs.Tally.{tally}
 use Rattle.table.specs.declared.Link.{Link}
 use Rattle.table.specs.declared.LinkAt.the-variants as link
 use Rattle.table.specs.Table.{linksOf}
 use Rattle.layout.specs.Views.{vacant, named, stored, Disk}
-use Rattle.layout.specs.Segments.{Segment, segmentAt, isOf, tally, Good}
+use Rattle.layout.specs.Segments.{Segment, segmentAt, isOf, Good}
 use Rattle.layout.specs.Changes.{replaced, Created}
 use Rattle.layout.proofs.Facts.{case, vacant≢named, named≢broken, same-name, same-id, same-link, in-table, replaced-here, replaced-other, last-link, not-free}
 use Rattle.layout.proofs.Tallies.{counts-one}

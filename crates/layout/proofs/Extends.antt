@@ -7,11 +7,12 @@ use Prim.Native.Nat.{ℕ, _+_, _≤_, _<_}
 use native.Mathlib.Omega.{arith}
 use lib.ListN.{length, List·getD-append}
 use lib.Seq.{getD-at}
+use Rattle.le.specs.Tally.{tally}
 use Rattle.table.specs.declared.Link.{Link}
 use Rattle.table.specs.declared.LinkAt.the-variants as link
 use Rattle.table.specs.Table.{linksOf}
 use Rattle.layout.specs.Views.{named, Disk}
-use Rattle.layout.specs.Segments.{Segment, noSegment, segmentAt, linkFor, isOf, tally, Owned, Good}
+use Rattle.layout.specs.Segments.{Segment, noSegment, segmentAt, linkFor, isOf, Owned, Good}
 use Rattle.layout.specs.Changes.{replaced, withSegment, Extended}
 use Rattle.layout.proofs.Facts.{case, vacant≢named, same-link, in-table, replaced-here, replaced-other, last-link, full-link, partial-link, link-slot, link-position, is-of, not-of, not-free, length-segment, one-place}
 use Rattle.layout.proofs.Tallies.{counts-one}

@@ -6,12 +6,12 @@ use Prim.Native.Nat.{ℕ, _+_, _*_, _≤_, _<_}
 use native.Mathlib.Omega.{arith}
 use lib.ListN.{length, getD, set, length-append, List·getD-append}
 use lib.Seq.{getD-set-same, getD-set-other, getD-at}
+use Rattle.le.proofs.Tallies.{tally-ext}
 use Rattle.table.specs.declared.LinkAt.the-variants as link
 use Rattle.layout.specs.Views.{named, stored, Disk}
 use Rattle.layout.specs.Segments.{Segment, noSegment, segmentAt, linkFor, isOf, Good}
 use Rattle.layout.specs.Changes.{replaced, withPayload, Recorded}
 use Rattle.layout.proofs.Facts.{case, vacant≢named, same-id, same-file, in-table, replaced-here, replaced-other, last-link, same-mark, length-payload, one-place}
-use Rattle.layout.proofs.Tallies.{tally-ext}
 
 module _ (D E : Disk) (G : ℕ → List Segment) (s p i id : ℕ) (n x : List ℕ) (d : Good D G) (s< : s < 64) (is : D .entry s ≡ named n id)
     (last : p + 1 ≡ length (G s)) (at-end : i ≡ length (segmentAt (G s) p .payloads)) (room : i < D .size)

@@ -6,14 +6,15 @@ use mathlib.Core.List.{List, []}
 use Prim.Native.Nat.{ℕ, _≤_, _<_}
 use native.Mathlib.Omega.{arith}
 use lib.ListN.{length}
+use Rattle.le.specs.Tally.{tally}
+use Rattle.le.proofs.Tallies.{tally-ext, tally-none}
 use Rattle.table.specs.declared.Link.{Link}
 use Rattle.table.specs.declared.LinkAt.the-variants as link
 use Rattle.table.specs.Table.{linksOf}
 use Rattle.layout.specs.Views.{named, Disk}
-use Rattle.layout.specs.Segments.{Segment, segmentAt, isOf, tally, Good}
+use Rattle.layout.specs.Segments.{Segment, segmentAt, isOf, Good}
 use Rattle.layout.specs.Changes.{replaced, Removed}
 use Rattle.layout.proofs.Facts.{case, vacant≢named, vacant≢broken, free≢linked, past-of, in-table, replaced-here, replaced-other, link-slot, is-of, not-of, free-of, true≢false}
-use Rattle.layout.proofs.Tallies.{tally-ext, tally-none}
 
 module _ (D E : Disk) (G : ℕ → List Segment) (s : ℕ) (d : Good D G) (s< : s < 64) (w : Removed D E s) where
   abbrev H : ℕ → List Segment

@@ -7,29 +7,16 @@ use native.Mathlib.Omega.{arith}
 use borrow.Author.Tests.{eq-eqb, ne-eqb}
 use lib.Dec.{eqb}
 use Rattle.le.specs.Choice.{pick}
+use Rattle.le.specs.Tally.{tally}
 use Rattle.le.proofs.Choices.{pick-keeps, pick-keeps-by, pick-true, pick-false}
+use Rattle.le.proofs.Tallies.{tally-ext, tally-le}
 use mathlib.Core.List.{List}
 use lib.ListN.{length}
 use Rattle.table.specs.declared.Link.{Link}
 use Rattle.table.specs.declared.LinkAt.the-variants as link
 use Rattle.layout.specs.Views.{Disk}
-use Rattle.layout.specs.Segments.{Segment, isOf, tally, Good}
+use Rattle.layout.specs.Segments.{Segment, isOf, Good}
 use Rattle.layout.proofs.Facts.{case, is-of, not-of, free-of}
-
-pub tally-ext : (f g : ℕ → Bool) (n : ℕ) → ((c : ℕ) → c < n → f c ≡ g c) → tally f n ≡ tally g n
-unfolding tally
-tally-ext f g zero h = refl
-tally-ext f g (suc n) h = rw (h n (omega arith), tally-ext f g n (λ c q. h c (omega arith)))
-
-pub tally-le : (f : ℕ → Bool) (n : ℕ) → tally f n ≤ n
-unfolding tally
-tally-le f zero = omega arith
-tally-le f (suc n) = pick-keeps (λ (k : ℕ). k ≤ suc n) (f n) (tally f n + 1) (tally f n) (omega (arith, tally-le f n)) (omega (arith, tally-le f n))
-
-pub tally-none : (f : ℕ → Bool) (n : ℕ) → ((c : ℕ) → c < n → f c ≡ false) → tally f n ≡ 0
-unfolding tally
-tally-none f zero h = refl
-tally-none f (suc n) h = pick-false (tally f n + 1) (tally f n) (h n (omega arith)) ∙ tally-none f n (λ c q. h c (omega arith))
 
 more : (t : Bool) (k : ℕ) → pick t (k + 1 + 1) (k + 1) ≡ pick t (k + 1) k + 1
 unfolding pick

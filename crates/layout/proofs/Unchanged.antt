@@ -4,12 +4,12 @@ use mathlib.Core.Logic.{inl}
 use mathlib.Core.List.{List, []}
 use Prim.Native.Nat.{ℕ, _≤_, _<_}
 use native.Mathlib.Omega.{arith}
+use Rattle.le.proofs.Tallies.{tally-ext, tally-none}
 use Rattle.table.specs.declared.LinkAt.the-variants as link
 use Rattle.layout.specs.Views.{Disk}
 use Rattle.layout.specs.Segments.{Segment, segmentAt, isOf, Good}
 use Rattle.layout.specs.Changes.{Unchanged, Fresh}
 use Rattle.layout.proofs.Facts.{vacant≢named, vacant≢broken, blank≢stored, free≢linked, free-of, in-table}
-use Rattle.layout.proofs.Tallies.{tally-ext, tally-none}
 
 pub good-same : {D E : Disk} {G : ℕ → List Segment} → Good D G → Unchanged D E → Good E G
 good-same {D} {E} {G} d w =

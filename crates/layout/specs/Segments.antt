@@ -1,6 +1,6 @@
 -- The invariant of demand 3 on the views: which chunks a file has and which payloads stand in them, as a layout beside the views: for each slot the
 -- segments of its file in order, none where the slot is vacant. Assumes nothing.
-use Prim.Native.Nat.{ℕ, zero, suc, _+_, _*_, _≤_, _<_}
+use Prim.Native.Nat.{ℕ, _+_, _*_, _≤_, _<_}
 use mathlib.Core.Path.{_≡_}
 use mathlib.Core.Logic.{_⊎_}
 use mathlib.Core.Bool.{Bool, true, false, _||_}
@@ -8,6 +8,7 @@ use mathlib.Core.List.{List, [], _∷_, _++_}
 use lib.Dec.{eqb}
 use lib.ListN.{length, getD}
 use Rattle.le.specs.Choice.{pick}
+use Rattle.le.specs.Tally.{tally}
 use Rattle.table.specs.declared.Link.{Link}
 use Rattle.table.specs.declared.LinkAt.{LinkAt}
 use Rattle.table.specs.declared.LinkAt.the-variants as link
@@ -38,16 +39,12 @@ linkFor size slot g p =
     (record { slot = slot; position = p; partial = false; records = 0 })
     (record { slot = slot; position = p; partial = true; records = n })
 
--- chunks below n whose link is of the slot
+-- the link of a chunk is of the slot
 unfoldable pub isOf : ℕ → LinkAt → Bool
 isOf slot (link.Refused e) = false
 isOf slot link.Past = false
 isOf slot link.Free = false
 isOf slot (link.Linked l) = eqb (l .slot) slot
-
-unfoldable pub tally : (ℕ → Bool) → ℕ → ℕ
-tally f zero = 0
-tally f (suc n) = pick (f n) (tally f n + 1) (tally f n)
 
 -- a place in a file where a record of it may stand
 pub record Placed (g : List Segment) (c i : ℕ) : Type 0 where

@@ -1,4 +1,5 @@
 pub mod Choices
+pub mod Tallies
 pub mod Bools
 pub mod Parts
 pub mod Fields

@@ -1,4 +1,5 @@
 pub mod Choice
+pub mod Tally
 pub mod Part
 pub mod Field
 pub mod Layout

@@ -31,11 +31,12 @@ use Rattle.table.proofs.Decides.{onPlace-keeps}
 use Rattle.reader.specs.declared.Reader.{Reader}
 use Rattle.reader.specs.declared.Entered.{Entered}
 use Rattle.reader.specs.declared.Arrived.{Arrived}
-use Rattle.reader.specs.declared.Next.{Next}
-use Rattle.reader.specs.declared.Next.the-variants as found
+use Rattle.reader.specs.declared.Found.{Found}
+use Rattle.reader.specs.declared.Found.the-variants as found
 use Rattle.reader.specs.declared.Taken.{Taken}
 use Rattle.reader.specs.Reader.{movedTo, insideOf, enterOf}
 use Rattle.reader.specs.Next.{passedEnd, limitOf, arriveStep, arriveOf, recordHere, searchOf, holeOf, NextOut, takeOf, nextOf}
+use Rattle.reader.specs.Blank.{countedOf}
 use Rattle.reader.specs.Calls.{usableOf, Item, payload, hole, end, nextAnswer, NextCall, nextCall}
 use Rattle.reader.specs.Upto.{standsAt}
 use Rattle.reader.proofs.Facts.{Reads, reader-facts, usable-facts}
@@ -97,7 +98,7 @@ module _ (vol : List ℕ) (m : Medium) (st : Store) where
       (rd .position) rd h (record { at = refl; all = refl; file = refl })
 
   -- behind a payload or a hole
-  abbrev Within : Next → Reader → Type 0
+  abbrev Within : Found → Reader → Type 0
   Within (found.Refused e) rd = Unit {0}
   Within (found.Payload n) rd = rd .position < rd .chunks
   Within (found.Hole a b) rd = rd .position < rd .chunks
@@ -152,7 +153,7 @@ module _ (vol : List ℕ) (m : Medium) (st : Store) where
   abbrev Raised : ℕ → Answer Item → Reader → Type 0
   Raised n (refused e) rd = Unit {0}
   Raised n (ok (payload k)) rd = (n < standsAt st rd) × (standsAt st rd ≤ 1048576)
-  Raised n (ok (hole a b)) rd = (n < standsAt st rd) × (standsAt st rd ≤ 1048576)
+  Raised n (ok (hole a b k)) rd = (n < standsAt st rd) × (standsAt st rd ≤ 1048576)
   Raised n (ok end) rd = Unit {0}
 
   module _ (rd : Reader) (out : List ℕ) (enough : 486 ≤ length out) (ok-store : storeOk st (sectorsOf vol) ≡ true) (r : Reads rd st) where
@@ -164,7 +165,8 @@ module _ (vol : List ℕ) (m : Medium) (st : Store) where
         let q = next-finds vol m st out ok-store enough rd r .reads in
         omega (arith, stands-most (taken .reader) ok-store q, q .chunks-most, h)
 
-    taken-raised : (x : Next) → taken .next ≡ x → Raised (standsAt st rd) (nextAnswer x) (taken .reader)
+    taken-raised : (x : Found) → taken .next ≡ x → Raised (standsAt st rd) (nextAnswer (countedOf vol st (taken .reader) x)) (taken .reader)
+    unfolding countedOf
     taken-raised (found.Refused e) q = tt
     taken-raised (found.Payload n) q = (rw q at (next-forward vol m st rd out r), most (rw q at (next-stays rd out (r .position) .1)))
     taken-raised (found.Hole a b) q = (rw q at (next-forward vol m st rd out r), most (rw q at (next-stays rd out (r .position) .1)))
@@ -193,7 +195,7 @@ module _ (vol : List ℕ) (m : Medium) (st : Store) where
     unfolding onOk afterItem
     on-raised n (refused e) out rd u r q = absurd (let z : _≡_ {A = ℕ} 0 1 = cc in omega arith)
     on-raised n (ok (payload k)) out rd u r q = subst (λ (v : Reader). (n < standsAt st v) × (standsAt st v ≤ 1048576)) (mark-on (says (take k out)) rd u q) r
-    on-raised n (ok (hole a b)) out rd u r q = let z : rd ≡ u = cc in subst (λ (v : Reader). (n < standsAt st v) × (standsAt st v ≤ 1048576)) z r
+    on-raised n (ok (hole a b k)) out rd u r q = let z : rd ≡ u = cc in subst (λ (v : Reader). (n < standsAt st v) × (standsAt st v ≤ 1048576)) z r
     on-raised n (ok end) out rd u r q = absurd (let z : _≡_ {A = ℕ} 0 1 = cc in omega arith)
 
     turn-raised : (rd u : Reader) → turnOf says vol m st rd ≡ next u → (standsAt st rd < standsAt st u) × (standsAt st u ≤ 1048576)

@@ -21,7 +21,7 @@ use Rattle.medium.specs.declared.Outcome.the-variants.{Done, No}
 use Rattle.medium.specs.Refusal.{Answer, ok, numberOf, onOk}
 use Rattle.medium.proofs.Laws.{onDone-keeps}
 use Rattle.handles.specs.declared.Store.{Store}
-use Rattle.reader.specs.declared.Next.the-variants as found
+use Rattle.reader.specs.declared.Next.the-variants as item
 use Rattle.reader.specs.declared.Numbered.{Numbered}
 use Rattle.reader.specs.declared.Numbered.the-variants as numbered
 use Rattle.reader.specs.declared.Read.{Read}
@@ -61,7 +61,7 @@ next-passes vol m st rd out {x} =
     (λ e q w. absurd (let z : _≡_ {A = ℕ} 0 1 = cc in omega arith)))
 
 pub next-size : (vol : List ℕ) (m : Medium) (st : Store) (rd : Reader) (r : Read) {out : List ℕ} {n : ℕ}
-    → readAnswer r out ≡ nextCall vol m st rd (zeros 486) → r .next ≡ found.Payload n → (n ≤ 486) × (length out ≡ 486)
+    → readAnswer r out ≡ nextCall vol m st rd (zeros 486) → r .next ≡ item.Payload n → (n ≤ 486) × (length out ≡ 486)
 next-size vol m st rd r {out} {n} e q =
     let a : nextCall vol m st rd (zeros 486) .answer ≡ ok (payload n) = ap (λ (c : NextCall). c .answer) (sym e) ∙ ap nextAnswer q in
     let o = next-offered vol m st rd (zeros 486) (next-passes vol m st rd (zeros 486) a) in
@@ -69,19 +69,19 @@ next-size vol m st rd r {out} {n} e q =
 
 module _ (says : List ℕ → Mark) (vol : List ℕ) (m : Medium) (st : Store) (rd : Reader) (r : Read) {out : List ℕ}
     (read : readAnswer r out ≡ nextCall vol m st rd (zeros 486)) where
-  pub turn-refused : {e : Error} → r .next ≡ found.Refused e → visitOf (record { sight = sight.Refused e; reader = r .reader }) ≡ turnOf says vol m st rd
+  pub turn-refused : {e : Error} → r .next ≡ item.Refused e → visitOf (record { sight = sight.Refused e; reader = r .reader }) ≡ turnOf says vol m st rd
   unfolding sightVisit turnOf onOk
   turn-refused q = rw (← read, q)
 
-  pub turn-hole : {from to : ℕ} → r .next ≡ found.Hole from to → visitOf (record { sight = sight.Passed; reader = r .reader }) ≡ turnOf says vol m st rd
+  pub turn-hole : {from to blank : ℕ} → r .next ≡ item.Hole from to blank → visitOf (record { sight = sight.Passed; reader = r .reader }) ≡ turnOf says vol m st rd
   unfolding sightVisit turnOf onOk afterItem
   turn-hole q = rw (← read, q)
 
-  pub turn-end : r .next ≡ found.End → visitOf (record { sight = sight.End; reader = r .reader }) ≡ turnOf says vol m st rd
+  pub turn-end : r .next ≡ item.End → visitOf (record { sight = sight.End; reader = r .reader }) ≡ turnOf says vol m st rd
   unfolding sightVisit turnOf onOk afterItem
   turn-end q = rw (← read, q)
 
-  pub turn-payload : {n : ℕ} {s : Sight} → r .next ≡ found.Payload n → s ≡ sightOf (says (take n out))
+  pub turn-payload : {n : ℕ} {s : Sight} → r .next ≡ item.Payload n → s ≡ sightOf (says (take n out))
       → visitOf (record { sight = s; reader = r .reader }) ≡ turnOf says vol m st rd
   unfolding turnOf onOk afterItem
   turn-payload {n} q h = rw (← read, q, h) (sight-mark (says (take n out)) (r .reader))

@@ -36,7 +36,7 @@ afterMark (At id number) rd = stop (ok (record { mark = At id number; reader = r
 -- a hole is passed over; at the end nothing was said, and the reader is the one that found it
 unfoldable pub afterItem : (List ℕ → Mark) → List ℕ → Reader → Item → Visit Reader (Answer Seen)
 afterItem says out rd (payload n) = afterMark (says (take n out)) rd
-afterItem says out rd (hole from to) = next rd
+afterItem says out rd (hole from to blank) = next rd
 afterItem says out rd end = stop (ok (record { mark = Nothing; reader = rd }))
 
 unfoldable pub turnOf : (List ℕ → Mark) → List ℕ → Medium → Store → Reader → Visit Reader (Answer Seen)

@@ -61,7 +61,11 @@ fn turn(
                 reader: behind,
             }
         }
-        Next::Hole { from: _, to: _ } => Turn {
+        Next::Hole {
+            from: _,
+            to: _,
+            blank: _,
+        } => Turn {
             sight: Sight::Passed,
             reader: behind,
         },

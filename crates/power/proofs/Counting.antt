@@ -11,14 +11,16 @@ use borrow.Author.Tests.{not-true, eq-eqb, ne-eqb}
 use lib.Dec.{eqb}
 use lib.ListN.{length}
 use Rattle.le.specs.Choice.{pick}
+use Rattle.le.specs.Tally.{tally}
 use Rattle.le.proofs.Choices.{pick-keeps, pick-true, pick-false}
 use Rattle.le.proofs.Bools.{and-true}
+use Rattle.le.proofs.Tallies.{tally-le, tally-none}
 use Rattle.table.specs.declared.Link.{Link}
 use Rattle.table.specs.declared.LinkAt.the-variants as link
 use Rattle.layout.specs.Views.{Entry, vacant, broken, named, Disk}
-use Rattle.layout.specs.Segments.{Segment, isOf, tally, Good}
+use Rattle.layout.specs.Segments.{Segment, isOf, Good}
 use Rattle.layout.proofs.Facts.{case, is-of, not-of, free-of, same-id, free≢linked, true≢false}
-use Rattle.layout.proofs.Tallies.{tally-le, tally-none, tally-more}
+use Rattle.layout.proofs.Tallies.{tally-more}
 use Rattle.folds.specs.Rows.{listedIn}
 use Rattle.power.specs.Book.{File, keep}
 use Rattle.power.specs.Room.{chunksIn}

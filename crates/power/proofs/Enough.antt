@@ -7,7 +7,9 @@ use mathlib.Core.List.{List}
 use native.Mathlib.Nat.{zero-add}
 use native.Mathlib.Omega.{arith}
 use lib.ListN.{length}
+use Rattle.le.specs.Tally.{tally}
 use Rattle.le.proofs.Choices.{pick-keeps, pick-false}
+use Rattle.le.proofs.Tallies.{tally-le, tally-yes, tally-start}
 use Rattle.medium.specs.declared.Medium.{Medium}
 use Rattle.medium.specs.declared.Outcome.{Outcome}
 use Rattle.medium.specs.declared.Outcome.the-variants.{Done}
@@ -30,9 +32,6 @@ use Rattle.safe.specs.Inv.{Inv, planOf}
 use Rattle.safe.proofs.Moves.{move-before, good-ready}
 use Rattle.safe.proofs.Invs.{inv-check}
 use Rattle.safe.proofs.Commit.{plan-good}
-use Rattle.layout.specs.Segments.{tally}
-use Rattle.layout.proofs.Tallies.{tally-le}
-use Rattle.folds.proofs.Numbered.{tally-yes, tally-start}
 use Rattle.writes.specs.Writes.{Most, commitMost}
 use Rattle.writes.proofs.Counts.{tally-on}
 use Rattle.writes.proofs.Copies.{Leaves, sector-counted, body-counted, every, every-leaves, commit-most}

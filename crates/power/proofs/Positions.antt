@@ -6,6 +6,7 @@ use mathlib.Core.List.{List, []}
 use native.Mathlib.Omega.{arith}
 use lib.Dec.{lit≤}
 use lib.ListN.{length}
+use Rattle.le.proofs.Tallies.{tally-le}
 use Rattle.medium.specs.declared.Medium.{Medium}
 use Rattle.medium.specs.declared.Outcome.the-variants.{Done}
 use Rattle.medium.specs.Sector.{sectorsOf, sectorAt}
@@ -25,7 +26,7 @@ use Rattle.layout.specs.Views.{vacant, named, Disk, diskOf}
 use Rattle.layout.specs.Segments.{isOf}
 use Rattle.layout.specs.Changes.{SameEntries, SameLinks}
 use Rattle.layout.proofs.Facts.{case, in-table, vacant≢named}
-use Rattle.layout.proofs.Tallies.{tally-le, linkedTo, linked-most}
+use Rattle.layout.proofs.Tallies.{linkedTo, linked-most}
 use Rattle.views.specs.Edited.{Edited}
 use Rattle.views.proofs.Commits.{commit-edited, due-edited}
 use Rattle.views.proofs.Removes.{removed-entry, removed-entries, removed-same}

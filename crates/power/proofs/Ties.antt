@@ -7,13 +7,15 @@ use mathlib.Core.Bool.{Bool, true, false}
 use mathlib.Core.List.{List, [], _∷_, _++_, List·Memᴰ·not-nil}
 use native.Mathlib.Omega.{arith}
 use lib.ListN.{length, length-append}
+use Rattle.le.specs.Tally.{tally}
+use Rattle.le.proofs.Tallies.{tally-ext, tally-none}
 use Rattle.names.proofs.Laws.{in-root}
 use Rattle.layout.specs.Views.{Entry, vacant, named, Disk}
-use Rattle.layout.specs.Segments.{Segment, tally, Good}
+use Rattle.layout.specs.Segments.{Segment, Good}
 use Rattle.layout.specs.Changes
 use Rattle.layout.specs.Changes.{replaced, withSegment, SameEntries, Unchanged, Recorded, Extended, Created, Removed, Fresh}
 use Rattle.layout.proofs.Facts.{case, true≢false, vacant≢named, same-name, same-id, replaced-here, replaced-other, payloads-segment, payloads-payload, length-payload, length-segment}
-use Rattle.layout.proofs.Tallies.{tally-ext, tally-none, tally-one}
+use Rattle.layout.proofs.Tallies.{tally-one}
 use Rattle.folds.specs.Rows.{listedIn}
 use Rattle.table.specs.declared.Link.{Link}
 use Rattle.power.specs.Book

@@ -7,6 +7,7 @@ use mathlib.Core.Bool.{true, false}
 use mathlib.Core.List.{List, [], _∷_, _++_, List·Memᴰ}
 use lib.ListN.{length}
 use Rattle.le.specs.Part.{part}
+use Rattle.le.specs.Tally.{tally}
 use Rattle.medium.specs.Sector.{Readable}
 use Rattle.names.specs.Names.{dirOk}
 use Rattle.handles.specs.declared.Store.{Store}
@@ -18,7 +19,7 @@ use Rattle.append.specs.declared.Tail.the-variants.{At, Reopened, Closed}
 use Rattle.append.specs.Appender.{dirBytes, isClosed}
 use Rattle.safe.specs.Inv.{Inv}
 use Rattle.layout.specs.Views.{Disk, named, diskOf}
-use Rattle.layout.specs.Segments.{Segment, segmentAt, payloadsOf, tally, Good}
+use Rattle.layout.specs.Segments.{Segment, segmentAt, payloadsOf, Good}
 use Rattle.folds.specs.Rows.{listedIn}
 use Rattle.power.specs.Book.{File, Book, ifSet}
 use Rattle.power.specs.History.{World}

@@ -19,12 +19,15 @@ use Rattle.handles.specs.declared.Store.{Store}
 use Rattle.record.specs.Record.{numberAt}
 use Rattle.reader.specs.declared.Reader.{Reader}
 use Rattle.reader.specs.declared.Arrived.{Arrived}
+use Rattle.reader.specs.declared.Found.{Found}
+use Rattle.reader.specs.declared.Found.the-variants as found
 use Rattle.reader.specs.declared.Next.{Next}
-use Rattle.reader.specs.declared.Next.the-variants as found
+use Rattle.reader.specs.declared.Next.the-variants as item
 use Rattle.reader.specs.declared.Taken.{Taken}
 use Rattle.reader.specs.declared.Upto.{Upto}
 use Rattle.reader.specs.Reader.{movedTo}
 use Rattle.reader.specs.Next.{arriveOf, tells, takeOf, nextOf}
+use Rattle.reader.specs.Blank.{countedOf}
 use Rattle.reader.specs.Calls.{usableOf}
 use Rattle.reader.specs.Upto.{standsAt, cutAt, cutOut, belowOf, uptoAnswer, sameLimit, belowCall}
 
@@ -39,19 +42,19 @@ base-below st rd limit e h = go (rd .position * st .head .chunk) e h
     go b p q = omega (arith, p, q)
 
 module _ (st : Store) (rd : Reader) (limit : ℕ) (t : Taken) where
-  pub cut-refused : {e : Error} {n : Next} → n ≡ found.Refused e → t ≡ cutAt limit st rd t n
+  pub cut-refused : {e : Error} {n : Found} → n ≡ found.Refused e → t ≡ cutAt limit st rd t n
   unfolding cutAt
   cut-refused q = rw q
 
-  pub cut-payload : {k : ℕ} {n : Next} → n ≡ found.Payload k → t ≡ cutAt limit st rd t n
+  pub cut-payload : {k : ℕ} {n : Found} → n ≡ found.Payload k → t ≡ cutAt limit st rd t n
   unfolding cutAt
   cut-payload q = rw q
 
-  pub cut-end : {n : Next} → n ≡ found.End → t ≡ cutAt limit st rd t n
+  pub cut-end : {n : Found} → n ≡ found.End → t ≡ cutAt limit st rd t n
   unfolding cutAt
   cut-end q = rw q
 
-  module _ {from to : ℕ} {n : Next} (q : n ≡ found.Hole from to) where
+  module _ {from to : ℕ} {n : Found} (q : n ≡ found.Hole from to) where
     pub cut-uncut : to ≤ limit → t ≡ cutAt limit st rd t n
     unfolding cutAt pick
     cut-uncut h = rw (q, le-ltb limit to h)
@@ -100,16 +103,16 @@ below-next limit vol m st rd out h o more k = rw (lt-leb limit (standsAt st rd) 
 -- ---- the call
 
 module _ (vol : List ℕ) (m : Medium) (st : Store) (u : Upto) (out : List ℕ) where
-  pub upto-short : length out < 486 → uptoAnswer (record { next = found.Refused Range; upto = u; medium = m }) out ≡ belowCall vol m st u out
+  pub upto-short : length out < 486 → uptoAnswer (record { next = item.Refused Range; upto = u; medium = m }) out ≡ belowCall vol m st u out
   unfolding belowCall pick
   upto-short h = rw (lt-ltb _ _ h)
 
   module _ (enough : 486 ≤ length out) {o : Outcome} (asked : o ≡ usableOf vol st (u .reader)) where
-    pub upto-no : {e : Error} → o ≡ No e → uptoAnswer (record { next = found.Refused e; upto = u; medium = m }) out ≡ belowCall vol m st u out
+    pub upto-no : {e : Error} → o ≡ No e → uptoAnswer (record { next = item.Refused e; upto = u; medium = m }) out ≡ belowCall vol m st u out
     unfolding belowCall pick onDone
     upto-no q = rw (le-ltb _ _ enough, ← asked, q)
 
-    pub upto-done : {t : Taken} {l : List ℕ} → o ≡ Done → l ≡ belowOf (u .limit) vol m st (u .reader) out .out → t ≡ belowOf (u .limit) vol m st (u .reader) out .ans
-        → uptoAnswer (record { next = t .next; upto = sameLimit u (t .reader); medium = m }) l ≡ belowCall vol m st u out
+    pub upto-done : {t : Taken} {l : List ℕ} {n : Next} → o ≡ Done → l ≡ belowOf (u .limit) vol m st (u .reader) out .out → t ≡ belowOf (u .limit) vol m st (u .reader) out .ans
+        → n ≡ countedOf vol st (t .reader) (t .next) → uptoAnswer (record { next = n; upto = sameLimit u (t .reader); medium = m }) l ≡ belowCall vol m st u out
     unfolding belowCall pick onDone
-    upto-done q e f = rw (le-ltb _ _ enough, ← asked, q, e, f)
+    upto-done q e f k = rw (le-ltb _ _ enough, ← asked, q, e, k, f)

@@ -36,8 +36,8 @@ use Rattle.reader.specs.declared.Reader.{Reader}
 use Rattle.reader.specs.declared.Arrived.{Arrived}
 use Rattle.reader.specs.declared.Searched.{Searched}
 use Rattle.reader.specs.declared.Searched.the-variants as searched
-use Rattle.reader.specs.declared.Next.{Next}
-use Rattle.reader.specs.declared.Next.the-variants as found
+use Rattle.reader.specs.declared.Found.{Found}
+use Rattle.reader.specs.declared.Found.the-variants as found
 use Rattle.reader.specs.declared.Taken.{Taken}
 use Rattle.reader.specs.Reader.{movedTo}
 use Rattle.reader.specs.Next.{passedEnd, isLast, limitOf, arriveOf, recordHere, onSearched, searchStep, searchOf, tells, holeOf, NextOut, takeOf, nextOf}
@@ -193,14 +193,14 @@ pub record Finds (st : Store) (out : List ℕ) (r : NextOut) : Type 0 where
   pub size : (n : ℕ) → r .ans .next ≡ found.Payload n → (1 ≤ n) × (n ≤ 486)
 
 -- an answer with no payload
-abbrev Plain : Next → Type 0
+abbrev Plain : Found → Type 0
 Plain (found.Refused e) = Unit {0}
 Plain (found.Payload n) = ⊥
 Plain (found.Hole a b) = Unit {0}
 Plain found.End = Unit {0}
 
 module _ (vol : List ℕ) (m : Medium) (st : Store) (out : List ℕ) (ok : storeOk st (sectorsOf vol) ≡ true) (enough : 486 ≤ length out) where
-  plain : (x : Next) (rd : Reader) → Reads rd st → Plain x → Finds st out (record { out = out; ans = tells x rd })
+  plain : (x : Found) (rd : Reader) → Reads rd st → Plain x → Finds st out (record { out = out; ans = tells x rd })
   plain x rd r p = record { reads = r; kept = refl; size = λ n q. absurd (subst Plain q p) }
 
   module _ (rd : Reader) (r : Reads rd st) (b : rd .index < limitOf (rd .end) (st .head .chunk)) where

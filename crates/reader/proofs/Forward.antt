@@ -19,8 +19,8 @@ use Rattle.record.proofs.Laws.{onJudged-keeps}
 use Rattle.reader.specs.declared.Reader.{Reader}
 use Rattle.reader.specs.declared.Entered.{Entered}
 use Rattle.reader.specs.declared.Arrived.{Arrived}
-use Rattle.reader.specs.declared.Next.{Next}
-use Rattle.reader.specs.declared.Next.the-variants as found
+use Rattle.reader.specs.declared.Found.{Found}
+use Rattle.reader.specs.declared.Found.the-variants as found
 use Rattle.reader.specs.declared.Taken.{Taken}
 use Rattle.reader.specs.Reader.{movedTo, insideOf, enterOf}
 use Rattle.reader.specs.Next.{passedEnd, limitOf, arriveStep, arriveOf, recordHere, searchOf, holeOf, NextOut, takeOf, nextOf}
@@ -114,7 +114,7 @@ module _ (vol : List ℕ) (m : Medium) (st : Store) where
 
   -- ---- next
 
-  abbrev Passes : ℕ → Next → Reader → Type 0
+  abbrev Passes : ℕ → Found → Reader → Type 0
   Passes n (found.Refused e) rd = Unit {0}
   Passes n (found.Payload k) rd = n < standsAt st rd
   Passes n (found.Hole a b) rd = n < standsAt st rd

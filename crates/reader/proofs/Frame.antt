@@ -1,10 +1,11 @@
 -- What a reader gives goes by the volume's length, by the table of its store value and by the data sectors: volumes that agree there give the same.
 -- Assumes nothing.
-use mathlib.Core.Path.{_≡_, ap}
+use mathlib.Core.Path.{_≡_, refl, ap}
 use mathlib.Core.List.{List}
 use Prim.Native.Nat.{ℕ, _+_, _-_, _*_, _/_, _%_, _<_, _≤_}
 use native.Mathlib.Omega.{arith}
 use lib.ListN.{length}
+use Rattle.le.proofs.Tallies.{tally-ext}
 use Rattle.walk.specs.Walk.{Visit, walk, visits}
 use Rattle.walk.proofs.Laws.{walk-alike}
 use Rattle.medium.specs.declared.Error.the-variants.{Corrupt}
@@ -16,8 +17,12 @@ use Rattle.handles.specs.Body.{bodyAt}
 use Rattle.table.specs.declared.Place.the-variants as place
 use Rattle.table.specs.Table.{locateV, locateOf}
 use Rattle.table.proofs.Walks.{table-frame}
-use Rattle.record.specs.Record.{dataAt, readRecordOf, recordAt}
+use Rattle.record.specs.Record.{isBlank, dataAt, readRecordOf, recordAt}
 use Rattle.reader.specs.declared.Reader.{Reader}
+use Rattle.reader.specs.declared.Found.{Found}
+use Rattle.reader.specs.declared.Found.the-variants as found
+use Rattle.reader.specs.declared.Next.the-variants.{Hole}
+use Rattle.reader.specs.Blank.{blankAt, blanksOf, countedOf}
 use Rattle.reader.specs.Reader.{enterOf, seekOf}
 use Rattle.reader.specs.Calls.{usableOf, nextCall, seekCall}
 use Rattle.reader.specs.Next.{limitOf, arriveStep, arriveOf, recordHere, searchStep, searchOf, holeOf, takeOf, nextOf}
@@ -59,9 +64,16 @@ module _ (vol v : List ℕ) (m : Medium) (st : Store) (size : length v ≡ lengt
   unfolding takeOf holeOf
   took rd out = rw (judged rd (rd .index), held (rd .chunk) (rd .index), sought rd (rd .index + 1) (limitOf (rd .end) (st .head .chunk)))
 
+  counted : (rd : Reader) (x : Found) → countedOf v st rd x ≡ countedOf vol st rd x
+  unfolding countedOf blanksOf blankAt
+  counted rd (found.Refused e) = refl
+  counted rd (found.Payload n) = refl
+  counted rd (found.Hole from to) = ap (Hole from to) (tally-ext _ _ (to - from) (λ i _. ap isBlank (held (rd .chunk) ((from + i) % st .head .chunk))))
+  counted rd found.End = refl
+
   pub next-frame : (rd : Reader) (out : List ℕ) → nextCall v m st rd out ≡ nextCall vol m st rd out
   unfolding nextCall nextOf usableOf
-  next-frame rd out = rw (size, arrived rd, took (arriveOf vol m st rd .reader) out)
+  next-frame rd out = rw (size, arrived rd, took (arriveOf vol m st rd .reader) out, counted)
 
   pub seek-frame : (rd : Reader) (number : ℕ) → seekCall v m st rd number ≡ seekCall vol m st rd number
   unfolding seekCall seekOf usableOf

@@ -10,6 +10,8 @@ use lib.ListN.{length}
 use Rattle.le.proofs.Bools.{and-true}
 use Rattle.le.proofs.Choices.{pick-keeps, pick-keeps-by}
 use Rattle.medium.specs.declared.Medium.{Medium}
+use Rattle.medium.specs.declared.Outcome.{Outcome}
+use Rattle.medium.specs.declared.Outcome.the-variants.{Done}
 use Rattle.medium.specs.Sector.{sectorsOf}
 use Rattle.medium.proofs.Laws.{onDone-keeps}
 use Rattle.handles.specs.declared.Store.{Store}
@@ -17,8 +19,8 @@ use Rattle.handles.specs.Handles.{storeOk}
 use Rattle.record.specs.Record.{numberAt}
 use Rattle.record.proofs.Laws.{onJudged-keeps}
 use Rattle.reader.specs.declared.Reader.{Reader}
-use Rattle.reader.specs.declared.Next.{Next}
-use Rattle.reader.specs.declared.Next.the-variants as found
+use Rattle.reader.specs.declared.Found.{Found}
+use Rattle.reader.specs.declared.Found.the-variants as found
 use Rattle.reader.specs.declared.Taken.{Taken}
 use Rattle.reader.specs.declared.Upto.{Upto}
 use Rattle.reader.specs.Reader.{readerOk}
@@ -30,7 +32,7 @@ use Rattle.reader.proofs.Moves.{Arrives, arrive-reads}
 use Rattle.reader.proofs.Finds.{onSearched-keeps, hole-within, take-finds}
 
 -- a hole ends within its chunk
-abbrev Ends : Store → Reader → Next → Type 0
+abbrev Ends : Store → Reader → Found → Type 0
 Ends st rd n = (x y : ℕ) → n ≡ found.Hole x y → y ≤ numberAt (rd .position) (st .head .chunk) (st .head .chunk)
 
 number-most : (p size i : ℕ) → i ≤ size → numberAt p size i ≤ numberAt p size size
@@ -69,7 +71,7 @@ cut-index p size limit to h k = go (p * size) k
     go : (b : ℕ) → to ≤ b + size → limit - (b + 0) ≤ size
     go b q = omega (arith, h, q)
 
-cut-reads : (limit : ℕ) (st : Store) (rd : Reader) (t : Taken) (n : Next) → Reads rd st → Reads (t .reader) st → Ends st rd n → Reads (cutAt limit st rd t n .reader) st
+cut-reads : (limit : ℕ) (st : Store) (rd : Reader) (t : Taken) (n : Found) → Reads rd st → Reads (t .reader) st → Ends st rd n → Reads (cutAt limit st rd t n .reader) st
 unfolding cutAt
 cut-reads limit st rd t (found.Refused e) r k ends = k
 cut-reads limit st rd t (found.Payload n) r k ends = k
@@ -94,6 +96,13 @@ module _ (limit : ℕ) (vol : List ℕ) (m : Medium) (st : Store) (out : List �
       cut-reads limit st there _ _ (a .reads) (take-finds vol m st out ok enough there (a .reads) (a .below more) .reads) (take-ends vol m st there (a .reads) (a .below more) out))
       (λ t. a .reads))
       (λ e o. a .reads))
+
+-- before the count of a hole
+pub upto-passes : (vol : List ℕ) (m : Medium) (st : Store) (u : Upto) (out : List ℕ) {o : Outcome} {t : Taken} → 486 ≤ length out → o ≡ usableOf vol st (u .reader) → o ≡ Done
+    → t ≡ belowOf (u .limit) vol m st (u .reader) out .ans → (storeOk st (sectorsOf vol) ≡ true) × (readerOk (t .reader) st ≡ true)
+upto-passes vol m st u out enough asked q e =
+    let p = usable-facts vol st (u .reader) asked q in
+    (p .0, rw e (reader-ok _ st (below-reads (u .limit) vol m st out (p .0) enough (u .reader) (reader-facts (u .reader) st (p .1)))))
 
 pub below-passes : (vol : List ℕ) (m : Medium) (st : Store) (u : Upto) (out : List ℕ) → readerOk (u .reader) st ≡ true → readerOk (belowCall vol m st u out .upto .reader) st ≡ true
 unfolding belowCall

@@ -17,8 +17,8 @@ use Rattle.record.specs.Record.{numberAt}
 use Rattle.record.proofs.Laws.{onJudged-keeps}
 use Rattle.reader.specs.declared.Reader.{Reader}
 use Rattle.reader.specs.declared.Arrived.{Arrived}
-use Rattle.reader.specs.declared.Next.{Next}
-use Rattle.reader.specs.declared.Next.the-variants as found
+use Rattle.reader.specs.declared.Found.{Found}
+use Rattle.reader.specs.declared.Found.the-variants as found
 use Rattle.reader.specs.declared.Taken.{Taken}
 use Rattle.reader.specs.Next.{isLast, limitOf, arriveOf, recordHere, searchOf, holeOf, NextOut, takeOf, nextOf}
 use Rattle.reader.proofs.Facts.{Reads}
@@ -43,7 +43,7 @@ module _ (vol : List ℕ) (m : Medium) (st : Store) (rd : Reader) where
     pub last : isLast (rd .end) ≡ true → to < limit
 
   -- what an answer tells, where there is more of the chunk or not
-  abbrev Tells : Bool → Next → Type 0
+  abbrev Tells : Bool → Found → Type 0
   Tells more (found.Refused e) = Unit {0}
   Tells more (found.Payload n) = Unit {0}
   Tells more (found.Hole a b) = HoleIs a b

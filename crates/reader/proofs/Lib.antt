@@ -1,9 +1,12 @@
 pub mod Facts
 pub mod Moves
 pub mod Finds
+pub mod Blanks
 pub mod Holes
 pub mod Offers
 pub mod Cuts
 pub mod Handed
 pub mod Forward
 pub mod Frame
+pub mod Carries
+pub mod Earlier

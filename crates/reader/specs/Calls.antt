@@ -20,11 +20,12 @@ use Rattle.reader.specs.declared.Read.{Read}
 use Rattle.reader.specs.declared.Sought.{Sought}
 use Rattle.reader.specs.declared.Entered.{Entered}
 use Rattle.reader.specs.declared.Next.{Next}
-use Rattle.reader.specs.declared.Next.the-variants as found
+use Rattle.reader.specs.declared.Next.the-variants as item
 use Rattle.reader.specs.declared.Numbered.{Numbered}
 use Rattle.reader.specs.declared.Numbered.the-variants as numbered
 use Rattle.reader.specs.Reader.{readerOk, seekOf}
 use Rattle.reader.specs.Next.{NextOut, nextOf}
+use Rattle.reader.specs.Blank.{countedOf}
 
 -- the store value and the reader pass refusal 3, and the reader is one of this store at this generation
 unfoldable pub usableOf : List ℕ → Store → Reader → Outcome
@@ -33,18 +34,18 @@ usableOf vol st rd =
     (pick (eqb (rd .store) (st .head .id) && eqb (rd .generation) (st .head .generation)) Done (No Stale))
     (No Handle)
 
--- ---- next: payload length, a hole from..to, or end
+-- ---- next: payload length, a hole from..to with its blank sectors (S-4), or end
 
 pub data Item : Type 0 where
   payload : ℕ → Item
-  hole : ℕ → ℕ → Item
+  hole : ℕ → ℕ → ℕ → Item
   end : Item
 
 abbrev pub nextAnswer : Next → Answer Item
-nextAnswer (found.Refused e) = refused (numberOf e)
-nextAnswer (found.Payload n) = ok (payload n)
-nextAnswer (found.Hole from to) = ok (hole from to)
-nextAnswer found.End = ok end
+nextAnswer (item.Refused e) = refused (numberOf e)
+nextAnswer (item.Payload n) = ok (payload n)
+nextAnswer (item.Hole from to blank) = ok (hole from to blank)
+nextAnswer item.End = ok end
 
 pub record NextCall : Type 0 where
   pub answer : Answer Item
@@ -62,7 +63,7 @@ nextCall vol m st rd out =
     let r : NextOut = nextOf vol m st rd out in
     pick (ltb (length out) 486) (no 2)
     (onDone (usableOf vol st rd)
-    (record { answer = nextAnswer (r .ans .next); reader = r .ans .reader; out = r .out; medium = m })
+    (record { answer = nextAnswer (countedOf vol st (r .ans .reader) (r .ans .next)); reader = r .ans .reader; out = r .out; medium = m })
     (λ e. no (numberOf e)))
 
 -- ---- seek

@@ -23,8 +23,8 @@ use Rattle.reader.specs.declared.Entered.{Entered}
 use Rattle.reader.specs.declared.Arrived.{Arrived}
 use Rattle.reader.specs.declared.Searched.{Searched}
 use Rattle.reader.specs.declared.Searched.the-variants as searched
-use Rattle.reader.specs.declared.Next.{Next}
-use Rattle.reader.specs.declared.Next.the-variants as found
+use Rattle.reader.specs.declared.Found.{Found}
+use Rattle.reader.specs.declared.Found.the-variants as found
 use Rattle.reader.specs.declared.Taken.{Taken}
 use Rattle.reader.specs.Reader.{movedTo, enterOf}
 
@@ -72,7 +72,7 @@ unfoldable pub searchOf : List ℕ → Medium → Store → Reader → ℕ → �
 searchOf vol m st rd after limit = visits searchStep (recordHere vol m st rd) (λ s. searched.At limit) limit after tt
 
 -- an answer
-abbrev pub tells : Next → Reader → Taken
+abbrev pub tells : Found → Reader → Taken
 tells n rd = record { next = n; reader = rd }
 
 -- at an invalid record: a hole up to what the search finds, or the end. Refused, the search has not moved the reader

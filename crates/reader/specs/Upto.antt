@@ -12,13 +12,14 @@ use Rattle.handles.specs.declared.Store.{Store}
 use Rattle.record.specs.Record.{numberAt}
 use Rattle.reader.specs.declared.Reader.{Reader}
 use Rattle.reader.specs.declared.Arrived.{Arrived}
-use Rattle.reader.specs.declared.Next.{Next}
-use Rattle.reader.specs.declared.Next.the-variants as found
+use Rattle.reader.specs.declared.Found.{Found}
+use Rattle.reader.specs.declared.Found.the-variants as found
 use Rattle.reader.specs.declared.Taken.{Taken}
 use Rattle.reader.specs.declared.Upto.{Upto}
 use Rattle.reader.specs.declared.UptoRead.{UptoRead}
 use Rattle.reader.specs.Reader.{movedTo}
 use Rattle.reader.specs.Next.{arriveOf, tells, NextOut, takeOf}
+use Rattle.reader.specs.Blank.{countedOf}
 use Rattle.reader.specs.Calls.{usableOf, Item, nextAnswer}
 
 -- the number of the record that comes next
@@ -26,7 +27,7 @@ unfoldable pub standsAt : Store → Reader → ℕ
 standsAt st rd = numberAt (rd .position) (st .head .chunk) (rd .index)
 
 -- a hole that crosses the number ends there, and the reader, which is in its chunk, stands there
-unfoldable pub cutAt : ℕ → Store → Reader → Taken → Next → Taken
+unfoldable pub cutAt : ℕ → Store → Reader → Taken → Found → Taken
 cutAt limit st rd t (found.Refused e) = t
 cutAt limit st rd t (found.Payload n) = t
 cutAt limit st rd t (found.Hole from to) =
@@ -68,5 +69,5 @@ belowCall vol m st u out =
     let r : NextOut = belowOf (u .limit) vol m st (u .reader) out in
     pick (ltb (length out) 486) (no 2)
     (onDone (usableOf vol st (u .reader))
-    (record { answer = nextAnswer (r .ans .next); upto = sameLimit u (r .ans .reader); out = r .out; medium = m })
+    (record { answer = nextAnswer (countedOf vol st (r .ans .reader) (r .ans .next)); upto = sameLimit u (r .ans .reader); out = r .out; medium = m })
     (λ e. no (numberOf e)))

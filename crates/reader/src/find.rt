@@ -1,5 +1,5 @@
 // What a reader finds next: a record, a hole, or the end.
-use super::Next;
+use super::Found;
 use super::Reader;
 use super::Searched;
 use super::Taken;
@@ -56,13 +56,13 @@ impl Reader {
         let s = self.search(volume, medium, store, self.index + 1, limit);
         match s {
             Searched::Refused(e) => Taken {
-                next: Next::Refused(e),
+                next: Found::Refused(e),
                 reader: self,
             },
             Searched::At(to) => {
                 if is_last(end) & (to == limit) {
                     return Taken {
-                        next: Next::End,
+                        next: Found::End,
                         reader: self,
                     };
                 }
@@ -70,7 +70,7 @@ impl Reader {
                 let past = record::number_at(self.position, size, to);
                 let reader = self.moved_to(self.position, to);
                 Taken {
-                    next: Next::Hole { from, to: past },
+                    next: Found::Hole { from, to: past },
                     reader,
                 }
             }
@@ -88,7 +88,7 @@ impl Reader {
         let j = record::record(volume, medium, store, self.id, self.chunk, self.index, n);
         match j {
             Judged::Refused(e) => Taken {
-                next: Next::Refused(e),
+                next: Found::Refused(e),
                 reader: self,
             },
             Judged::Valid(length) => {
@@ -96,7 +96,7 @@ impl Reader {
                 runs::put_bytes(out, 0, &volume[a..a + length]);
                 let reader = self.moved_to(self.position, self.index + 1);
                 Taken {
-                    next: Next::Payload(length),
+                    next: Found::Payload(length),
                     reader,
                 }
             }
@@ -121,13 +121,13 @@ impl Reader {
         let reader = a.reader;
         if let Outcome::No(e) = o {
             return Taken {
-                next: Next::Refused(e),
+                next: Found::Refused(e),
                 reader,
             };
         }
         if !a.more {
             return Taken {
-                next: Next::End,
+                next: Found::End,
                 reader,
             };
         }

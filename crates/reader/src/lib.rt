@@ -1,4 +1,5 @@
 // A reader of one file's records: what the Rust has as `Reader`. It goes in by value and comes back advanced.
+mod blank;
 mod ends;
 mod enter;
 mod find;
@@ -34,14 +35,22 @@ pub struct Reader {
     pub index: u32,
 }
 
-// What `next` found.
-pub enum Next {
+// What stands at a reader's place.
+pub enum Found {
     Refused(Error),
     // A record of this many payload bytes, copied to the output.
     Payload(usize),
     // Records `from..to` were written and no longer read back. The reader goes on at record `to`.
     Hole { from: u32, to: u32 },
     // No record follows yet.
+    End,
+}
+
+// What `next` answers: what was found, and of a hole how many of its sectors are blank (S-4).
+pub enum Next {
+    Refused(Error),
+    Payload(usize),
+    Hole { from: u32, to: u32, blank: u32 },
     End,
 }
 
@@ -82,7 +91,7 @@ pub struct Entered {
 
 // What a reader found, and the reader behind it.
 pub struct Taken {
-    pub next: Next,
+    pub next: Found,
     pub reader: Reader,
 }
 
@@ -189,8 +198,9 @@ impl Reader {
             };
         }
         let t = self.advance(volume, medium, store, out);
-        let next = t.next;
+        let found = t.next;
         let reader = t.reader;
+        let next = reader.counted(volume, store, found);
         Read {
             next,
             reader,

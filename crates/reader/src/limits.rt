@@ -1,4 +1,5 @@
 // S-1: a reader up to a record number.
+use super::Found;
 use super::Next;
 use super::Reader;
 use super::Taken;
@@ -33,20 +34,20 @@ impl Reader {
     {
         let n = t.next;
         match n {
-            Next::Refused(_) => t,
-            Next::Payload(_) => t,
-            Next::Hole { from, to } => {
+            Found::Refused(_) => t,
+            Found::Payload(_) => t,
+            Found::Hole { from, to } => {
                 if limit < to {
                     let base = record::number_at(self.position, store.head.chunk, 0);
                     let reader = self.moved_to(self.position, limit - base);
                     return Taken {
-                        next: Next::Hole { from, to: limit },
+                        next: Found::Hole { from, to: limit },
                         reader,
                     };
                 }
                 t
             }
-            Next::End => t,
+            Found::End => t,
         }
     }
 
@@ -66,7 +67,7 @@ impl Reader {
         let here = self.stands_at(volume, store);
         if limit <= here {
             return Taken {
-                next: Next::End,
+                next: Found::End,
                 reader: self,
             };
         }
@@ -75,14 +76,14 @@ impl Reader {
         let reader = a.reader;
         if let Outcome::No(e) = o {
             return Taken {
-                next: Next::Refused(e),
+                next: Found::Refused(e),
                 reader,
             };
         }
         let there = reader.stands_at(volume, store);
         if !(a.more & (there < limit)) {
             return Taken {
-                next: Next::End,
+                next: Found::End,
                 reader,
             };
         }
@@ -113,8 +114,9 @@ impl Upto {
             };
         }
         let t = rd.below(volume, medium, store, self.limit, out);
-        let next = t.next;
+        let found = t.next;
         let reader = t.reader;
+        let next = reader.counted(volume, store, found);
         UptoRead {
             next,
             upto: Upto {

@@ -29,7 +29,7 @@ use Rattle.record.proofs.Laws.{data-inside}
 use Rattle.reader.specs.declared.End.{End}
 use Rattle.reader.specs.declared.End.the-variants.{Last, Records}
 use Rattle.reader.specs.declared.Reader.{Reader}
-use Rattle.reader.specs.declared.Next.the-variants as found
+use Rattle.reader.specs.declared.Found.the-variants as found
 use Rattle.reader.specs.Reader.{endOf, movedTo, insideOf, enterOf}
 use Rattle.reader.specs.Next.{passedEnd, arriveOf, recordHere, tells, takeOf}
 use Rattle.reader.proofs.Facts.{Reads, end-within}

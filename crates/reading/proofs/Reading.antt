@@ -19,9 +19,11 @@ use Rattle.table.specs.declared.Place.the-variants.{At}
 use Rattle.table.specs.Table.{locateOf}
 use Rattle.record.specs.Record.{numberAt}
 use Rattle.reader.specs.declared.Reader.{Reader}
-use Rattle.reader.specs.declared.Next.the-variants as found
+use Rattle.reader.specs.declared.Found.{Found}
+use Rattle.reader.specs.declared.Found.the-variants as found
 use Rattle.reader.specs.Reader.{startOf}
 use Rattle.reader.specs.Next.{tells, NextOut, nextOf}
+use Rattle.reader.specs.Blank.{countedOf}
 use Rattle.reader.specs.Calls.{payload, end, nextAnswer, nextCall}
 use Rattle.reader.specs.Upto.{standsAt}
 use Rattle.reader.proofs.Finds.{next-full}
@@ -147,7 +149,7 @@ module _ (vol : List ℕ) (m : Medium) (st : Store) (G : ℕ → List Segment) (
 
   called : (p i : ℕ) (out : List ℕ) → p < length (G s) → i ≤ count p → 486 ≤ length out
       → nextCall vol m st (at p i) out ≡ record {
-        answer = nextAnswer (nextOf vol m st (at p i) out .ans .next);
+        answer = nextAnswer (countedOf vol st (nextOf vol m st (at p i) out .ans .reader) (nextOf vol m st (at p i) out .ans .next));
         reader = nextOf vol m st (at p i) out .ans .reader;
         out = nextOf vol m st (at p i) out .out;
         medium = m;
@@ -156,12 +158,12 @@ module _ (vol : List ℕ) (m : Medium) (st : Store) (G : ℕ → List Segment) (
   called p i out h k e = rw (le-ltb (length out) 486 e, usable vol m st (at p i) sound (accepted f p i h k) refl refl)
 
   gives : (l : List (List ℕ)) (p i : ℕ) → p < length (G s) → i ≤ count p → rest (G s) p i ≡ l → GivesTo vol m st (at p i) l ending
-  unfolding GivesTo
+  unfolding GivesTo countedOf
   gives [] p i h k r = go (onward (length (G s)) p i h k (omega arith) [] r)
     where
       go : Onward p i [] → (out : List ℕ) → 486 ≤ length out → (nextCall vol m st (at p i) out .answer ≡ ok end) × (standsAt st (nextCall vol m st (at p i) out .reader) ≡ ending)
       go (one t) out e = absurd (let a : _≡_ {A = List (List ℕ)} [] (t .x ∷ t .more) = t .first in let z : _≡_ {A = ℕ} 0 1 = cc in omega (arith, z))
-      go (over-now a b) out e = rw (called p i out h k e) (ap nextAnswer (b out .0), b out .1)
+      go (over-now a b) out e = rw (called p i out h k e) (ap (λ (x : Found). nextAnswer (countedOf vol st (nextOf vol m st (at p i) out .ans .reader) x)) (b out .0), b out .1)
   gives (x ∷ xs) p i h k r = go (λ q j a b c. gives xs q j a b c) (onward (length (G s)) p i h k (omega arith) (x ∷ xs) r)
     where
       go : ((q j : ℕ) → q < length (G s) → j ≤ count q → rest (G s) q j ≡ xs → GivesTo vol m st (at q j) xs ending) → Onward p i (x ∷ xs) → (out : List ℕ) → 486 ≤ length out

@@ -23,7 +23,7 @@ use Rattle.reader.specs.declared.End.the-variants.{Last}
 use Rattle.reader.specs.declared.Reader.{Reader}
 use Rattle.reader.specs.declared.Searched.{Searched}
 use Rattle.reader.specs.declared.Searched.the-variants as searched
-use Rattle.reader.specs.declared.Next.the-variants as found
+use Rattle.reader.specs.declared.Found.the-variants as found
 use Rattle.reader.specs.Reader.{movedTo}
 use Rattle.reader.specs.Next.{isLast, limitOf, arriveOf, recordHere, searchStep, searchOf, tells, holeOf, takeOf, nextOf}
 use Rattle.reader.specs.Calls.{usableOf}

@@ -22,9 +22,11 @@ use Rattle.table.specs.declared.Place.the-variants.{At}
 use Rattle.table.specs.Table.{locateOf}
 use Rattle.record.specs.Record.{numberAt}
 use Rattle.reader.specs.declared.Reader.{Reader}
-use Rattle.reader.specs.declared.Next.the-variants as found
+use Rattle.reader.specs.declared.Found.{Found}
+use Rattle.reader.specs.declared.Found.the-variants as found
 use Rattle.reader.specs.Reader.{startOf}
 use Rattle.reader.specs.Next.{arriveOf, tells, takeOf, NextOut}
+use Rattle.reader.specs.Blank.{countedOf}
 use Rattle.reader.specs.Calls.{payload, end, nextAnswer}
 use Rattle.reader.specs.Upto.{standsAt, cutAt, cutOut, belowOf, UptoCall, belowCall}
 use Rattle.reader.proofs.Moves.{arrive-here}
@@ -211,7 +213,7 @@ module _ (vol : List ℕ) (m : Medium) (st : Store) (G : ℕ → List Segment) (
 
     asked : (p i : ℕ) (out : List ℕ) → p < length (G s) → i ≤ count p → 486 ≤ length out
         → belowCall vol m st (record { reader = at p i; limit = limit }) out ≡ record {
-          answer = nextAnswer (belowOf limit vol m st (at p i) out .ans .next);
+          answer = nextAnswer (countedOf vol st (belowOf limit vol m st (at p i) out .ans .reader) (belowOf limit vol m st (at p i) out .ans .next));
           upto = record { reader = belowOf limit vol m st (at p i) out .ans .reader; limit = limit };
           out = belowOf limit vol m st (at p i) out .out;
           medium = m;
@@ -220,12 +222,12 @@ module _ (vol : List ℕ) (m : Medium) (st : Store) (G : ℕ → List Segment) (
     asked p i out h k e = rw (le-ltb (length out) 486 e, usable vol m st (at p i) sound (accepted f p i h k) refl refl)
 
     upto : (l : List (List ℕ)) (p i : ℕ) → p < length (G s) → i ≤ count p → until p i ≡ l → GivesUpto vol m st (record { reader = at p i; limit = limit }) l
-    unfolding GivesUpto
+    unfolding GivesUpto countedOf
     upto [] p i h k r = go (ahead p i h k [] r)
       where
         go : Ahead p i [] → (out : List ℕ) → 486 ≤ length out → belowCall vol m st (record { reader = at p i; limit = limit }) out .answer ≡ ok end
         go (one t) out e = absurd (let a : _≡_ {A = List (List ℕ)} [] (t .x ∷ t .more) = t .first in let z : _≡_ {A = ℕ} 0 1 = cc in omega (arith, z))
-        go (over-now a b) out e = ap (λ (c : UptoCall). c .answer) (asked p i out h k e) ∙ ap nextAnswer (b out)
+        go (over-now a b) out e = ap (λ (c : UptoCall). c .answer) (asked p i out h k e) ∙ ap (λ (x : Found). nextAnswer (countedOf vol st (belowOf limit vol m st (at p i) out .ans .reader) x)) (b out)
     upto (x ∷ xs) p i h k r = go (λ q j a b c. upto xs q j a b c) (ahead p i h k (x ∷ xs) r)
       where
         go : ((q j : ℕ) → q < length (G s) → j ≤ count q → until q j ≡ xs → GivesUpto vol m st (record { reader = at q j; limit = limit }) xs) → Ahead p i (x ∷ xs)

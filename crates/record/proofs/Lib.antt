@@ -1,2 +1,4 @@
 pub mod Laws
 pub mod RoundTrip
+pub mod Verdicts
+pub mod Edges

@@ -1,7 +1,7 @@
 -- 01, "Record": `CSRD`, store id at 4, file id at 12, number at 16 (position × chunk size + index), length 1 to 486 at 20, payload at 22, CRC at
 -- 508 as in the header; other bytes are written 0 and not tested. Assumes nothing.
 use Prim.Native.Nat.{ℕ, _+_, _*_}
-use mathlib.Core.Bool.{Bool, _&&_}
+use mathlib.Core.Bool.{Bool, _&&_, _||_}
 use mathlib.Core.List.{List, [], _∷_, _++_}
 use lib.Dec.{leb, eqb}
 use lib.ListN.{length}
@@ -9,7 +9,7 @@ use Rattle.le.specs.Choice.{pick}
 use Rattle.le.specs.Part.{part, over, zeros}
 use Rattle.le.specs.Field.{getLe}
 use Rattle.le.specs.Layout.{Put, put, putAll}
-use Rattle.runs.specs.Run.{startsWith}
+use Rattle.runs.specs.Run.{startsWith, allSame}
 use Rattle.seal.specs.Seal.{sealed, isSealed}
 use Rattle.medium.specs.declared.Error.{Error}
 use Rattle.medium.specs.declared.Medium.{Medium}
@@ -18,6 +18,8 @@ use Rattle.medium.specs.Sector.{sectorAt, readOf, WriteOut, writeOf}
 use Rattle.handles.specs.declared.Store.{Store}
 use Rattle.record.specs.declared.Judged.{Judged}
 use Rattle.record.specs.declared.Judged.the-variants.{Refused, Valid, Other}
+use Rattle.record.specs.declared.Verdict.{Verdict}
+use Rattle.record.specs.declared.Verdict.the-variants as verdict
 
 -- the four letters `CSRD`
 abbrev pub mark : List ℕ
@@ -45,6 +47,21 @@ matchesOf id file number sector =
 -- a sector judged: a valid record of this store, file and number, with its length, or not
 unfoldable pub judgeOf : ℕ → ℕ → ℕ → List ℕ → Judged
 judgeOf id file number sector = pick (matchesOf id file number sector && isSealed sector) (Valid (getLe 2 20 sector)) Other
+
+-- S-4: the 512 bytes of a sector are all 0 or all 255
+unfoldable pub isBlank : List ℕ → Bool
+isBlank sector = allSame 0 sector || allSame 255 sector
+
+-- S-4: what the judge answers: valid with its length, blank, or other
+unfoldable pub verdictOf : ℕ → ℕ → ℕ → List ℕ → Verdict
+verdictOf id file number sector =
+    pick (matchesOf id file number sector && isSealed sector) (verdict.Valid (getLe 2 20 sector)) (pick (isBlank sector) verdict.Blank verdict.Other)
+
+-- as reading and reopening take it: a blank sector is another that is no record
+unfoldable pub plainOf : Verdict → Judged
+plainOf (verdict.Valid n) = Valid n
+plainOf verdict.Blank = Other
+plainOf verdict.Other = Other
 
 -- a decision by a judged record. It stays shut in proofs
 unfoldable pub onJudged : {A : Type 0} → Judged → (Error → A) → (ℕ → A) → A → A

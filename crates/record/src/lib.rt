@@ -7,13 +7,20 @@ use medium::Written;
 ghost use mathlib.Core.Path.{_≡_};
 ghost use Prim.Native.Nat.{_≤_, _<_};
 ghost use lib.ListN.{length};
-ghost use Rattle.medium.specs.Sector.{sectorsOf};
-ghost use Rattle.record.specs.Record.{recordOf, matchesOf, judgeOf, dataAt, numberAt, readRecordOf, writeRecordOf};
+ghost use Rattle.medium.specs.Sector.{sectorsOf, sectorAt};
+ghost use Rattle.record.specs.Record.{recordOf, matchesOf, isBlank, verdictOf, plainOf, dataAt, numberAt, readRecordOf, writeRecordOf};
 
 // What a data sector is found to be: unread, a record with so many bytes of payload, or anything else.
 pub enum Judged {
     Refused(Error),
     Valid(usize),
+    Other,
+}
+
+// S-4: what the bytes of a data sector are: a record with so many bytes of payload, blank, or anything else.
+pub enum Verdict {
+    Valid(usize),
+    Blank,
     Other,
 }
 
@@ -45,22 +52,64 @@ fn matches(sector: &[u8], id: u64, file: u32, number: u32) -> bool
                 & ((le::get_u32(sector, 16) == number) & ((1 <= length) & (length <= 486)))))
 }
 
-// Judges a data sector, its checksum last.
-pub fn judge(sector: &[u8], id: u64, file: u32, number: u32) -> Judged
+// The first byte says which of the two a blank sector is, so one look at the others is enough.
+fn is_blank(sector: &[u8]) -> bool
     requires { ⌜ length (now sector) ≡ 512 ⌝ }
-    ensures { λ r. ⌜ r ≡ judgeOf id file number (now (sector .entry)) ⌝ }
+    ensures { λ r. ⌜ r ≡ isBlank (now (sector .entry)) ⌝ }
+{
+    let first = sector[0];
+    if (first != 0) & (first != 255) {
+        return false;
+    }
+    runs::all_same(sector, first)
+}
+
+// Judges a data sector, its checksum last. One with the mark of a record is not blank.
+pub fn judge(sector: &[u8], id: u64, file: u32, number: u32) -> Verdict
+    requires { ⌜ length (now sector) ≡ 512 ⌝ }
+    ensures { λ r. ⌜ r ≡ verdictOf id file number (now (sector .entry)) ⌝ }
 {
     if !matches(sector, id, file, number) {
-        return Judged::Other;
+        if is_blank(sector) {
+            return Verdict::Blank;
+        }
+        return Verdict::Other;
     }
     if seal::is_sealed(sector) {
         let n = le::get_u16(sector, 20) as usize;
-        return Judged::Valid(n);
+        return Verdict::Valid(n);
     }
-    Judged::Other
+    Verdict::Other
 }
 
-// Reads and judges record `index` of a chunk, in the volume itself.
+// Reading and reopening ask only for a valid record.
+fn plain(verdict: Verdict) -> Judged
+    ensures { λ r. ⌜ r ≡ plainOf verdict ⌝ }
+{
+    match verdict {
+        Verdict::Valid(n) => Judged::Valid(n),
+        Verdict::Blank => Judged::Other,
+        Verdict::Other => Judged::Other,
+    }
+}
+
+// Judges the sector of record `index` of a chunk, in the volume itself.
+pub fn judge_at(
+    volume: &[u8],
+    store: Store,
+    id: u32,
+    chunk: u32,
+    index: u32,
+    number: u32,
+) -> Verdict
+    requires { ⌜ dataAt store chunk index < sectorsOf (now volume) ⌝ }
+    ensures { λ r. ⌜ r ≡ verdictOf (store .head .id) id number (sectorAt (now (volume .entry)) (dataAt store chunk index)) ⌝ }
+{
+    let a = 512 * (data(store, chunk, index) as usize);
+    judge(&volume[a..a + 512], store.head.id, id, number)
+}
+
+// Reads and judges record `index` of a chunk.
 pub fn record(
     volume: &[u8],
     medium: Medium,
@@ -78,8 +127,8 @@ pub fn record(
     if let Outcome::No(e) = o {
         return Judged::Refused(e);
     }
-    let a = 512 * (at as usize);
-    judge(&volume[a..a + 512], store.head.id, id, number)
+    let v = judge_at(volume, store, id, chunk, index, number);
+    plain(v)
 }
 
 // Makes a record in its sector. The fields are put from the last to the first.

@@ -13,7 +13,7 @@ use lib.Seq.{paste, paste-suc, take-length, drop-length, drop-cons}
 use Rattle.le.specs.Part.{over, zeros}
 use Rattle.le.proofs.Parts.{length-zeros, getD-zeros}
 use Rattle.le.proofs.Turns.{drop-one, drop-end}
-use Rattle.runs.specs.Run.{startsWith, sameBytes, allZero}
+use Rattle.runs.specs.Run.{startsWith, sameBytes, allSame}
 
 -- one more element is copied
 pub copy-more : (d s : List ℕ) (at i : ℕ) → at + length s ≤ length d → i < length s → set (paste d at s i) (at + i) (getD s i 0) ≡ paste d at s (i + 1)
@@ -74,12 +74,12 @@ unfolding sameBytes
 pairs-end a b i h e = rw (drop-end a i h, drop-end b i (rw e at h))
 
 -- one more byte is tested
-pub zero-next : (l : List ℕ) (i : ℕ) (z : Bool) → i < length l → ((z && eqb (getD l i 0) 0) && allZero (drop (i + 1) l)) ≡ (z && allZero (drop i l))
-unfolding allZero
-zero-next l i true h = rw (drop-one l i h)
-zero-next l i false h = refl
+pub all-next : (b : ℕ) (l : List ℕ) (i : ℕ) (z : Bool) → i < length l → ((z && eqb (getD l i 0) b) && allSame b (drop (i + 1) l)) ≡ (z && allSame b (drop i l))
+unfolding allSame
+all-next b l i true h = rw (drop-one l i h)
+all-next b l i false h = refl
 
-pub zero-end : (l : List ℕ) (i : ℕ) (z : Bool) → length l ≤ i → (z && allZero (drop i l)) ≡ z
-unfolding allZero
-zero-end l i true h = rw (drop-end l i h)
-zero-end l i false h = refl
+pub all-end : (b : ℕ) (l : List ℕ) (i : ℕ) (z : Bool) → length l ≤ i → (z && allSame b (drop i l)) ≡ z
+unfolding allSame
+all-end b l i true h = rw (drop-end l i h)
+all-end b l i false h = refl

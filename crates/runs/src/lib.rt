@@ -3,7 +3,7 @@ ghost use mathlib.Core.Path.{_≡_};
 ghost use Prim.Native.Nat.{_+_, _≤_};
 ghost use lib.ListN.{length, drop};
 ghost use Rattle.le.specs.Part.{over, zeros};
-ghost use Rattle.runs.specs.Run.{startsWith, sameBytes, allZero};
+ghost use Rattle.runs.specs.Run.{startsWith, sameBytes, allSame, allZero};
 
 pub fn put_bytes(dst: &mut [u8], at: usize, src: &[u8])
     requires { ⌜ at + length (now src) ≤ length (now dst) ⌝ }
@@ -51,12 +51,18 @@ pub fn same(a: &[u8], b: &[u8]) -> bool
 }
 
 // Every byte is looked at: with no way out of the loop the compiler tests many at once.
+pub fn all_same(bytes: &[u8], byte: u8) -> bool
+    ensures { λ r. ⌜ r ≡ allSame byte (now (bytes .entry)) ⌝ }
+{
+    let mut same = true;
+    for i in 0..bytes.len() {
+        same = same & (bytes[i] == byte);
+    }
+    same
+}
+
 pub fn all_zero(bytes: &[u8]) -> bool
     ensures { λ r. ⌜ r ≡ allZero (now (bytes .entry)) ⌝ }
 {
-    let mut zero = true;
-    for i in 0..bytes.len() {
-        zero = zero & (bytes[i] == 0);
-    }
-    zero
+    all_same(bytes, 0)
 }

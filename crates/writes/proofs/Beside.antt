@@ -8,8 +8,10 @@ use native.Mathlib.Omega.{arith}
 use borrow.Author.Tests.{eq-eqb, eqb-true, leb-false, leb-true, lt-leb}
 use lib.Dec.{eqb, leb}
 use lib.ListN.{length, getD}
+use Rattle.le.specs.Tally.{tally}
 use Rattle.le.proofs.Choices.{pick-keeps, pick-keeps-by, pick-true, pick-false}
 use Rattle.le.proofs.Bools.{and-true, or-false, or-right}
+use Rattle.le.proofs.Tallies.{tally-le, tally-none}
 use Rattle.runs.specs.Run.{sameBytes}
 use Rattle.runs.proofs.Tests.{same-true}
 use Rattle.checksum.specs.Crc.{crc32Of}
@@ -40,8 +42,6 @@ use Rattle.safe.proofs.Current.{stands-choice, current-choice, current-stands}
 use Rattle.safe.proofs.Mounts.{beside}
 use Rattle.safe.proofs.Commit.{plan-good}
 use Rattle.safe.proofs.Unwritten.{commit-copies}
-use Rattle.layout.specs.Segments.{tally}
-use Rattle.layout.proofs.Tallies.{tally-le, tally-none}
 use Rattle.writes.specs.Writes.{Most}
 use Rattle.writes.proofs.Counts.{tally-wide, tally-either, tally-single}
 use Rattle.writes.proofs.Copies.{Leaves, commit-counted}

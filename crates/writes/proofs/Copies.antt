@@ -7,7 +7,9 @@ use mathlib.Core.List.{List}
 use native.Mathlib.Nat.{add-zero, zero-add}
 use native.Mathlib.Omega.{arith}
 use lib.Dec.{eqb}
+use Rattle.le.specs.Tally.{tally}
 use Rattle.le.proofs.Choices.{pick-keeps, pick-keeps-by}
+use Rattle.le.proofs.Tallies.{tally-le, tally-yes, tally-no}
 use Rattle.medium.specs.declared.Medium.{Medium}
 use Rattle.medium.specs.declared.Written.{Written}
 use Rattle.medium.specs.declared.Outcome.the-variants.{Done}
@@ -22,9 +24,6 @@ use Rattle.plan.specs.declared.Edit.{Edit}
 use Rattle.plan.specs.Edit.{headAfter}
 use Rattle.plan.specs.Copy.{Plan, Move, unread, matched, put, bad, BodyOut, Out, moveOf, actOf, bodySectorOf, bodyFrom, lastOf, firstOf, copyOut}
 use Rattle.commit.specs.Commit.{commitPlan, isCurrent, commitOf}
-use Rattle.layout.specs.Segments.{tally}
-use Rattle.layout.proofs.Tallies.{tally-le}
-use Rattle.folds.proofs.Numbered.{tally-yes, tally-no}
 use Rattle.writes.specs.Writes.{Most, commitMost}
 use Rattle.writes.proofs.Counts.{tally-on}
 

@@ -5,10 +5,9 @@ use mathlib.Core.Bool.{Bool, true, false, _||_}
 use native.Mathlib.Nat.{add-zero}
 use native.Mathlib.Omega.{arith}
 use Rattle.le.specs.Choice.{pick}
+use Rattle.le.specs.Tally.{tally}
 use Rattle.le.proofs.Choices.{pick-keeps-by}
-use Rattle.layout.specs.Segments.{tally}
-use Rattle.layout.proofs.Tallies.{tally-none}
-use Rattle.folds.proofs.Numbered.{tally-yes, tally-no}
+use Rattle.le.proofs.Tallies.{tally-none, tally-yes, tally-no}
 
 -- n more are at least as many
 pub tally-on : (f : ℕ → Bool) (n k : ℕ) → tally f k ≤ tally f (k + n)

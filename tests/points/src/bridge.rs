@@ -2,7 +2,7 @@
 //! those of the crates bridge and bridge_write have.
 use crate::model::{Item, Marked, Upto};
 use driver::script::State;
-use driver::{Medium, Reader};
+use driver::{Medium, Reader, hole_blanks};
 use port::bridge::{NO_APPENDER, Words, appender_words, medium_words, reader_words, store_words};
 
 #[link(name = "bridge_points", kind = "static")]
@@ -18,7 +18,7 @@ unsafe extern "C" {
     ) -> u32;
     fn port_upto_next(
         volume: *const u8, length: usize, medium: &mut [u64; 4], store: &[u64; 10], crcs: &[u32; 24],
-        reader: &mut [u64; 10], limit: &mut [u64; 1], out: *mut u8, out_length: usize, answer: &mut [u64; 3],
+        reader: &mut [u64; 10], limit: &mut [u64; 1], out: *mut u8, out_length: usize, answer: &mut [u64; 4],
     ) -> u32;
 }
 
@@ -26,8 +26,8 @@ unsafe extern "C" {
 #[derive(Clone, PartialEq, Eq)]
 pub struct Told {
     refusal: u32,
-    /// Of a setting: the record number, and 1 where MARKS was opened. Of next: what it found.
-    answer: [u64; 3],
+    /// Of a setting: the record number, and 1 where MARKS was opened. Of next: what it found, a hole with its blank sectors.
+    answer: [u64; 4],
     medium: [u64; 4],
     store: ([u64; 10], [u32; 24]),
     appender: Words,
@@ -40,7 +40,7 @@ impl Told {
     fn new(m: &Medium) -> Self {
         Told {
             refusal: 0,
-            answer: [0; 3],
+            answer: [0; 4],
             medium: medium_words(m),
             store: Default::default(),
             appender: NO_APPENDER,
@@ -55,8 +55,8 @@ impl Told {
         let mut told = Told::new(&st.m);
         let opened = u64::from(marked.appender.is_some());
         (told.refusal, told.answer) = match marked.answer {
-            Ok(record) => (0, [record.into(), opened, 0]),
-            Err(n) => (n, [0, opened, 0]),
+            Ok(record) => (0, [record.into(), opened, 0, 0]),
+            Err(n) => (n, [0, opened, 0, 0]),
         };
         told.store = store_words(st.store.as_ref().unwrap());
         told.appender = marked.appender.as_ref().map_or(NO_APPENDER, |a| appender_words(a, ([0; 40], 0)));
@@ -77,8 +77,11 @@ impl Told {
     pub fn gave(st: &State, upto: &Upto, item: &Result<Item, u32>, out: Vec<u8>) -> Self {
         let mut told = Told { reader: reader_words(&upto.reader), limit: upto.limit.into(), out, ..Told::new(&st.m) };
         match item {
-            Ok(Item::Payload(p)) => told.answer = [1, p.len() as u64, 0],
-            Ok(Item::Hole(from, to)) => told.answer = [2, (*from).into(), (*to).into()],
+            Ok(Item::Payload(p)) => told.answer = [1, p.len() as u64, 0, 0],
+            Ok(Item::Hole(from, to)) => {
+                let blank = hole_blanks(&st.m, st.store.as_ref().unwrap(), &upto.reader, *from, *to);
+                told.answer = [2, (*from).into(), (*to).into(), blank];
+            }
             Ok(Item::End) => {}
             Err(n) => told.refusal = *n,
         }
@@ -127,15 +130,16 @@ pub fn set_point(st: &State, point: &[u8], name: &[u8]) -> (Told, Vec<u8>) {
     let (mut told, mut volume) = (Told::new(&st.m), st.m.volume.clone());
     told.store = store_words(st.store.as_ref().unwrap());
     told.appender = Words { small: [u64::MAX; 10], buffer: [0xee; 486], dir: [0xee; 40] };
-    told.answer = [u64::MAX; 3];
+    let answer = &mut [u64::MAX; 3];
     let Words { small, buffer, dir } = &mut told.appender;
     // SAFETY: each pointer is that of a live slice of the length beside it.
     told.refusal = unsafe {
         port_set_point(
             volume.as_mut_ptr(), volume.len(), &mut told.medium, &mut told.store.0, &mut told.store.1,
-            point.as_ptr(), point.len(), name.as_ptr(), name.len(), &mut told.answer, small, buffer, dir,
+            point.as_ptr(), point.len(), name.as_ptr(), name.len(), answer, small, buffer, dir,
         )
     };
+    told.answer[..3].copy_from_slice(answer);
     (told, volume)
 }
 
@@ -154,7 +158,7 @@ pub fn read_point(st: &State, point: &[u8]) -> Told {
 
 /// The next of a reader up to a point by the port. `out`: what is lent.
 pub fn upto_next(st: &State, reader: &Reader, limit: u32, out: Vec<u8>) -> Told {
-    let mut told = Told { reader: reader_words(reader), answer: [u64::MAX; 3], out, ..Told::new(&st.m) };
+    let mut told = Told { reader: reader_words(reader), answer: [u64::MAX; 4], out, ..Told::new(&st.m) };
     let (store, crcs) = store_words(st.store.as_ref().unwrap());
     let (v, limit) = (&st.m.volume, &mut [limit.into()]);
     // SAFETY: as above.

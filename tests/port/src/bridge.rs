@@ -1,6 +1,6 @@
 //! The functions of crates/bridge and crates/bridge_write, and what crosses:
 //! numbers in the order that their src/lib.rt have.
-use driver::script::{Lent, Session, bytes_of, next_text, num, rows_text};
+use driver::script::{Lent, Session, bytes_of, hole, next_text, num, rows_text};
 use driver::{Appender, Medium, Next, Reader, Store, unhex};
 
 #[link(name = "bridge", kind = "static")]
@@ -21,7 +21,7 @@ unsafe extern "C" {
     ) -> u32;
     pub fn port_next(
         volume: *const u8, length: usize, medium: &mut [u64; 4], store: &[u64; 10], crcs: &[u32; 24],
-        reader: &mut [u64; 10], out: *mut u8, out_length: usize, answer: &mut [u64; 3],
+        reader: &mut [u64; 10], out: *mut u8, out_length: usize, answer: &mut [u64; 4],
     ) -> u32;
     pub fn port_seek(
         volume: *const u8, length: usize, medium: &mut [u64; 4], store: &[u64; 10], crcs: &[u32; 24],
@@ -110,6 +110,9 @@ pub fn appender_words(a: &Appender, unset: ([u8; 40], u64)) -> Words {
     Words { small, buffer: a.x_buffer(), dir }
 }
 
+/// A way to count the blank sectors of a hole: `driver::hole_blanks`, or a wrong one.
+pub type Count = fn(&Medium, &Store, &Reader, u32, u32) -> u64;
+
 /// What a call gave back.
 pub struct Told {
     text: String,
@@ -118,6 +121,8 @@ pub struct Told {
     store: ([u64; 10], [u32; 24]),
     /// Of reader, next and seek.
     reader: [u64; 10],
+    /// Of next: the blank sectors of a hole (02, S-4). The Rust has none: they are counted in the volume.
+    pub blank: u64,
     /// Of create, open_append, append and sync.
     appender: Words,
     /// The bytes lent for the name that delete_oldest tells.
@@ -129,7 +134,7 @@ pub struct Told {
 
 impl Told {
     /// From what the Rust left. A refused mount, format or reader gives a handle of zeros.
-    pub fn rust(session: &Session, call: &str, text: &str) -> Self {
+    pub fn rust(session: &Session, call: &str, text: &str, count: Count) -> Self {
         let st = &session.st;
         let accepted = text.starts_with("ok");
         let new = matches!(call, "mount" | "format");
@@ -149,6 +154,7 @@ impl Told {
             medium: medium_words(&st.m),
             store: store.unwrap_or_default(),
             reader: reader.map(reader_words).unwrap_or_default(),
+            blank: hole(text).map_or(0, |(from, to)| count(&st.m, st.store.as_ref().unwrap(), st.reader.as_ref().unwrap(), from, to)),
             appender,
             gone,
             lent: session.lent.clone(),
@@ -176,6 +182,9 @@ impl Told {
         }
         if self.reader != port.reader {
             return show("reader", format!("{:?}", self.reader), format!("{:?}", port.reader));
+        }
+        if self.blank != port.blank {
+            return show("blank sectors of the hole, counted in the volume", self.blank.to_string(), port.blank.to_string());
         }
         let (a, b) = (&self.appender, &port.appender);
         if a.small != b.small {
@@ -217,6 +226,7 @@ pub fn ask(session: &Session, w: &[&str]) -> Option<Told> {
         medium: medium_words(&st.m),
         store: Default::default(),
         reader: Default::default(),
+        blank: 0,
         appender: NO_APPENDER,
         gone: lent_name(),
         lent: session.lent.anew(),
@@ -276,7 +286,7 @@ pub fn ask(session: &Session, w: &[&str]) -> Option<Told> {
         }
         "next" => {
             told.reader = st.reader.as_ref().map(reader_words)?;
-            let out = &mut told.lent.out;
+            let (out, answer) = (&mut told.lent.out, &mut [u64::MAX; 4]);
             // SAFETY: as above.
             let no = unsafe {
                 port_next(
@@ -289,6 +299,8 @@ pub fn ask(session: &Session, w: &[&str]) -> Option<Told> {
                 (0, _) => next_text(Next::Hole { from: answer[1] as u32, to: answer[2] as u32 }, out),
                 _ => format!("no {no}"),
             };
+            // what is no hole has no count, and no number is left as it was
+            told.blank = answer[3];
         }
         "seek" => {
             told.reader = st.reader.as_ref().map(reader_words)?;

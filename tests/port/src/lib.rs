@@ -8,8 +8,9 @@ pub mod holds;
 pub mod make;
 pub mod world;
 pub mod writes;
-use bridge::Told;
-use driver::script::{Session, equal_generations, words};
+use bridge::{Count, Told};
+use driver::hole_blanks;
+use driver::script::{Session, equal_generations, hole, words};
 use std::collections::{BTreeMap, BTreeSet, VecDeque};
 use std::panic::{AssertUnwindSafe, catch_unwind};
 use writes::{Asked, Writes};
@@ -55,6 +56,39 @@ pub struct Tally {
     pub writes: Writes,
     /// Formats at equal generations, which are not of the common domain.
     equal: u64,
+    pub holes: Holes,
+}
+
+/// The holes that next gave, and their blank sectors (02, S-4).
+#[derive(Default)]
+pub struct Holes {
+    all: u64,
+    sectors: u64,
+    blank: u64,
+    none_blank: u64,
+    some_blank: u64,
+    all_blank: u64,
+}
+
+impl Holes {
+    fn count(&mut self, sectors: u64, blank: u64) {
+        self.all += 1;
+        self.sectors += sectors;
+        self.blank += blank;
+        match blank {
+            0 => self.none_blank += 1,
+            b if b == sectors => self.all_blank += 1,
+            _ => self.some_blank += 1,
+        }
+    }
+    pub fn show(&self) -> String {
+        let Holes { all, sectors, blank, none_blank, some_blank, all_blank } = self;
+        format!("holes: {all} of {sectors} sectors, {blank} blank; all blank {all_blank}, some {some_blank}, none {none_blank}")
+    }
+    /// Whether holes of every kind were seen.
+    pub fn every(&self) -> bool {
+        self.none_blank > 0 && self.some_blank > 0 && self.all_blank > 0
+    }
 }
 
 impl Tally {
@@ -80,11 +114,12 @@ impl Tally {
         };
         let mut text: Vec<_> = CALLS.iter().map(|(call, _)| line(call, &|c| c == *call)).collect();
         text.extend(self.writes.show());
+        text.push(self.holes.show());
         text.push(format!("geometries: {}; formats at equal generations: {}", self.geometries.len(), self.equal));
         text.push(line("no difference", &|_| true));
         text.join("\n")
     }
-    /// Each call's refusals that were not seen, and a format at equal generations if none was.
+    /// Each call's refusals that were not seen, a format at equal generations if none was, and holes with all, some and no blank sectors.
     pub fn missing(&self) -> Vec<String> {
         let mut none = vec![];
         for (call, refusals) in CALLS {
@@ -96,6 +131,9 @@ impl Tally {
         }
         if self.equal == 0 {
             none.push("format at equal generations".into());
+        }
+        if !self.holes.every() {
+            none.push(self.holes.show());
         }
         none
     }
@@ -115,11 +153,14 @@ pub struct Play<'a> {
     pub tally: &'a mut Tally,
     /// The last call with a law, and what the port wrote in it.
     pub last: Option<(Asked, u64)>,
+    /// How the blank sectors of a hole are counted in the volume, and the port's last count.
+    pub count: Count,
+    blank: u64,
 }
 
 impl<'a> Play<'a> {
     pub fn new(tally: &'a mut Tally) -> Self {
-        Play { session: Session::new(true), copies: Session::new(true), tally, last: None }
+        Play { session: Session::new(true), copies: Session::new(true), tally, last: None, count: hole_blanks, blank: 0 }
     }
 
     /// Holds the port's call to its law. What it spent is what it hands back less than it was given.
@@ -138,6 +179,8 @@ impl<'a> Play<'a> {
             Some(&"stops") => return self.stops(line),
             // how `oracle` prints, and which numbers it has: here those of the port
             Some(&"echo" | &"trace" | &"rule3") => return Ok(String::new()),
+            // of the last hole, as the port counted
+            Some(&"blank") => return Ok(format!("blank {}", self.blank)),
             _ => {}
         }
         if let Some(told) = w.first().and_then(|_| firmware::ask(&self.session, &mut self.copies, &w)) {
@@ -156,9 +199,13 @@ impl<'a> Play<'a> {
             if let (("format", 0), Some(s)) = ((w[0], refusal), &self.session.st.store) {
                 self.tally.geometries.insert((self.session.st.m.sectors(), s.chunk_sectors()));
             }
-            let rust = Told::rust(&self.session, w[0], &text);
+            let rust = Told::rust(&self.session, w[0], &text, self.count);
             if let Some(why) = rust.differs(&port, &self.session.st.m.volume) {
                 return Err(why);
+            }
+            if let Some((from, to)) = hole(&text) {
+                self.tally.holes.count((to - from).into(), port.blank);
+                self.blank = port.blank;
             }
         }
         Ok(text)

@@ -238,7 +238,7 @@ impl World {
 
     fn next(&mut self, told: &mut Told) -> u32 {
         let World { volume: v, medium: m, store: s, crcs: c, reader: r, .. } = self;
-        let (out, answer) = (&mut [0x5a_u8; 500], &mut [0; 3]);
+        let (out, answer) = (&mut [0x5a_u8; 500], &mut [0; 4]);
         let no = unsafe { port_next(v.as_ptr(), v.len(), m, s, c, r, out.as_mut_ptr(), out.len(), answer) };
         let length = if no == 0 && answer[0] == 1 { answer[1] as usize } else { 0 };
         told.next = match answer[0] {

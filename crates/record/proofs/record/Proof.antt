@@ -1,10 +1,9 @@
-use native.Mathlib.Nat.{add-sub-cancel-left}
-use Rattle.le.specs.Part.{part}
+use borrow.Author.Needs.{needs}
+use mathlib.Core.Path.{ap, _∙_}
 use Rattle.le.proofs.Turns.{told}
 use Rattle.medium.specs.Refusal.{onDone}
-use Rattle.medium.specs.Sector.{sectorAt}
-use Rattle.record.specs.Record.{readRecordOf}
-use borrow.Author.Needs.{needs}
+use Rattle.record.specs.Record.{plainOf, readRecordOf}
+use Rattle.record.proofs.Verdicts.{plain-judged}
 use Rattle.record.proofs.record.Statement.{statement}
 use Rattle.record.proofs.record.Tie as tie
 
@@ -26,30 +25,18 @@ returns c =
 enum-told : tie.Need-enum-told
 enum-told c = search needs
 
-mul-a : tie.Need-mul-a
-mul-a c = search needs
+judge-at-requires : tie.Need-judge-at-requires
+judge-at-requires c κs = search needs
 
-add-judge : tie.Need-add-judge
-add-judge c = search needs
-
-sub-judge : tie.Need-sub-judge
-sub-judge c = search needs
-
-part-judge-start : tie.Need-part-judge-start
-part-judge-start c = search needs
-
-part-judge-end : tie.Need-part-judge-end
-part-judge-end c = search needs
-
-judge-requires : tie.Need-judge-requires
-judge-requires c κs = search needs
+plain-requires : tie.Need-plain-requires
+plain-requires c κs = search needs
 
 returns-2 : tie.Need-returns-2
-unfolding readRecordOf onDone sectorAt part
+unfolding readRecordOf onDone
 returns-2 c =
     let at-readable = c .before .before .before .before in
     rw (← at-readable .before .«data» .ensures, told (at-readable .readable .ensures) (c .before .before .enum-told .given .1))
-    (simp add-sub-cancel-left at (c .judge .ensures))
+    (rw (at-readable .before .«data» .ensures) (c .plain .ensures ∙ ap plainOf (c .before .judge-at .ensures) ∙ plain-judged _ _ _ _))
 
 pub record-spec : {M : Type 1} → statement M
 record-spec =
@@ -60,10 +47,6 @@ record-spec =
     enum-known-o
     returns
     enum-told
-    mul-a
-    add-judge
-    sub-judge
-    part-judge-start
-    part-judge-end
-    judge-requires
+    judge-at-requires
+    plain-requires
     returns-2)

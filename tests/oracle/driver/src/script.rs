@@ -127,6 +127,12 @@ pub fn rows_text(rows: &[u8]) -> String {
     text
 }
 
+/// The numbers of a hole, if an answer is one.
+pub fn hole(text: &str) -> Option<(u32, u32)> {
+    let (from, to) = text.strip_prefix("ok hole ")?.split_once(' ')?;
+    Some((from.parse().ok()?, to.parse().ok()?))
+}
+
 pub fn next_text(next: Next, out: &[u8]) -> String {
     match next {
         Next::Record(n) if n > 40 => format!("ok payload {n} crc {:08x}", crc32(&out[..n])),
@@ -413,6 +419,8 @@ pub struct Session {
     pub st: State,
     pub lent: Lent,
     pub rule3: bool,
+    /// The blank sectors of the last hole (02, S-4).
+    blank: u64,
     saved: HashMap<String, State>,
     trace: bool,
     echo: bool,
@@ -425,6 +433,7 @@ impl Session {
             st: State { m: Medium::new(128 * 512), store: None, app: None, reader: None, token: 0 },
             lent: Lent::new(80, 3200, 500),
             rule3,
+            blank: 0,
             saved: HashMap::new(),
             trace: false,
             echo: false,
@@ -439,7 +448,7 @@ impl Session {
             return None;
         }
         let echoed = if self.echo { format!("{line:<40} ") } else { String::new() };
-        let Session { st, lent, rule3, saved, trace, echo } = self;
+        let Session { st, lent, rule3, blank, saved, trace, echo } = self;
         let n = |i: usize| w.get(i).and_then(|t| num(t));
         let echoing = *echo;
         let quiet = |t: &str| if echoing { t.to_string() } else { String::new() };
@@ -489,6 +498,10 @@ impl Session {
             "poke" => { // poke SECTOR OFFSET HEX
                 let at = n(1).unwrap() as usize * 512 + n(2).unwrap() as usize;
                 st.m.put(at, &unhex(w[3]).unwrap());
+                quiet("set")
+            }
+            "fill" => { // fill SECTOR BYTE
+                st.m.put(n(1).unwrap() as usize * 512, &[n(2).unwrap() as u8; 512]);
                 quiet("set")
             }
             "seal" => { st.m.seal(n(1).unwrap()); quiet("set") }
@@ -559,6 +572,7 @@ impl Session {
                 hex(&s[..4])
             }
             "say" => line.to_string(),
+            "blank" => format!("blank {blank}"),
             _ => {
                 st.m.begin();
                 st.m.spent = *rule3;
@@ -572,6 +586,9 @@ impl Session {
                     }
                     format!("panic {t}")
                 });
+                if let (Some((from, to)), Some(s), Some(behind)) = (hole(&r), &st.store, &st.reader) {
+                    *blank = hole_blanks(&st.m, s, behind, from, to);
+                }
                 if *trace {
                     format!(
                         "{r}\n  left={} token={} sum={:016x} writes={}\n  {}\n  {}\n  {}",

@@ -1,6 +1,6 @@
 use borrow.Author.Needs.{needs}
 use Rattle.reader.proofs.Facts.{usable-facts}
-use Rattle.reader.proofs.Offers.{next-short, next-no, next-done}
+use Rattle.reader.proofs.Offers.{next-short, next-no, next-passes, next-done}
 use Rattle.reader.proofs.Reader.next.Statement.{statement}
 use Rattle.reader.proofs.Reader.next.Tie as tie
 
@@ -30,16 +30,25 @@ advance-requires c κs =
     let u = usable-facts _ _ _ (at-check .check .ensures) (c .before .enum-told .given .1) in
     (u .0, u .1, at-check .before .if1 .left)
 
+counted-requires : tie.Need-counted-requires
+counted-requires c κs =
+    let at-advance = c .before .before .before in
+    let at-check = at-advance .before .before .before .before in
+    let a = at-check .before .before .before .before .args in
+    next-passes (a .volume .now) (a .medium) (a .store) (a .self) (a .out .now) (at-check .before .if1 .left) (at-check .check .ensures)
+    (at-advance .before .before .enum-told .given .1) (at-advance .advance .ensures .1)
+
 same-length : tie.Need-same-length
 same-length c = search needs
 
 returns-3 : tie.Need-returns-3
 returns-3 c =
-    let at-advance = c .before .before .before in
+    let at-advance = c .before .before .before .before in
     let at-check = at-advance .before .before .before .before in
     let a = at-check .before .before .before .before .args in
     next-done (a .volume .now) (a .medium) (a .store) (a .self) (a .out .now) (at-check .before .if1 .left) (at-check .check .ensures)
     (at-advance .before .before .enum-told .given .1) (at-advance .advance .ensures .0) (at-advance .advance .ensures .1)
+    (c .counted .ensures)
 
 pub next-spec : {M : Type 1} → statement M
 next-spec =
@@ -51,5 +60,6 @@ next-spec =
     returns-2
     enum-told
     advance-requires
+    counted-requires
     same-length
     returns-3)

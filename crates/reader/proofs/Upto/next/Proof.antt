@@ -1,6 +1,7 @@
 use borrow.Author.Needs.{needs}
 use Rattle.reader.proofs.Facts.{usable-facts}
 use Rattle.reader.proofs.Cuts.{upto-short, upto-no, upto-done}
+use Rattle.reader.proofs.Handed.{upto-passes}
 use Rattle.reader.proofs.Upto.next.Statement.{statement}
 use Rattle.reader.proofs.Upto.next.Tie as tie
 
@@ -27,16 +28,25 @@ below-requires c κs =
     let u = usable-facts _ _ _ (at-check .check .ensures) (c .before .enum-told .given .1) in
     (u .0, u .1, at-check .before .before .if1 .left)
 
+counted-requires : tie.Need-counted-requires
+counted-requires c κs =
+    let at-below = c .before .before .before in
+    let at-check = at-below .before .before .before .before in
+    let a = at-check .before .before .before .before .before .args in
+    upto-passes (a .volume .now) (a .medium) (a .store) (a .self) (a .out .now) (at-check .before .before .if1 .left) (at-check .check .ensures)
+    (at-below .before .before .enum-told .given .1) (at-below .below .ensures .1)
+
 same-length : tie.Need-same-length
 same-length c = search needs
 
 returns-3 : tie.Need-returns-3
 returns-3 c =
-    let at-below = c .before .before .before in
+    let at-below = c .before .before .before .before in
     let at-check = at-below .before .before .before .before in
     let a = at-check .before .before .before .before .before .args in
     upto-done (a .volume .now) (a .medium) (a .store) (a .self) (a .out .now) (at-check .before .before .if1 .left) (at-check .check .ensures)
     (at-below .before .before .enum-told .given .1) (at-below .below .ensures .0) (at-below .below .ensures .1)
+    (c .counted .ensures)
 
 pub next-spec : {M : Type 1} → statement M
 next-spec =
@@ -48,5 +58,6 @@ next-spec =
     returns-2
     enum-told
     below-requires
+    counted-requires
     same-length
     returns-3)

@@ -6,10 +6,10 @@
     believe.py --check  status 1 if the table in docs/PROOFS.md is another one
 
 A column counts what the columns before it do not need: the contracts of the calls on offer (demands 1 and 2); the claim of demand 3; old or new
-(S-7: what is claimed of a stop in a format); blank (S-4: the judge's answer, and the calls of before); points (S-1: their calls, and what is claimed of them over histories); the starred edges; how
-many writes a call makes; the hosts (the C calls and the line program). What is left serves proofs, contracts inside, and the comparison with
-the Rust: who trusts the checker need not read it. A line is one of a definition or of the comment right above it; imports, empty lines and heads
-of files are not counted."""
+(S-7: what is claimed of a stop in a format); blank (S-4: the judge's answer, and the calls of before); points (S-1: their calls, and what is
+claimed of them over histories); the starred edges; how many writes a call makes; the hosts (the C calls and the line program). What is left serves
+proofs, contracts inside, and the comparison with the Rust: who trusts the checker need not read it. A line is one of a definition or of the comment
+right above it; imports, empty lines and heads of files are not counted."""
 import os
 import re
 import sys

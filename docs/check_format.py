@@ -7,7 +7,7 @@ of tests/oracle. Taken out of the page, in its order, and run as one session on 
     ```stops CALL   the call with 0, 1, .. writes left, each from where the session stands
     <!-- table T sector=N [at=O] -->   T of draw.py; the example column must be the bytes there
 
-The Rust has no points, so these are made anew here:
+The Rust does not tell blank sectors: the answer to `blank` is the driver's count. It has no points, so these are made anew here:
 
     ```line POINT ID NUMBER   the line of a point, lines OFFSET HEX [note]
     ```says POINT             lines PAYLOAD and what it says of the point, with \\t, \\n, \\r

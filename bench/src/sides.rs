@@ -27,8 +27,8 @@ pub trait Side {
     fn next(&mut self) -> Option<usize>;
     /// How many records the hole has that comes next.
     fn hole(&mut self) -> u32;
-    /// The sectors of these records of the only file are as erased flash is.
-    fn erase(&mut self, records: std::ops::Range<u32>);
+    /// The sectors of these records of the only file with records, changed.
+    fn lose(&mut self, records: std::ops::Range<u32>, how: fn(&mut [u8]));
     fn volume(&self) -> &[u8];
     fn rows(&self) -> &[u8];
     fn out(&self) -> &[u8];
@@ -189,8 +189,8 @@ impl Side for Rust {
             _ => panic!("no hole"),
         }
     }
-    fn erase(&mut self, records: std::ops::Range<u32>) {
-        erase(&mut self.medium.volume, records);
+    fn lose(&mut self, records: std::ops::Range<u32>, how: fn(&mut [u8])) {
+        lose(&mut self.medium.volume, records, how);
     }
     fn volume(&self) -> &[u8] {
         &self.medium.volume
@@ -285,16 +285,29 @@ pub struct Port {
     out: [u8; 486],
 }
 
-fn erase(volume: &mut [u8], records: std::ops::Range<u32>) {
+fn lose(volume: &mut [u8], records: std::ops::Range<u32>, how: fn(&mut [u8])) {
     for sector in volume[64 * SECTOR_SIZE..].chunks_exact_mut(SECTOR_SIZE).filter(|s| s.starts_with(b"CSRD")) {
         if records.contains(&u32::from_le_bytes(sector[16..20].try_into().unwrap())) {
-            sector.fill(0xff);
+            how(sector);
         }
     }
 }
 
 fn done(no: u32) {
     assert_eq!(no, 0, "the port refused");
+}
+
+impl Port {
+    /// What comes next, in numbers.
+    #[inline(always)]
+    fn item(&mut self) -> [u64; 4] {
+        let Port { volume, medium, store, crcs, reader, out, item, .. } = self;
+        // SAFETY: as below.
+        done(unsafe {
+            port_next(volume.as_ptr(), volume.len(), medium, store, crcs, reader, out.as_mut_ptr(), out.len(), item)
+        });
+        *item
+    }
 }
 
 // SAFETY, of every call below: each pointer is that of a live slice of the length beside it, and no two overlap.
@@ -418,27 +431,21 @@ impl Side for Port {
     }
     #[inline(never)]
     fn next(&mut self) -> Option<usize> {
-        let Port { volume, medium, store, crcs, reader, out, item, .. } = self;
-        done(unsafe {
-            port_next(volume.as_ptr(), volume.len(), medium, store, crcs, reader, out.as_mut_ptr(), out.len(), item)
-        });
-        match item[0] {
-            0 => None,
-            1 => Some(item[1] as usize),
+        match self.item() {
+            [0, ..] => None,
+            [1, length, ..] => Some(length as usize),
             _ => panic!("a hole"),
         }
     }
     #[inline(never)]
     fn hole(&mut self) -> u32 {
-        let Port { volume, medium, store, crcs, reader, out, item, .. } = self;
-        done(unsafe {
-            port_next(volume.as_ptr(), volume.len(), medium, store, crcs, reader, out.as_mut_ptr(), out.len(), item)
-        });
-        assert_eq!(item[0], 2, "no hole");
-        (item[2] - item[1]) as u32
+        match self.item() {
+            [2, from, to, _] => (to - from) as u32,
+            _ => panic!("no hole"),
+        }
     }
-    fn erase(&mut self, records: std::ops::Range<u32>) {
-        erase(&mut self.volume, records);
+    fn lose(&mut self, records: std::ops::Range<u32>, how: fn(&mut [u8])) {
+        lose(&mut self.volume, records, how);
     }
     fn volume(&self) -> &[u8] {
         &self.volume

@@ -60,6 +60,20 @@ fn written<S: Side>(s: &mut S, records: usize) {
     s.append(&bytes(486 * records));
 }
 
+/// Of the log's first chunk all but the first and the last record are lost.
+fn lost<S: Side>(s: &mut S, how: fn(&mut [u8])) {
+    written(s, 480);
+    s.lose(1..63, how);
+    s.reader("log");
+}
+
+fn holes<S: Side>(s: &mut S, times: u32) {
+    for _ in 0..times {
+        s.seek(1);
+        assert_eq!(s.hole(), 62);
+    }
+}
+
 fn read_all<S: Side>(s: &mut S, records: u32) {
     s.reader("log");
     let mut n = 0;
@@ -124,9 +138,8 @@ pub fn table<S: Side>() -> Vec<Work<S>> {
             (0..100).for_each(|_| s.open_append("log"));
         }),
         work("read a file, by record", 128, SIZE, 1024, |s: &mut S| written(s, 1024), |s: &mut S| read_all(s, 1024)),
-        work("a hole of 62 erased sectors", 128, SIZE, 200, |s: &mut S| { written(s, 480); s.erase(1..63); s.reader("log") }, |s: &mut S| {
-            (0..200).for_each(|_| { s.seek(1); assert_eq!(s.hole(), 62) });
-        }),
+        work("a hole of 62 erased sectors", 128, SIZE, 200, |s: &mut S| lost(s, |sector| sector.fill(0xff)), |s: &mut S| holes(s, 200)),
+        work("a hole of 62 damaged records", 128, SIZE, 20, |s: &mut S| lost(s, |sector| sector[30] ^= 1), |s: &mut S| holes(s, 20)),
         work("seek to another chunk", 128, SIZE, 200, |s: &mut S| { written(s, 480); s.reader("log") }, |s: &mut S| {
             (0..200).for_each(|n| s.seek(n % 2 * 400));
         }),

@@ -1,5 +1,4 @@
--- S-4: the count of a hole's blank sectors: the ways out of its functions, over plain values; then what a hole's count is, by the places of its
--- sectors. Assumes nothing.
+-- S-4: the count of a hole's blank sectors. Each law is a way out of its function, over plain values. Assumes nothing.
 use mathlib.Core.Path.{_≡_, sym, ap, _∙_}
 use mathlib.Core.Bool.{Bool, true, false}
 use mathlib.Core.List.{List}
@@ -15,11 +14,8 @@ use Rattle.medium.specs.Sector.{sectorsOf, sectorAt}
 use Rattle.handles.specs.declared.Store.{Store}
 use Rattle.handles.specs.Handles.{storeOk}
 use Rattle.handles.proofs.Laws.{store-facts}
-use Rattle.record.specs.declared.Verdict.{Verdict}
-use Rattle.record.specs.declared.Verdict.the-variants.{Blank}
-use Rattle.record.specs.Record.{dataAt, verdictOf}
+use Rattle.record.specs.Record.{isBlank, dataAt}
 use Rattle.record.proofs.Laws.{data-inside}
-use Rattle.record.proofs.Verdicts.{blank-verdict, not-blank}
 use Rattle.reader.specs.declared.Reader.{Reader}
 use Rattle.reader.specs.Blank.{blankAt, blanksOf}
 use Rattle.reader.proofs.Facts.{Reads}
@@ -32,14 +28,14 @@ module _ (vol : List ℕ) (st : Store) (rd : Reader) (number : ℕ) where
       let h = store-facts st (sectorsOf vol) ok in
       data-inside st (rd .chunk) (number % st .head .chunk) (sectorsOf vol) (r .chunk) (mod-lt number (omega (arith, h .head .size-least))) (h .head .room)
 
-  module _ {v : Verdict} (judged : v ≡ verdictOf (st .head .id) (rd .id) number (sectorAt vol (dataAt st (rd .chunk) (number % st .head .chunk)))) where
-    pub blank-yes : v ≡ Blank → _≡_ {A = ℕ} 1 (pick (blankAt vol st rd number) 1 0)
+  module _ {b : Bool} (asked : b ≡ isBlank (sectorAt vol (dataAt st (rd .chunk) (number % st .head .chunk)))) where
+    pub blank-yes : b ≡ true → _≡_ {A = ℕ} 1 (pick (blankAt vol st rd number) 1 0)
     unfolding blankAt
-    blank-yes e = sym (pick-true 1 0 (blank-verdict _ _ _ _ (told judged e)))
+    blank-yes e = sym (pick-true 1 0 (told asked e))
 
-    pub blank-no : (v ≡ Blank → ⊥) → _≡_ {A = ℕ} 0 (pick (blankAt vol st rd number) 1 0)
+    pub blank-no : b ≡ false → _≡_ {A = ℕ} 0 (pick (blankAt vol st rd number) 1 0)
     unfolding blankAt
-    blank-no n = sym (pick-false 1 0 (not-blank _ _ _ _ (λ e. n (judged ∙ e))))
+    blank-no e = sym (pick-false 1 0 (told asked e))
 
 pub one-most : (b : Bool) (one : ℕ) → one ≡ pick b 1 0 → one ≤ 1
 unfolding pick

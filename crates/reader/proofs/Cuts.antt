@@ -112,7 +112,8 @@ module _ (vol : List ℕ) (m : Medium) (st : Store) (u : Upto) (out : List ℕ) 
     unfolding belowCall pick onDone
     upto-no q = rw (le-ltb _ _ enough, ← asked, q)
 
-    pub upto-done : {t : Taken} {l : List ℕ} {n : Next} → o ≡ Done → l ≡ belowOf (u .limit) vol m st (u .reader) out .out → t ≡ belowOf (u .limit) vol m st (u .reader) out .ans
-        → n ≡ countedOf vol st (t .reader) (t .next) → uptoAnswer (record { next = n; upto = sameLimit u (t .reader); medium = m }) l ≡ belowCall vol m st u out
+    pub upto-done : {t : Taken} {l : List ℕ} {n : Next} → o ≡ Done → l ≡ belowOf (u .limit) vol m st (u .reader) out .out
+        → t ≡ belowOf (u .limit) vol m st (u .reader) out .ans → n ≡ countedOf vol st (t .reader) (t .next)
+        → uptoAnswer (record { next = n; upto = sameLimit u (t .reader); medium = m }) l ≡ belowCall vol m st u out
     unfolding belowCall pick onDone
     upto-done q e f k = rw (le-ltb _ _ enough, ← asked, q, e, k, f)

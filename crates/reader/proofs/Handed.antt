@@ -97,9 +97,10 @@ module _ (limit : ℕ) (vol : List ℕ) (m : Medium) (st : Store) (out : List �
       (λ t. a .reads))
       (λ e o. a .reads))
 
--- before the count of a hole
-pub upto-passes : (vol : List ℕ) (m : Medium) (st : Store) (u : Upto) (out : List ℕ) {o : Outcome} {t : Taken} → 486 ≤ length out → o ≡ usableOf vol st (u .reader) → o ≡ Done
-    → t ≡ belowOf (u .limit) vol m st (u .reader) out .ans → (storeOk st (sectorsOf vol) ≡ true) × (readerOk (t .reader) st ≡ true)
+-- the reader behind what was found passes
+pub upto-passes : (vol : List ℕ) (m : Medium) (st : Store) (u : Upto) (out : List ℕ) {o : Outcome} {t : Taken} → 486 ≤ length out
+    → o ≡ usableOf vol st (u .reader) → o ≡ Done → t ≡ belowOf (u .limit) vol m st (u .reader) out .ans
+    → (storeOk st (sectorsOf vol) ≡ true) × (readerOk (t .reader) st ≡ true)
 upto-passes vol m st u out enough asked q e =
     let p = usable-facts vol st (u .reader) asked q in
     (p .0, rw e (reader-ok _ st (below-reads (u .limit) vol m st out (p .0) enough (u .reader) (reader-facts (u .reader) st (p .1)))))

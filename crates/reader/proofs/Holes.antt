@@ -43,7 +43,7 @@ module _ (vol : List ℕ) (m : Medium) (st : Store) (rd : Reader) where
     pub last : isLast (rd .end) ≡ true → to < limit
 
   -- what an answer tells, where there is more of the chunk or not
-  abbrev Tells : Bool → Found → Type 0
+  abbrev pub Tells : Bool → Found → Type 0
   Tells more (found.Refused e) = Unit {0}
   Tells more (found.Payload n) = Unit {0}
   Tells more (found.Hole a b) = HoleIs a b
@@ -71,7 +71,7 @@ module _ (vol : List ℕ) (m : Medium) (st : Store) (rd : Reader) where
         (λ t _. let e = and-true (isLast (rd .end)) (eqb to limit) t in (e .0, subst Invalid (eqb-true to limit (e .1)) (from-here other s)))
         (λ t. record { to = to; first = refl; past = refl; most = most; invalid = from-here other s; valid = s .there; last = last t }))
 
-    take-tells : (out : List ℕ) → Tells more (takeOf vol m st rd out .ans .next)
+    pub take-tells : (out : List ℕ) → Tells more (takeOf vol m st rd out .ans .next)
     unfolding takeOf
     take-tells out =
         onJudged-keeps (λ (o : NextOut). Tells more (o .ans .next)) (recordHere vol m st rd (rd .index)) _ _ _ (λ e. tt) (λ n q. tt) hole-tells

@@ -3,7 +3,6 @@ use super::Found;
 use super::Next;
 use super::Reader;
 use handles::Store;
-use record::Verdict;
 ghost use mathlib.Core.Path.{_≡_};
 ghost use mathlib.Core.Bool.{true};
 ghost use Rattle.le.specs.Choice.{pick};
@@ -13,18 +12,16 @@ ghost use Rattle.reader.specs.Reader.{readerOk};
 ghost use Rattle.reader.specs.Blank.{blankAt, blanksOf, countedOf};
 
 impl Reader {
-    // 1 where the judge finds the sector of record `number` blank, else 0. The record is one of the reader's chunk.
+    // 1 where the sector of record `number` is blank, else 0. The record is one of the reader's chunk.
     fn blank_at(self, volume: &[u8], store: Store, number: u32) -> u32
         requires { ⌜ (storeOk store (sectorsOf (now volume)) ≡ true) × (readerOk self store ≡ true) ⌝ }
         ensures { λ r. ⌜ r ≡ pick (blankAt (now (volume .entry)) store self number) 1 0 ⌝ }
     {
         let index = number % store.head.chunk;
-        let v = record::judge_at(volume, store, self.id, self.chunk, index, number);
-        match v {
-            Verdict::Valid(_) => 0,
-            Verdict::Blank => 1,
-            Verdict::Other => 0,
+        if record::is_blank_at(volume, store, self.chunk, index) {
+            return 1;
         }
+        0
     }
 
     // The blank sectors of records `from..to`.
@@ -39,7 +36,7 @@ impl Reader {
         blank
     }
 
-    // What this reader has passed. The call has read every sector of a hole, so that none can be refused here.
+    // What was found, as it is answered; this is the reader behind it. The call has read every sector of a hole, so none can be refused here.
     pub(crate) fn counted(self, volume: &[u8], store: Store, found: Found) -> Next
         requires { ⌜ (storeOk store (sectorsOf (now volume)) ≡ true) × (readerOk self store ≡ true) ⌝ }
         ensures { λ r. ⌜ r ≡ countedOf (now (volume .entry)) store self found ⌝ }

@@ -163,7 +163,8 @@ module _ (vol : List ℕ) (m : Medium) (st : Store) (G : ℕ → List Segment) (
     where
       go : Onward p i [] → (out : List ℕ) → 486 ≤ length out → (nextCall vol m st (at p i) out .answer ≡ ok end) × (standsAt st (nextCall vol m st (at p i) out .reader) ≡ ending)
       go (one t) out e = absurd (let a : _≡_ {A = List (List ℕ)} [] (t .x ∷ t .more) = t .first in let z : _≡_ {A = ℕ} 0 1 = cc in omega (arith, z))
-      go (over-now a b) out e = rw (called p i out h k e) (ap (λ (x : Found). nextAnswer (countedOf vol st (nextOf vol m st (at p i) out .ans .reader) x)) (b out .0), b out .1)
+      go (over-now a b) out e =
+          rw (called p i out h k e) (ap (λ (x : Found). nextAnswer (countedOf vol st (nextOf vol m st (at p i) out .ans .reader) x)) (b out .0), b out .1)
   gives (x ∷ xs) p i h k r = go (λ q j a b c. gives xs q j a b c) (onward (length (G s)) p i h k (omega arith) (x ∷ xs) r)
     where
       go : ((q j : ℕ) → q < length (G s) → j ≤ count q → rest (G s) q j ≡ xs → GivesTo vol m st (at q j) xs ending) → Onward p i (x ∷ xs) → (out : List ℕ) → 486 ≤ length out

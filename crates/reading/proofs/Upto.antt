@@ -227,7 +227,9 @@ module _ (vol : List ℕ) (m : Medium) (st : Store) (G : ℕ → List Segment) (
       where
         go : Ahead p i [] → (out : List ℕ) → 486 ≤ length out → belowCall vol m st (record { reader = at p i; limit = limit }) out .answer ≡ ok end
         go (one t) out e = absurd (let a : _≡_ {A = List (List ℕ)} [] (t .x ∷ t .more) = t .first in let z : _≡_ {A = ℕ} 0 1 = cc in omega (arith, z))
-        go (over-now a b) out e = ap (λ (c : UptoCall). c .answer) (asked p i out h k e) ∙ ap (λ (x : Found). nextAnswer (countedOf vol st (belowOf limit vol m st (at p i) out .ans .reader) x)) (b out)
+        go (over-now a b) out e =
+            ap (λ (c : UptoCall). c .answer) (asked p i out h k e)
+            ∙ ap (λ (x : Found). nextAnswer (countedOf vol st (belowOf limit vol m st (at p i) out .ans .reader) x)) (b out)
     upto (x ∷ xs) p i h k r = go (λ q j a b c. upto xs q j a b c) (ahead p i h k (x ∷ xs) r)
       where
         go : ((q j : ℕ) → q < length (G s) → j ≤ count q → until q j ≡ xs → GivesUpto vol m st (record { reader = at q j; limit = limit }) xs) → Ahead p i (x ∷ xs)

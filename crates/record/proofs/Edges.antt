@@ -1,6 +1,6 @@
 -- The edges of a blank sector hold, by computing. Assumes nothing.
 use mathlib.Core.Path.{_≡_, refl}
-use mathlib.Core.Bool.{true, false}
+use mathlib.Core.Bool.{true}
 use lib.ListN.{replicate}
 use Rattle.le.specs.Choice.{pick}
 use Rattle.runs.specs.Run.{startsWith, allSame}

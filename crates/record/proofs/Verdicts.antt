@@ -14,9 +14,8 @@ use Rattle.runs.specs.Run.{startsWith, allSame}
 use Rattle.runs.proofs.Tests.{all-first, all-starts}
 use Rattle.seal.specs.Seal.{isSealed}
 use Rattle.record.specs.declared.Judged.the-variants as judged
-use Rattle.record.specs.declared.Verdict.{Verdict}
 use Rattle.record.specs.declared.Verdict.the-variants.{Valid, Blank, Other}
-use Rattle.record.specs.Record.{mark, matchesOf, judgeOf, isBlank, verdictOf, plainOf}
+use Rattle.record.specs.Record.{mark, matchesOf, judgeOf, isBlank, verdictOf, heardOf}
 
 -- ---- a blank sector by its first byte
 
@@ -86,11 +85,11 @@ module _ (id file number : ℕ) (s : List ℕ) where
 
   -- ---- and all else is as 01 judges
 
-  pub plain-judged : plainOf (verdictOf id file number s) ≡ judgeOf id file number s
-  unfolding verdictOf judgeOf plainOf pick
-  plain-judged = go (getLe 2 20 s) (matchesOf id file number s && isSealed s) (isBlank s)
+  pub heard-judged : heardOf (verdictOf id file number s) ≡ judgeOf id file number s
+  unfolding verdictOf judgeOf heardOf pick
+  heard-judged = go (getLe 2 20 s) (matchesOf id file number s && isSealed s) (isBlank s)
     where
-      go : (n : ℕ) (b c : Bool) → plainOf (pick b (Valid n) (pick c Blank Other)) ≡ pick b (judged.Valid n) judged.Other
+      go : (n : ℕ) (b c : Bool) → heardOf (pick b (Valid n) (pick c Blank Other)) ≡ pick b (judged.Valid n) judged.Other
       go n true c = refl
       go n false true = refl
       go n false false = refl

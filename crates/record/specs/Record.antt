@@ -1,5 +1,5 @@
 -- 01, "Record": `CSRD`, store id at 4, file id at 12, number at 16 (position × chunk size + index), length 1 to 486 at 20, payload at 22, CRC at
--- 508 as in the header; other bytes are written 0 and not tested. Assumes nothing.
+-- 508 as in the header; other bytes are written 0 and not tested. 02, S-4: a sector that is no record is blank or other. Assumes nothing.
 use Prim.Native.Nat.{ℕ, _+_, _*_}
 use mathlib.Core.Bool.{Bool, _&&_, _||_}
 use mathlib.Core.List.{List, [], _∷_, _++_}
@@ -44,7 +44,8 @@ matchesOf id file number sector =
     && (eqb (getLe 8 4 sector) id && (eqb (getLe 4 12 sector) file && (eqb (getLe 4 16 sector) number
     && (leb 1 (getLe 2 20 sector) && leb (getLe 2 20 sector) 486))))
 
--- a sector judged: a valid record of this store, file and number, with its length, or not
+-- a sector as reading and reopening hear of it: a valid record of this store, file and number, with its length, or not. What `judge` answers is
+-- `verdictOf`, below
 unfoldable pub judgeOf : ℕ → ℕ → ℕ → List ℕ → Judged
 judgeOf id file number sector = pick (matchesOf id file number sector && isSealed sector) (Valid (getLe 2 20 sector)) Other
 
@@ -52,16 +53,16 @@ judgeOf id file number sector = pick (matchesOf id file number sector && isSeale
 unfoldable pub isBlank : List ℕ → Bool
 isBlank sector = allSame 0 sector || allSame 255 sector
 
--- S-4: what the judge answers: valid with its length, blank, or other
+-- S-4: what `judge` answers: valid with its length, blank, or other
 unfoldable pub verdictOf : ℕ → ℕ → ℕ → List ℕ → Verdict
 verdictOf id file number sector =
     pick (matchesOf id file number sector && isSealed sector) (verdict.Valid (getLe 2 20 sector)) (pick (isBlank sector) verdict.Blank verdict.Other)
 
--- as reading and reopening take it: a blank sector is another that is no record
-unfoldable pub plainOf : Verdict → Judged
-plainOf (verdict.Valid n) = Valid n
-plainOf verdict.Blank = Other
-plainOf verdict.Other = Other
+-- as reading and reopening hear it: a blank sector is another that is no record
+unfoldable pub heardOf : Verdict → Judged
+heardOf (verdict.Valid n) = Valid n
+heardOf verdict.Blank = Other
+heardOf verdict.Other = Other
 
 -- a decision by a judged record. It stays shut in proofs
 unfoldable pub onJudged : {A : Type 0} → Judged → (Error → A) → (ℕ → A) → A → A

@@ -8,7 +8,7 @@ ghost use mathlib.Core.Path.{_≡_};
 ghost use Prim.Native.Nat.{_≤_, _<_};
 ghost use lib.ListN.{length};
 ghost use Rattle.medium.specs.Sector.{sectorsOf, sectorAt};
-ghost use Rattle.record.specs.Record.{recordOf, matchesOf, isBlank, verdictOf, plainOf, dataAt, numberAt, readRecordOf, writeRecordOf};
+ghost use Rattle.record.specs.Record.{recordOf, matchesOf, isBlank, verdictOf, heardOf, dataAt, numberAt, readRecordOf, writeRecordOf};
 
 // What a data sector is found to be: unread, a record with so many bytes of payload, or anything else.
 pub enum Judged {
@@ -83,8 +83,8 @@ pub fn judge(sector: &[u8], id: u64, file: u32, number: u32) -> Verdict
 }
 
 // Reading and reopening ask only for a valid record.
-fn plain(verdict: Verdict) -> Judged
-    ensures { λ r. ⌜ r ≡ plainOf verdict ⌝ }
+fn heard(verdict: Verdict) -> Judged
+    ensures { λ r. ⌜ r ≡ heardOf verdict ⌝ }
 {
     match verdict {
         Verdict::Valid(n) => Judged::Valid(n),
@@ -93,23 +93,16 @@ fn plain(verdict: Verdict) -> Judged
     }
 }
 
-// Judges the sector of record `index` of a chunk, in the volume itself.
-pub fn judge_at(
-    volume: &[u8],
-    store: Store,
-    id: u32,
-    chunk: u32,
-    index: u32,
-    number: u32,
-) -> Verdict
+// The sector of record `index` of a chunk is blank. It is not judged: whether its checksum is right does not matter here.
+pub fn is_blank_at(volume: &[u8], store: Store, chunk: u32, index: u32) -> bool
     requires { ⌜ dataAt store chunk index < sectorsOf (now volume) ⌝ }
-    ensures { λ r. ⌜ r ≡ verdictOf (store .head .id) id number (sectorAt (now (volume .entry)) (dataAt store chunk index)) ⌝ }
+    ensures { λ r. ⌜ r ≡ isBlank (sectorAt (now (volume .entry)) (dataAt store chunk index)) ⌝ }
 {
     let a = 512 * (data(store, chunk, index) as usize);
-    judge(&volume[a..a + 512], store.head.id, id, number)
+    is_blank(&volume[a..a + 512])
 }
 
-// Reads and judges record `index` of a chunk.
+// Reads and judges record `index` of a chunk, in the volume itself.
 pub fn record(
     volume: &[u8],
     medium: Medium,
@@ -127,8 +120,9 @@ pub fn record(
     if let Outcome::No(e) = o {
         return Judged::Refused(e);
     }
-    let v = judge_at(volume, store, id, chunk, index, number);
-    plain(v)
+    let a = 512 * (at as usize);
+    let v = judge(&volume[a..a + 512], store.head.id, id, number);
+    heard(v)
 }
 
 // Makes a record in its sector. The fields are put from the last to the first.

@@ -88,6 +88,11 @@ impl Told {
         told
     }
 
+    /// Of next: the blank sectors of a hole.
+    pub fn blank(&self) -> u64 {
+        self.answer[3]
+    }
+
     /// What differs, in words.
     pub fn differs(&self, port: &Told) -> Option<String> {
         let show = |what: &str, model: String, port: String| Some(format!("{what}\nthe model {model}\nthe port {port}"));

@@ -72,14 +72,15 @@ pub struct Pair<'a> {
     pub upto: Option<Upto>,
     /// Of the last setting.
     pub opened: bool,
-    /// What the last upto_next gave.
+    /// What the last upto_next gave, and of a hole the port's count of blank sectors, which is the one made in the volume.
     pub item: Option<Item>,
+    pub blank: u64,
     saved: HashMap<String, Option<Upto>>,
 }
 
 impl<'a> Pair<'a> {
     pub fn new(tally: &'a mut Tally, counts: &'a mut Counts, fault: Fault) -> Self {
-        Pair { play: Play::new(tally), counts, model: Model { fault }, upto: None, opened: false, item: None, saved: HashMap::new() }
+        Pair { play: Play::new(tally), counts, model: Model { fault }, upto: None, opened: false, item: None, blank: 0, saved: HashMap::new() }
     }
 
     pub fn st(&self) -> &State {
@@ -172,12 +173,12 @@ impl<'a> Pair<'a> {
             return Err(why);
         }
         self.upto = Some(upto);
-        self.item = item.as_ref().ok().cloned();
+        (self.item, self.blank) = (item.as_ref().ok().cloned(), port.blank());
         Ok(item)
     }
 
-    /// All that a reader up to a point gives, without its end.
-    pub fn read_up(&mut self, point: &[u8]) -> Result<Result<Vec<Item>, u32>, String> {
+    /// All that a reader up to a point gives, without its end, and of each the blank sectors.
+    pub fn read_up(&mut self, point: &[u8]) -> Result<Result<Vec<(Item, u64)>, u32>, String> {
         if let Err(n) = self.read_point(point)? {
             return Ok(Err(n));
         }
@@ -186,7 +187,7 @@ impl<'a> Pair<'a> {
             match self.upto_next()? {
                 Err(n) => return Ok(Err(n)),
                 Ok(Item::End) => return Ok(Ok(items)),
-                Ok(item) => items.push(item),
+                Ok(item) => items.push((item, self.blank)),
             }
         }
     }

@@ -133,7 +133,7 @@ impl Tally {
             none.push("format at equal generations".into());
         }
         if !self.holes.every() {
-            none.push(self.holes.show());
+            none.push(format!("a hole with all, some or none of its sectors blank ({})", self.holes.show()));
         }
         none
     }

@@ -1,9 +1,12 @@
 use borrow.Author.Needs.{needs}
 use mathlib.Core.Path.{ap, _∙_}
+use native.Mathlib.Nat.{add-sub-cancel-left}
+use Rattle.le.specs.Part.{part}
 use Rattle.le.proofs.Turns.{told}
 use Rattle.medium.specs.Refusal.{onDone}
-use Rattle.record.specs.Record.{plainOf, readRecordOf}
-use Rattle.record.proofs.Verdicts.{plain-judged}
+use Rattle.medium.specs.Sector.{sectorAt}
+use Rattle.record.specs.Record.{heardOf, readRecordOf}
+use Rattle.record.proofs.Verdicts.{heard-judged}
 use Rattle.record.proofs.record.Statement.{statement}
 use Rattle.record.proofs.record.Tie as tie
 
@@ -25,18 +28,33 @@ returns c =
 enum-told : tie.Need-enum-told
 enum-told c = search needs
 
-judge-at-requires : tie.Need-judge-at-requires
-judge-at-requires c κs = search needs
+mul-a : tie.Need-mul-a
+mul-a c = search needs
 
-plain-requires : tie.Need-plain-requires
-plain-requires c κs = search needs
+add-judge : tie.Need-add-judge
+add-judge c = search needs
+
+sub-judge : tie.Need-sub-judge
+sub-judge c = search needs
+
+part-judge-start : tie.Need-part-judge-start
+part-judge-start c = search needs
+
+part-judge-end : tie.Need-part-judge-end
+part-judge-end c = search needs
+
+judge-requires : tie.Need-judge-requires
+judge-requires c κs = search needs
+
+heard-requires : tie.Need-heard-requires
+heard-requires c κs = search needs
 
 returns-2 : tie.Need-returns-2
-unfolding readRecordOf onDone
+unfolding readRecordOf onDone sectorAt part
 returns-2 c =
-    let at-readable = c .before .before .before .before in
-    rw (← at-readable .before .«data» .ensures, told (at-readable .readable .ensures) (c .before .before .enum-told .given .1))
-    (rw (at-readable .before .«data» .ensures) (c .plain .ensures ∙ ap plainOf (c .before .judge-at .ensures) ∙ plain-judged _ _ _ _))
+    let at-readable = c .before .before .before .before .before in
+    rw (← at-readable .before .«data» .ensures, told (at-readable .readable .ensures) (c .before .before .before .enum-told .given .1))
+    (c .heard .ensures ∙ ap heardOf (simp add-sub-cancel-left at (c .before .judge .ensures)) ∙ heard-judged _ _ _ _)
 
 pub record-spec : {M : Type 1} → statement M
 record-spec =
@@ -47,6 +65,11 @@ record-spec =
     enum-known-o
     returns
     enum-told
-    judge-at-requires
-    plain-requires
+    mul-a
+    add-judge
+    sub-judge
+    part-judge-start
+    part-judge-end
+    judge-requires
+    heard-requires
     returns-2)

@@ -207,15 +207,20 @@ pub fn bad_reader(r: &Reader, store: &Store) -> bool {
         || r.x_end().is_some_and(|e| e > size)
 }
 
-/// FNV-1a of 64 bits, by which volumes are compared. Not a CRC-32: that of a volume does not
-/// change with what stands in a sector that ends in its own CRC-32, as headers and records do.
-/// 02, S-4: how many sectors of a hole are blank, from the volume and the reader that stands behind the hole.
-pub fn hole_blanks(m: &Medium, store: &Store, behind: &Reader, from: u32, to: u32) -> u64 {
+/// The sectors of a hole, from the reader that stands behind it.
+pub fn hole_sectors(store: &Store, behind: &Reader, from: u32, to: u32) -> std::ops::Range<u64> {
     let end = 64 + u64::from(behind.x_chunk()) * u64::from(store.chunk_sectors()) + u64::from(behind.x_index());
-    let blank = |n: &u64| [0, 255].iter().any(|byte| m.sector(*n).iter().all(|b| b == byte));
-    (end - u64::from(to - from)..end).filter(blank).count() as u64
+    end - u64::from(to - from)..end
 }
 
+/// 02, S-4: how many of them are blank.
+pub fn hole_blanks(m: &Medium, store: &Store, behind: &Reader, from: u32, to: u32) -> u64 {
+    let blank = |n: &u64| [0, 255].iter().any(|byte| m.sector(*n).iter().all(|b| b == byte));
+    hole_sectors(store, behind, from, to).filter(blank).count() as u64
+}
+
+/// FNV-1a of 64 bits, by which volumes are compared. Not a CRC-32: that of a volume does not
+/// change with what stands in a sector that ends in its own CRC-32, as headers and records do.
 pub fn sum(bytes: &[u8]) -> u64 {
     bytes.iter().fold(0xcbf29ce484222325, |h, b| (h ^ u64::from(*b)).wrapping_mul(0x100000001b3))
 }

@@ -80,7 +80,7 @@ impl Desk<'_> {
         found
     }
 
-    /// What a reader up to the point gives: `aa, bb, end`, holes as `from..to`.
+    /// What a reader up to the point gives: `aa, bb, end`, holes as `from..to` and how many of their sectors are blank, if any.
     fn up(&mut self, point: &str) -> String {
         let read = self.mounted(|d| d.pair.read_up(point.as_bytes()));
         let items = match self.same(&format!("read {point}"), read) {
@@ -88,9 +88,10 @@ impl Desk<'_> {
             Err(n) => return format!("no {n}"),
         };
         let shown = items.iter().map(|i| match i {
-            Item::Payload(p) => text(p),
-            Item::Hole(a, b) => format!("hole {a}..{b}"),
-            Item::End => unreachable!(),
+            (Item::Payload(p), _) => text(p),
+            (Item::Hole(a, b), 0) => format!("hole {a}..{b}"),
+            (Item::Hole(a, b), n) => format!("hole {a}..{b} with {n} blank"),
+            (Item::End, _) => unreachable!(),
         });
         shown.chain(["end".into()]).collect::<Vec<_>>().join(", ")
     }
@@ -219,11 +220,15 @@ fn lines_by_hand(d: &mut Desk) {
     }
 }
 
-fn holes(d: &mut Desk) {
-    // `a` with records r0 .. r6 in chunk 0, sectors 64 ..
+/// `a` with records r0 .. r6 in chunk 0, sectors 64 ..
+fn seven(d: &mut Desk) {
     d.volume(128, 8);
     d.file("a", &[b"r0", b"r1", b"r2", b"r3", b"r4", b"r5", b"r6"]);
     d.accepted("save base");
+}
+
+fn holes(d: &mut Desk) {
+    seven(d);
     for (k, at, limit, want) in [
         ("G1", vec![3u64, 4], 4, "r0, r1, r2, hole 3..4, end"),
         ("G2", vec![3, 4], 5, "r0, r1, r2, hole 3..5, end"),
@@ -250,6 +255,34 @@ fn holes(d: &mut Desk) {
         let got = d.up("p");
         d.row(k, &format!("`a`: chunk 0 partial with 2 records, r4 in chunk 1; MARKS by hand `p` 1 {limit}; read up to `p`"), want, got);
     }
+}
+
+/// S-4: a hole has the blank sectors of as much of it as is given.
+fn blank_sectors(d: &mut Desk) {
+    seven(d);
+    for (k, limit, want) in [
+        ("G17", 7, "r0, hole 1..5 with 2 blank, r5, r6, end"),
+        ("G18", 5, "r0, hole 1..5 with 2 blank, end"),
+        ("G19", 4, "r0, hole 1..4 with 1 blank, end"),
+        ("G20", 2, "r0, hole 1..2 with 1 blank, end"),
+        ("G21", 1, "r0, end"),
+    ] {
+        d.accepted("load base");
+        d.file(MARKS, &[&line(b"p", 1, limit)]);
+        ["fill 65 255", "fill 68 0"].iter().for_each(|l| d.accepted(l));
+        [66, 67].iter().for_each(|s| d.damage(*s));
+        let got = d.up("p");
+        d.row(k, &format!("`a` of 7 records, size 8, MARKS by hand `p` 1 {limit}; record 1 erased, 2 and 3 damaged, 4 zeroed; read up to `p`"), want, got);
+    }
+    // records r0 .. r3 in chunk 0, r4 .. in chunk 1: the count is of the chunk that the reader enters
+    d.volume(128, 4);
+    d.file("a", &[b"r0", b"r1", b"r2", b"r3", b"r4", b"r5", b"r6", b"r7", b"r8"]);
+    d.file(MARKS, &[&line(b"p", 1, 6)]);
+    ["fill 68 255", "fill 70 0"].iter().for_each(|l| d.accepted(l));
+    d.damage(69);
+    let got = d.up("p");
+    let input = "`a` of 9 records, size 4, MARKS by hand `p` 1 6; record 4 erased, 5 damaged, 6 zeroed; read up to `p`";
+    d.row("G22", input, "r0, r1, r2, r3, hole 4..6 with 1 blank, end", got);
 }
 
 fn lost_lines(d: &mut Desk) {
@@ -386,6 +419,7 @@ fn main() {
     lines_by_hand(&mut d);
     holes(&mut d);
     lost_lines(&mut d);
+    blank_sectors(&mut d);
     stops(&mut d);
     full(&mut d);
     older_stores(&mut d);

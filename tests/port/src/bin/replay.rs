@@ -1,6 +1,7 @@
 //! Runs recorded scripts on the Rust and the port:   replay FILE..
-//! Fails at the first difference, if a call, a refusal that it can give or a format at
-//! equal generations did not occur, or if there were fewer than 20,000 calls.
+//! Fails at the first difference, if a call, a refusal that it can give, a format at equal
+//! generations or a hole with all, some or none of its sectors blank did not occur, or if there
+//! were fewer than 20,000 calls.
 use port::{Tally, play};
 
 fn main() {

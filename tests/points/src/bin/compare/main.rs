@@ -29,7 +29,7 @@ fn main() {
         k += 1;
     }
     println!("seed {}: {k} rounds\n{}\n{}", args.seed, tally.show(), counts.show());
-    println!("held against the plain reader {}, with a hole at the limit {}, refused {}", cuts.read, cuts.holes, cuts.refused);
+    println!("held against the plain reader {}, with a hole at the limit {}, of these with blank sectors {}, refused {}", cuts.read, cuts.holes, cuts.blank, cuts.refused);
     let wrong = counts.wrong();
     println!("{}", if wrong.is_empty() { "every refusal occurred, and no other".into() } else { wrong.join(", ") });
     println!("{} calls on both, {} of S-1, no difference", tally.calls() + counts.calls(), counts.calls());

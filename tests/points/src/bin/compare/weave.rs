@@ -18,8 +18,9 @@ pub struct Weaver<'a> {
 #[derive(Default)]
 pub struct Cuts {
     pub read: u64,
-    /// The last that came was a hole that ends at the limit.
+    /// The last that came was a hole that ends at the limit; and with blank sectors.
     pub holes: u64,
+    pub blank: u64,
     pub refused: u64,
 }
 
@@ -212,7 +213,7 @@ impl<'a> Weaver<'a> {
     }
 
     fn held(&mut self, want: (Vec<Item>, Option<u32>), limit: u32) -> Done {
-        let mut items = vec![];
+        let (mut items, mut blank) = (vec![], 0);
         let refusal = loop {
             let answer = self.say("upto_next".into())?;
             match self.pair.item.take() {
@@ -220,9 +221,12 @@ impl<'a> Weaver<'a> {
                 Some(Item::End) => break None,
                 Some(item) => items.push(item),
             }
+            blank = self.pair.blank;
         };
         self.cuts.read += 1;
-        self.cuts.holes += u64::from(matches!(items.last(), Some(Item::Hole(_, to)) if *to == limit));
+        let cut = matches!(items.last(), Some(Item::Hole(_, to)) if *to == limit);
+        self.cuts.holes += u64::from(cut);
+        self.cuts.blank += u64::from(cut && blank > 0);
         self.cuts.refused += u64::from(refusal.is_some());
         if (&items, refusal) == (&want.0, want.1) { Ok(()) } else { Err(format!("up to {limit}: {items:?} {refusal:?}, the plain reader's {want:?}")) }
     }

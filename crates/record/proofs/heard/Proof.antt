@@ -1,7 +1,7 @@
 use borrow.Author.Needs.{needs}
-use Rattle.record.specs.Record.{plainOf}
-use Rattle.record.proofs.plain.Statement.{statement}
-use Rattle.record.proofs.plain.Tie as tie
+use Rattle.record.specs.Record.{heardOf}
+use Rattle.record.proofs.heard.Statement.{statement}
+use Rattle.record.proofs.heard.Tie as tie
 
 enum-known-verdict : tie.Need-enum-known-verdict
 enum-known-verdict c = search needs
@@ -13,16 +13,16 @@ enum-told-2 : tie.Need-enum-told-2
 enum-told-2 c = search needs
 
 returns : tie.Need-returns
-unfolding plainOf
+unfolding heardOf
 returns c = rw (c .before .verdict .given .1)
 
 returns-2 : tie.Need-returns-2
-unfolding plainOf
+unfolding heardOf
 returns-2 c = rw (c .enum-told .given .1)
 
 returns-3 : tie.Need-returns-3
-unfolding plainOf
+unfolding heardOf
 returns-3 c = rw (c .enum-told2 .given .1)
 
-pub plain-spec : {M : Type 1} → statement M
-plain-spec = tie.close (tie.spec enum-known-verdict enum-told enum-told-2 returns returns-2 returns-3)
+pub heard-spec : {M : Type 1} → statement M
+heard-spec = tie.close (tie.spec enum-known-verdict enum-told enum-told-2 returns returns-2 returns-3)

@@ -76,13 +76,6 @@ module _ (id file number : ℕ) (s : List ℕ) where
       go n false true q = refl
       go n false false q = absurd (let z : _≡_ {A = ℕ} 0 1 = cc in omega arith)
 
-  pub not-blank : (verdictOf id file number s ≡ Blank → ⊥) → isBlank s ≡ false
-  not-blank n = go (isBlank s) refl
-    where
-      go : (b : Bool) → isBlank s ≡ b → b ≡ false
-      go true q = absurd (n (verdict-blank q))
-      go false q = refl
-
   -- ---- and all else is as 01 judges
 
   pub heard-judged : heardOf (verdictOf id file number s) ≡ judgeOf id file number s

@@ -8,6 +8,8 @@ use mathlib.Core.List.{List, [], _∷_, _++_}
 use native.Mathlib.Omega.{arith}
 use Rattle.le.specs.Choice.{pick}
 use Rattle.le.proofs.Choices.{pick-keeps, pick-true, pick-false}
+use Rattle.runs.specs.Split.{longer, splitAt}
+use Rattle.names.specs.Names.{beginsDot, someDot, dotted}
 use Rattle.marks.specs.Line.{marksName, lineOf}
 use Rattle.medium.specs.declared.Medium.{Medium}
 use Rattle.medium.specs.declared.Outcome.{Outcome}
@@ -28,11 +30,12 @@ use Rattle.store.proofs.Opens.{open-still}
 use Rattle.points.specs.Look.{Place, absent, unset, line, askedPoint, onPlace, lookOf, endOf}
 use Rattle.points.specs.Set.{SetCall, notSet, setBy, openOf, thenAppend, thenSync, markOf, setFrom, setCall}
 use Rattle.points.specs.Reading.{PointCall, noPoint, uptoOf, pointCall}
-use Rattle.power.specs.Calls.{Call, append, sync}
+use Rattle.power.specs.Calls.{earlier, Call, create, openAppend, append, sync}
 use Rattle.power.specs.Book.{newBook}
 use Rattle.power.specs.History.{World, Ran, isOk, ifOk, ranCreate, ran, after, bookOf}
 use Rattle.power.specs.Claim.{Holds, started}
 use Rattle.power.proofs.History.{no-batch-lost, weaker}
+use Rattle.power.proofs.Dots.{create-either, open-either}
 use Rattle.hatch.specs.Acts.{Act, call, setPoint, readPoint, nextUpto, withMedium, lent, setIn, afterSet, acted, afterActs, thenCalls, openingCall, lineCalls, fromEnd, settingCalls, callsOf, callsIn}
 use Rattle.hatch.specs.Claim.{Alike, CountsAsCalls, accepts, SetByCalls, Demand3Acts, Demand3ActsWeaker}
 use Rattle.hatch.proofs.Alike.{alike-after}
@@ -52,6 +55,17 @@ module _ (w : World) where
   opened-ran false =
       let s = open-still (w .vol) (w .medium) (w .store) marksName false [] in
       rw (s .0, s .1)
+
+-- S-5: it is the same by the rules from before that request
+marks-plain : dotted marksName ≡ false
+unfolding pick longer splitAt beginsDot someDot dotted
+marks-plain = refl
+
+pub opening-either : (w : World) (fresh : Bool) (left : ℕ)
+    → ran w (openingCall fresh left) ≡ ran w (pick fresh (create earlier left marksName false []) (openAppend earlier left marksName false []))
+unfolding openingCall pick
+opening-either w true left = create-either w left marksName false [] marks-plain
+opening-either w false left = open-either w left marksName false [] marks-plain
 
 -- ---- the three calls of a line, and what they leave
 

@@ -38,8 +38,8 @@ same-lent : (c : Call) (w : World) → Same w (lent 0 w) c
 unfolding ran fedBy Given
 same-lent (mount m) w = record { world = refl; book = λ b. refl; steps = refl; into = λ g. g; back = λ g. g }
 same-lent (format m size seed) w = record { world = refl; book = λ b. refl; steps = refl; into = λ g. g; back = λ g. g }
-same-lent (create left name rolls dir) w = record { world = refl; book = λ b. refl; steps = refl; into = λ g. g; back = λ g. g }
-same-lent (openAppend left name rolls dir) w = record { world = refl; book = λ b. refl; steps = refl; into = λ g. g; back = λ g. g }
+same-lent (create rules left name rolls dir) w = record { world = refl; book = λ b. refl; steps = refl; into = λ g. g; back = λ g. g }
+same-lent (openAppend rules left name rolls dir) w = record { world = refl; book = λ b. refl; steps = refl; into = λ g. g; back = λ g. g }
 same-lent (append left bytes) w = record { world = refl; book = λ b. refl; steps = refl; into = λ g. g; back = λ g. g }
 same-lent (sync left) w = record { world = refl; book = λ b. refl; steps = refl; into = λ g. g; back = λ g. g }
 same-lent (delete left name) w = record { world = refl; book = λ b. refl; steps = refl; into = λ g. g; back = λ g. g }

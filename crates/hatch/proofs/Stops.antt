@@ -23,7 +23,7 @@ use Rattle.store.specs.Writing.{formatCall}
 use Rattle.points.specs.Look.{askedPoint}
 use Rattle.points.specs.Set.{markOf}
 use Rattle.points.proofs.Offers.{asked-passed, asked-short}
-use Rattle.power.specs.Calls.{Call, create, openAppend, append, sync}
+use Rattle.power.specs.Calls.{present, Call, create, openAppend, append, sync}
 use Rattle.power.specs.Book as book
 use Rattle.power.specs.Book.{File, Book, Terms, termsOf, withChunk, withPayload, withoutName, newBook}
 use Rattle.power.specs.History.{World, isOk, withLeft, ran, fedBy, after, bookOf, Given, EachStep, Premise}
@@ -100,31 +100,31 @@ module _ (w : World) (b : Fine) (k : Keeps w b) (left : ℕ) where
   opened fresh = written (openingCall fresh left) (fedBy w (openingCall fresh left)) b
 
   abbrev making : Call
-  making = create left marksName false []
+  making = create present left marksName false []
 
   made-files : ran w making .accepted ≡ true
       → written making (fedBy w making) b .files ≡ b .files ++ (record { name = marksName; id = b .next; chunks = 1; payloads = [] } ∷ [])
   unfolding book.written book.enteredAll book.entered book.beforeSteps book.afterSteps termsOf pick
   made-files a =
-      ap (λ (x : Book). x .files) (forget-written making (fedBy w making) b) ∙ rw (told-fed w making (create-told w b k left marksName [] a))
+      ap (λ (x : Book). x .files) (forget-written making (fedBy w making) b) ∙ rw (told-fed w making (create-told present w b k left marksName [] a))
 
-  quiet : fedBy w (openAppend left marksName false []) .kinds ≡ []
+  quiet : fedBy w (openAppend present left marksName false []) .kinds ≡ []
   unfolding fedBy ran
   quiet = refl
 
   opening-kept : (fresh : Bool) → Kept (b .files) (opened fresh .files)
   unfolding openingCall pick
-  opening-kept false = subst (Kept (b .files)) (sym (still-files (openAppend left marksName false []) w b quiet)) (refl, refl)
+  opening-kept false = subst (Kept (b .files)) (sym (still-files (openAppend present left marksName false []) w b quiet)) (refl, refl)
   opening-kept true = go (ran w making .accepted) refl
     where
       go : (t : Bool) → ran w making .accepted ≡ t → Kept (b .files) (opened true .files)
       go true a = subst (Kept (b .files)) (sym (made-files a)) (marks-new (b .next) (b .files), others-new (b .next) (b .files))
-      go false a = subst (λ (x : Fine). Kept (b .files) (x .files)) (sym (create-unmade w b k left marksName [] a)) (refl, refl)
+      go false a = subst (λ (x : Fine). Kept (b .files) (x .files)) (sym (create-unmade present w b k left marksName [] a)) (refl, refl)
 
   opening-begun : (fresh : Bool) → ran w (openingCall fresh left) .accepted ≡ true → Begun marksName [] (ran w (openingCall fresh left) .world) (opened fresh)
   unfolding openingCall pick
-  opening-begun true a = create-begun w b k left marksName [] a
-  opening-begun false a = open-begun w b k left marksName [] a
+  opening-begun true a = create-begun present w b k left marksName [] a
+  opening-begun false a = open-begun present w b k left marksName [] a
 
 -- `MARKS` is opened: the append is accepted, and the sync decides
 module _ (w : World) (b : Fine) (k : Keeps w b) (fresh : Bool) (left₁ left₂ left₃ : ℕ) (bytes : List ℕ) (few : length bytes < 486) (some : bytes ≢ []) where

@@ -15,7 +15,7 @@ use Rattle.store.specs.Asked.{askedName}
 use Rattle.points.specs.Look.{askedPoint, onPlace, lookOf, endOf}
 use Rattle.points.specs.Set.{SetCall, setCall}
 use Rattle.points.specs.Reading.{pointCall}
-use Rattle.power.specs.Calls.{Call, create, openAppend, append, sync}
+use Rattle.power.specs.Calls.{present, Call, create, openAppend, append, sync}
 use Rattle.power.specs.History.{World, withLeft, ran}
 
 -- a setting gets its writes left anew, as a call that can write; a read up to a point gets any such reader
@@ -58,9 +58,10 @@ afterActs w (a ∷ acts) = afterActs (acted w a) acts
 unfoldable pub thenCalls : World → Call → (World → List Call) → List Call
 thenCalls w c next = c ∷ pick (ran w c .accepted) (next (ran w c .world)) []
 
--- `MARKS` made if absent, else opened, with no rollover
+-- `MARKS` made if absent, else opened, with no rollover. By the rules from before S-5 these are the same calls (proofs/Acts
+-- `opening-either`)
 unfoldable pub openingCall : Bool → ℕ → Call
-openingCall fresh left = pick fresh (create left marksName false []) (openAppend left marksName false [])
+openingCall fresh left = pick fresh (create present left marksName false []) (openAppend present left marksName false [])
 
 -- opened, appended, synced: the first refused call is the last, and each gets the writes that the one before it left
 unfoldable pub lineCalls : Bool → List ℕ → World → List Call

@@ -1,4 +1,4 @@
--- 01, "Refused because of the input" and ".. of the state": the twelve refusals and their numbers; 13 to 15 are 02's, of S-1. Assumes nothing.
+-- 01, "Refused because of the input" and ".. of the state": the twelve refusals and their numbers; 13 to 15 are 02's, of S-1, and 16 of S-5. Assumes nothing.
 use Prim.Native.Nat.{ℕ}
 use Rattle.medium.specs.declared.Error.{Error}
 use Rattle.medium.specs.declared.Error.the-variants as no
@@ -22,6 +22,7 @@ numberOf no.Spent = 12
 numberOf no.Point = 13
 numberOf no.Known = 14
 numberOf no.Lost = 15
+numberOf no.Dotted = 16
 
 -- what a call on offer answers, as 01 has it: the values of an accepted call, or the number of a refusal
 pub data Answer (A : Type 0) : Type 0 where

@@ -32,6 +32,7 @@ pub enum Error {
     Point,
     Known,
     Lost,
+    Dotted,
 }
 
 pub enum Outcome {
@@ -64,6 +65,7 @@ pub fn number(e: Error) -> u32
         Error::Point => 13,
         Error::Known => 14,
         Error::Lost => 15,
+        Error::Dotted => 16,
     }
 }
 

@@ -1,4 +1,4 @@
--- The edges of 01's rule for names and directories, computed from the definitions. Assumes nothing.
+-- The edges of 01's rule for names and directories, and those of a name with dots, computed from the definitions. Assumes nothing.
 use Prim.Native.Nat.{ℕ}
 use mathlib.Core.Path.{_≡_, refl}
 use mathlib.Core.Bool.{true, false}
@@ -6,7 +6,8 @@ use mathlib.Core.List.{List, [], _∷_, _++_}
 use lib.ListN.{replicate}
 use Rattle.le.specs.Choice.{pick}
 use Rattle.runs.specs.Split.{longer, splitAt}
-use Rattle.names.specs.Names.{plainByte, everyByte, noneEmpty, nameOk, lastByte, allButLast, dirOk}
+use Rattle.names.specs.Names.{plainByte, everyByte, noneEmpty, nameOk, lastByte, allButLast, dirOk, beginsDot, someDot, dotted}
+use Rattle.names.specs.Edges as dots
 
 -- n bytes `a`, and the same with `/` after them
 abbrev letters : ℕ → List ℕ
@@ -46,4 +47,27 @@ edges =
       dir-40 = refl;
       dir-41 = refl;
       open-dir = refl;
+    }
+
+pub dot-edges : dots.Edges
+unfolding pick plainByte everyByte longer splitAt noneEmpty nameOk lastByte allButLast dirOk beginsDot someDot dotted
+dot-edges =
+    record {
+      first = (refl, refl);
+      second = (refl, refl);
+      before-slash = (refl, refl);
+      third = (refl, refl);
+      dot = (refl, refl);
+      two = (refl, refl);
+      between = (refl, refl);
+      within = (refl, refl);
+      ends = (refl, refl);
+      last = (refl, refl);
+      hyphen = (refl, refl);
+      underscore = (refl, refl);
+      forty = (refl, refl);
+      forty-one = refl;
+      slash = refl;
+      double = refl;
+      directory = refl;
     }

@@ -22,11 +22,11 @@ scan fresh (b ∷ bs) = fine fresh b && scan (isSlash b) bs
 
 -- ---- the pass is the split: where no segment starts the first one has bytes already
 
-abbrev others : List (List ℕ) → List (List ℕ)
+abbrev pub others : List (List ℕ) → List (List ℕ)
 others [] = []
 others (s ∷ ss) = ss
 
-abbrev left : Bool → List (List ℕ) → List (List ℕ)
+abbrev pub left : Bool → List (List ℕ) → List (List ℕ)
 left true ss = ss
 left false ss = others ss
 

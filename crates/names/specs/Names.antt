@@ -69,3 +69,18 @@ everyPlain (b ∷ bs) = plainByte b && everyPlain bs
 -- 1 to 16 of them
 unfoldable pub pointOk : List ℕ → Bool
 pointOk l = between 1 16 (length l) && everyPlain l
+
+-- ---- S-5: names that are retired. `nameOk` still takes them, since entries keep them
+
+-- a segment begins with `.`
+unfoldable pub beginsDot : List ℕ → Bool
+beginsDot [] = false
+beginsDot (b ∷ bs) = eqb b 46
+
+unfoldable pub someDot : List (List ℕ) → Bool
+someDot [] = false
+someDot (s ∷ ss) = beginsDot s || someDot ss
+
+-- one of the name's segments does
+unfoldable pub dotted : List ℕ → Bool
+dotted l = someDot (segments l)

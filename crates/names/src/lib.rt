@@ -2,7 +2,7 @@
 ghost use mathlib.Core.Path.{_≡_};
 ghost use Prim.Native.Nat.{_≤_};
 ghost use lib.ListN.{length};
-ghost use Rattle.names.specs.Names.{plainByte, nameOk, dirOk, inDir, textLen, pointOk};
+ghost use Rattle.names.specs.Names.{plainByte, nameOk, dirOk, inDir, textLen, pointOk, dotted};
 
 // The most bytes of a name, and of a directory with its `/`.
 pub const NAME: usize = 40;
@@ -95,4 +95,19 @@ pub fn point_ok(bytes: &[u8]) -> bool
         }
     }
     true
+}
+
+// S-5: a segment begins with a dot. One pass, as in `name_ok`: `fresh` says that a segment starts here.
+pub fn dotted(bytes: &[u8]) -> bool
+    ensures { λ r. ⌜ r ≡ dotted (now (bytes .entry)) ⌝ }
+{
+    let mut fresh = true;
+    for i in 0..bytes.len() {
+        let b = bytes[i];
+        if fresh & (b == b'.') {
+            return true;
+        }
+        fresh = b == b'/';
+    }
+    false
 }

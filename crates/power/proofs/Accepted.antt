@@ -32,10 +32,10 @@ use Rattle.store.specs.Asked.{askedOf}
 use Rattle.store.specs.Writing.{deleteCall, oldestTold, oldestCall}
 use Rattle.store.specs.Opening.{openFine}
 use Rattle.writes.specs.Writes.{commitMost}
-use Rattle.power.specs.Calls.{format, create, sync, delete, deleteOldest}
+use Rattle.power.specs.Calls.{Rules, format, create, sync, delete, deleteOldest}
 use Rattle.power.specs.Book.{File, Book, mayGo}
 use Rattle.power.specs.History.{World, withLeft, ranOldest, ran, openOf}
-use Rattle.power.specs.Room.{Tells, CanCommit, HasRoom}
+use Rattle.power.specs.Room.{Tells, Allows, CanCommit, HasRoom}
 use Rattle.power.proofs.Fine.{newFine}
 use Rattle.power.proofs.Whole.{fileOf, Booked, same-files}
 use Rattle.power.proofs.Checks.{inv-checked}
@@ -68,12 +68,12 @@ module _ (w : World) (b : Book) (k : Booked w b) (left : ℕ) (can : CanCommit w
 
   -- ---- create of a new name
 
-  module _ (name : List ℕ) (rolls : Bool) (dir : List ℕ) (fine : openFine name rolls dir ≡ true) (new : (f : File) → List·Memᴰ f (b .files) → f .name ≡ name → ⊥)
+  module _ (rules : Rules) (name : List ℕ) (rolls : Bool) (dir : List ℕ) (allows : Allows rules name) (fine : openFine name rolls dir ≡ true) (new : (f : File) → List·Memᴰ f (b .files) → f .name ≡ name → ⊥)
       (has : HasRoom w b) where
-    pub create-made : Made w left name rolls dir
-    create-made = create-makes w left name rolls dir (k .keeps) fine (λ f h. new f (rw (same-files k) at h)) can (subst (HasRoom w) (sym (k .same)) has)
+    pub create-made : Made rules w left name rolls dir
+    create-made = create-makes rules w left name rolls dir (k .keeps) allows fine (λ f h. new f (rw (same-files k) at h)) can (subst (HasRoom w) (sym (k .same)) has)
 
-    pub create-accepted : Tells w (create left name rolls dir) (created ∷ [])
+    pub create-accepted : Tells w (create rules left name rolls dir) (created ∷ [])
     create-accepted = rw (create-made .is) (refl, refl)
 
   -- ---- delete_oldest: a file of the book may go and one goes, or none may and no step is made

@@ -32,11 +32,11 @@ use Rattle.append.specs.Calls.{callOf}
 use Rattle.files.specs.declared.Rollover.{Rollover}
 use Rattle.files.specs.Opened.{refusedAt, nextToken, withToken, writtenBy, newAppender, openedOut}
 use Rattle.files.specs.Create.{Next, makeOut, overOut, roundOut, createFrom}
-use Rattle.store.specs.Opening.{rolloverOf, opening, createCall}
+use Rattle.store.specs.Opening.{rolloverOf}
 use Rattle.layout.specs.Views.{vacant}
 use Rattle.folds.proofs.Named.{Look, look-view}
 use Rattle.folds.proofs.Chunks.{free-chunk}
-use Rattle.power.specs.Calls.{create}
+use Rattle.power.specs.Calls.{Rules, create}
 use Rattle.power.specs.Book as book
 use Rattle.power.specs.Book.{Terms, ifSet, termsOf}
 use Rattle.power.specs.History.{World, isOk, ifOk, withLeft, ranCreate, ran, fedBy, EachStep}
@@ -48,6 +48,7 @@ use Rattle.power.proofs.Removing.{gone-keeps}
 use Rattle.power.proofs.Oldest.{oldest-stopped, oldest-none, oldest-made}
 use Rattle.power.proofs.Steps.{kindsOf}
 use Rattle.power.proofs.Asks.{Directed, directed-set, Opens, asked-opens}
+use Rattle.power.proofs.Rules.{admits-asked, create-by}
 use Rattle.power.proofs.Making.{make-stopped, make-done, made-keeps}
 
 pub steps-done : (kind : Kind) (o : Out) → o .ans .outcome ≡ Done → stepsOf kind o ≡ (record { kind = kind; skipped = o .skipped }) ∷ []
@@ -160,16 +161,17 @@ module _ (t : Terms) (over : Rollover) (spares : t .spared ≡ none) (directed :
   create-ends zero w b k = refused-ends t w b _ k
   create-ends (suc n) w b k = round-ends w b k (createFrom n (t .name) over) (create-ends n)
 
-pub create-keeps : (w : World) (b : Fine) → Keeps w b → (left : ℕ) (name : List ℕ) (rolls : Bool) (dir : List ℕ) → EachStep Distinct (ran w (create left name rolls dir) .steps)
-    → Keeps (ran w (create left name rolls dir) .world) (written (create left name rolls dir) (fedBy w (create left name rolls dir)) b)
-unfolding ran written fedBy termsOf beforeSteps book.beforeSteps afterSteps book.afterSteps createCall opening rolloverOf Ends closing
-create-keeps w b k left name rolls dir =
+pub create-keeps : (rules : Rules) (w : World) (b : Fine) → Keeps w b → (left : ℕ) (name : List ℕ) (rolls : Bool) (dir : List ℕ) → EachStep Distinct (ran w (create rules left name rolls dir) .steps)
+    → Keeps (ran w (create rules left name rolls dir) .world) (written (create rules left name rolls dir) (fedBy w (create rules left name rolls dir)) b)
+unfolding ran written fedBy termsOf beforeSteps book.beforeSteps afterSteps book.afterSteps rolloverOf Ends closing
+create-keeps rules w b k left name rolls dir =
     let m : Medium = withLeft left (w .medium) in
     let w′ : World = record { vol = w .vol; store = w .store; appender = w .appender; medium = m } in
     let k′ : Keeps w′ b = record { layout = k .layout; whole = k .whole; owns = k .owns; readable = k .readable } in
     let t : Terms = record { name = name; dir = ifSet rolls dir; spared = none } in
-    onDone-keeps (Ends t w′ b) _ _ _
+    rw (create-by (w .vol) (w .store) name rolls dir rules m)
+    (onDone-keeps (Ends t w′ b) _ _ _
     (λ d.
-    let a : Opens name rolls dir = asked-opens (w .vol) (w .store) name rolls dir d in
+    let a : Opens name rolls dir = asked-opens (w .vol) (w .store) name rolls dir (admits-asked (w .vol) (w .store) name rolls dir rules d) in
     create-ends t (rolloverOf rolls dir) refl (a .directed) (a .name-fine) 2 w′ b k′)
-    (λ e d. refused-ends t w′ b e k′)
+    (λ e d. refused-ends t w′ b e k′))

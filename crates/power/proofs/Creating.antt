@@ -33,18 +33,19 @@ use Rattle.files.specs.declared.Rollover.{Rollover}
 use Rattle.files.specs.Opened.{nextToken, withToken, writtenBy, newAppender, openedOut}
 use Rattle.files.specs.Create.{overOut, createFrom, createOf}
 use Rattle.store.specs.Asked.{askedOf}
-use Rattle.store.specs.Opening.{rolloverOf, openFine, opening, createCall}
+use Rattle.store.specs.Opening.{rolloverOf, openFine}
 use Rattle.writes.specs.Writes.{commitMost, createMost}
 use Rattle.writes.proofs.Removals.{oldest-beside}
 use Rattle.writes.proofs.Beside.{create-plain}
-use Rattle.power.specs.Calls.{create}
+use Rattle.power.specs.Calls.{Rules, create}
 use Rattle.power.specs.Book.{File, Book, mayGo}
-use Rattle.power.specs.History.{World, ifOk, withLeft, ran, EachStep}
-use Rattle.power.specs.Room.{Tells, CanCommit, HasRoom, chunksIn}
+use Rattle.power.specs.History.{World, ifOk, withLeft, createBy, ran, EachStep}
+use Rattle.power.specs.Room.{Tells, Allows, CanCommit, HasRoom, chunksIn}
 use Rattle.power.proofs.Fine.{Fine, forget}
 use Rattle.power.proofs.Whole.{Keeps, Booked, same-files}
 use Rattle.power.proofs.Members.{keep-mem, isNot}
 use Rattle.power.proofs.Asks.{set-dir, asked-opens}
+use Rattle.power.proofs.Rules.{admits-done, create-by}
 use Rattle.power.proofs.Shown.{asked}
 use Rattle.power.proofs.Removing.{gone-readable}
 use Rattle.power.proofs.Oldest.{Went, oldest-made}
@@ -53,7 +54,7 @@ use Rattle.power.proofs.Counting.{slots-most, chunks-most}
 use Rattle.power.proofs.Rounds.{creation, Makes, round-lacks, round-makes}
 use Rattle.power.proofs.Going.{Goer, oldest-goes, went-files, went-chunks}
 
-module _ (w : World) (left : ℕ) (name : List ℕ) (rolls : Bool) (dir : List ℕ) where
+module _ (rules : Rules) (w : World) (left : ℕ) (name : List ℕ) (rolls : Bool) (dir : List ℕ) where
   abbrev m : Medium
   m = withLeft left (w .medium)
 
@@ -69,7 +70,7 @@ module _ (w : World) (left : ℕ) (name : List ℕ) (rolls : Bool) (dir : List �
     pub chunk : ℕ
     pub out : Out
     pub head : out .ans .store .head ≡ withCrcs (headAfter (Create slot id chunk) (w .store .head)) (out .ans .store .head .crcs)
-    pub is : ran w (create left name rolls dir) ≡ record {
+    pub is : ran w (create rules left name rolls dir) ≡ record {
       world = record {
         vol = out .vol;
         store = writtenBy (nextToken (out .ans .medium)) id (out .ans .store);
@@ -80,16 +81,15 @@ module _ (w : World) (left : ℕ) (name : List ℕ) (rolls : Bool) (dir : List �
       steps = (record { kind = created; skipped = out .skipped }) ∷ [];
     }
 
-  module _ {b : Fine} (k : Keeps w b) (fine : openFine name rolls dir ≡ true) where
+  module _ {b : Fine} (k : Keeps w b) (allows : Allows rules name) (fine : openFine name rolls dir ≡ true) where
     short : nameOk name ≡ true
     short = and-true (nameOk name) (not rolls || dirOk dir) fine .0
 
     asks : askedOf (w .vol) (w .store) (openFine name rolls dir) ≡ Done
     asks = asked (w .vol) m (w .store) (k .layout) b (k .whole) (k .readable) (openFine name rolls dir) fine
 
-    call-is : createCall (w .vol) m (w .store) name rolls dir ≡ callOf (createOf name over (w .vol) m (w .store))
-    unfolding createCall opening
-    call-is = ap callOf (onDone-done _ _ asks)
+    call-is : createBy rules (w .vol) m (w .store) name rolls dir ≡ callOf (createOf name over (w .vol) m (w .store))
+    call-is = create-by (w .vol) (w .store) name rolls dir rules m ∙ ap callOf (onDone-done _ _ (admits-done (w .vol) (w .store) name rolls dir rules allows asks))
 
     -- ---- there is room
 
@@ -114,21 +114,21 @@ module _ (w : World) (left : ℕ) (name : List ℕ) (rolls : Bool) (dir : List �
 
   -- the header: a generation more, the shape as it was
   module _ (x : Made) where
-    pub made-chunks : ran w (create left name rolls dir) .world .store .head .chunks ≡ w .store .head .chunks
+    pub made-chunks : ran w (create rules left name rolls dir) .world .store .head .chunks ≡ w .store .head .chunks
     unfolding headAfter
     made-chunks = rw (x .is) (ap (λ (h : Header). h .chunks) (x .head))
 
-    pub made-size : ran w (create left name rolls dir) .world .store .head .chunk ≡ w .store .head .chunk
+    pub made-size : ran w (create rules left name rolls dir) .world .store .head .chunk ≡ w .store .head .chunk
     unfolding headAfter
     made-size = rw (x .is) (ap (λ (h : Header). h .chunk) (x .head))
 
-    pub made-generation : ran w (create left name rolls dir) .world .store .head .generation ≡ w .store .head .generation + 1
+    pub made-generation : ran w (create rules left name rolls dir) .world .store .head .generation ≡ w .store .head .generation + 1
     unfolding headAfter
     made-generation = rw (x .is) (ap (λ (h : Header). h .generation) (x .head))
 
 -- ---- room is lacking, and a file of the rollover's directory may go
 
-module _ (w : World) (b : Book) (k : Booked w b) (left : ℕ) (name dir : List ℕ) (fine : openFine name true dir ≡ true) (new : (f : File) → List·Memᴰ f (b .files) → f .name ≡ name → ⊥)
+module _ (rules : Rules) (w : World) (b : Book) (k : Booked w b) (left : ℕ) (name dir : List ℕ) (allows : Allows rules name) (fine : openFine name true dir ≡ true) (new : (f : File) → List·Memᴰ f (b .files) → f .name ≡ name → ⊥)
     (lacks : (length (b .files) ≡ 64) ⊎ (chunksIn (b .files) ≡ w .store .head .chunks)) (f : File) (has : List·Memᴰ f (b .files)) (goes : mayGo dir none f ≡ true)
     (ids : b .next ≡ 2 ^ 32 - 1 → ⊥) (gens : w .store .head .generation + 2 ≤ 2 ^ 64 - 1) (enough : createMost true (w .store .head .chunks) ≤ left) where
   abbrev n : Medium
@@ -146,7 +146,7 @@ module _ (w : World) (b : Book) (k : Booked w b) (left : ℕ) (name dir : List �
   set : (roll .rolls ≡ true) × (dirBytes (roll .dir) ≡ dir)
   set =
       set-dir (roll .rolls) (dirBytes (roll .dir)) dir
-      (sym (asked-opens (w .vol) (w .store) name true dir (asks w left name true dir (k .keeps) fine) .directed .same ∙ pick-true _ _ refl))
+      (sym (asked-opens (w .vol) (w .store) name true dir (asks rules w left name true dir (k .keeps) allows fine) .directed .same ∙ pick-true _ _ refl))
 
   two : commitMost (w .store .head .chunks) + (2 + tableOf (w .store .head .chunks) + 2) ≤ left
   unfolding pick
@@ -169,10 +169,10 @@ module _ (w : World) (b : Book) (k : Booked w b) (left : ℕ) (name dir : List �
       ∙ pick-true _ _ (set .0) ∙ onDone-done _ _ (gone .within .0) ∙ pick-true _ _ (gone .any)
 
   -- then there is room, under the premise on the sectors that the removal left unwritten
-  module _ (each : EachStep Distinct (ran w (create left name true dir) .steps)) where
-    steps-are : ran w (create left name true dir) .steps ≡ rolling (x .skipped) ++ onward .steps
+  module _ (each : EachStep Distinct (ran w (create rules left name true dir) .steps)) where
+    steps-are : ran w (create rules left name true dir) .steps ≡ rolling (x .skipped) ++ onward .steps
     unfolding ran
-    steps-are = rw (call-is w left name true dir (k .keeps) fine, create-is) refl
+    steps-are = rw (call-is rules w left name true dir (k .keeps) allows fine, create-is) refl
 
     each-gone : EachSkipped Distinct (x .skipped)
     unfolding EachStep
@@ -194,7 +194,7 @@ module _ (w : World) (b : Book) (k : Booked w b) (left : ℕ) (name dir : List �
     then-done : (slot chunk : ℕ) → creation name (x .vol) (x .ans .medium) (x .ans .store) slot chunk .ans .outcome ≡ Done
     then-done slot chunk =
         commit-after (Create slot (x .ans .store .head .«next_id») chunk) name (x .vol) (x .ans .medium) (x .ans .store) (went .gone .whole .inv) reads
-        (create-plain slot (x .ans .store .head .«next_id») chunk) (name-short name (short w left name true dir (k .keeps) fine)) fresh
+        (create-plain slot (x .ans .store .head .«next_id») chunk) (name-short name (short rules w left name true dir (k .keeps) allows fine)) fresh
         (oldest-beside (w .vol) n (w .store) (record { ok = k .keeps .whole .inv .ok; count = k .keeps .whole .inv .range .count }) (dirBytes (roll .dir)) false 0 (gone .any)) ample .0
 
     makes : Makes name (x .vol) (x .ans .medium) (x .ans .store) roll onward
@@ -205,6 +205,6 @@ module _ (w : World) (b : Book) (k : Booked w b) (left : ℕ) (name dir : List �
         round-makes (x .vol) (x .ans .medium) (x .ans .store) (went .gone .whole) reads name (λ g h. new′ g (keep-mem (isNot (went .id)) g (k .fine .files) h .0)) roll (createFrom 0 name roll)
         (λ e. ids (ap (λ (x : Book). x .next) (sym (k .same)) ∙ e)) then-done (omega (arith, slots, went-files (k .keeps .whole) went)) (omega (arith, chunks, went-chunks (k .keeps .whole) went, gone .chunks))
 
-    pub create-rolls : Tells w (create left name true dir) (rolledOver ∷ created ∷ [])
+    pub create-rolls : Tells w (create rules left name true dir) (rolledOver ∷ created ∷ [])
     unfolding ran openedOut
-    create-rolls = rw (call-is w left name true dir (k .keeps) fine, create-is, makes .1 .1) (refl, refl)
+    create-rolls = rw (call-is rules w left name true dir (k .keeps) allows fine, create-is, makes .1 .1) (refl, refl)

@@ -92,8 +92,8 @@ openedFor id dir b = beside (book.openedFor id dir (forget b)) (b .parts) (b .id
 abbrev formats : Call → (ℕ → ℕ) → ℕ → ℕ
 formats (format m size seed) f n = f size
 formats (mount m) f n = n
-formats (create left name rolls dir) f n = n
-formats (openAppend left name rolls dir) f n = n
+formats (create rules left name rolls dir) f n = n
+formats (openAppend rules left name rolls dir) f n = n
 formats (append left bytes) f n = n
 formats (sync left) f n = n
 formats (delete left name) f n = n

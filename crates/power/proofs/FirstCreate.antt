@@ -49,8 +49,12 @@ use Rattle.layout.proofs.Unchanged.{fresh-good}
 use Rattle.layout.proofs.Facts.{case, vacant≢named, vacant≢broken, free≢linked, true≢false}
 use Rattle.folds.proofs.Walked.{scan-views, table-views}
 use Rattle.store.specs.Asked.{askedOf}
-use Rattle.store.specs.Opening.{rolloverOf, openFine, opening, createCall}
+use Rattle.store.specs.Opening.{rolloverOf, openFine}
+use Rattle.power.specs.Calls.{Rules}
+use Rattle.power.specs.History.{createBy}
+use Rattle.power.specs.Room.{Allows}
 use Rattle.power.proofs.Checks.{inv-checked}
+use Rattle.power.proofs.Rules.{admits-done, create-by}
 use Rattle.power.proofs.Creates.{steps-done}
 use Rattle.power.proofs.FirstCommit.{commit-enough, commit-short}
 
@@ -132,20 +136,20 @@ module _ (vol : List ℕ) (m : Medium) (st : Store) (inv : Inv vol st) (r : Read
     unfolding isFormat
     not-format = refl
 
-    module _ (rolls : Bool) (dir : List ℕ) (set : openFine name rolls dir ≡ true) where
+    module _ (rules : Rules) (rolls : Bool) (dir : List ℕ) (allows : Allows rules name) (set : openFine name rolls dir ≡ true) where
       asked : askedOf vol st (openFine name rolls dir) ≡ Done
       unfolding askedOf pick
       asked = rw (inv .ok, set)
 
-      call-is : createCall vol m st name rolls dir ≡ callOf (makeOut name (rolloverOf rolls dir) vol m st 0 0)
-      unfolding createCall opening
-      call-is = ap callOf (onDone-done _ _ asked ∙ create-is (rolloverOf rolls dir))
+      call-is : createBy rules vol m st name rolls dir ≡ callOf (makeOut name (rolloverOf rolls dir) vol m st 0 0)
+      call-is =
+          create-by vol st name rolls dir rules m ∙ ap callOf (onDone-done _ _ (admits-done vol st name rolls dir rules allows asked) ∙ create-is (rolloverOf rolls dir))
 
       none : EachSkipped Distinct []
       unfolding EachSkipped
       none = tt
 
-      pub create-made : bodyOf (st .head .chunks) + 2 ≤ m .left → Opened (st .head .«next_id») name vol m st (rolloverOf rolls dir) (createCall vol m st name rolls dir)
+      pub create-made : bodyOf (st .head .chunks) + 2 ≤ m .left → Opened (st .head .«next_id») name vol m st (rolloverOf rolls dir) (createBy rules vol m st name rolls dir)
       unfolding makeOut
       create-made l =
           let c = commit-enough edit name vol m st inv r alone not-format (name-short name fine) less l in
@@ -159,7 +163,7 @@ module _ (vol : List ℕ) (m : Medium) (st : Store) (inv : Inv vol st) (r : Read
                 ∙ ap (λ (x : List Step). after x (openedOut (o .vol) (o .ans .medium) (o .ans .store) 0 (st .head .«next_id») 0 0 (At 0) (rolloverOf rolls dir))) steps);
           }
 
-      pub create-stopped : m .left < bodyOf (st .head .chunks) + 2 → (createCall vol m st name rolls dir .call .answer ≡ refused 4) × (createCall vol m st name rolls dir .steps ≡ [])
+      pub create-stopped : m .left < bodyOf (st .head .chunks) + 2 → (createBy rules vol m st name rolls dir .call .answer ≡ refused 4) × (createBy rules vol m st name rolls dir .steps ≡ [])
       unfolding makeOut
       create-stopped l =
           let c = commit-short edit name vol m st inv r alone not-format (name-short name fine) less l in

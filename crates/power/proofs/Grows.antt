@@ -122,8 +122,8 @@ unfolding beforeSteps book.beforeSteps
 grown-before (append left bytes) b = grown-same b _ refl refl refl
 grown-before (mount m) b = grown-refl b
 grown-before (format m size seed) b = grown-refl b
-grown-before (create left name rolls dir) b = grown-refl b
-grown-before (openAppend left name rolls dir) b = grown-refl b
+grown-before (create rules left name rolls dir) b = grown-refl b
+grown-before (openAppend rules left name rolls dir) b = grown-refl b
 grown-before (sync left) b = grown-refl b
 grown-before (delete left name) b = grown-refl b
 grown-before (deleteOldest left dir) b = grown-refl b
@@ -131,8 +131,8 @@ grown-before (query q) b = grown-refl b
 
 grown-after : (c : Call) (b : Fine) → begins c true ≡ false → Grown b (afterSteps c b)
 unfolding afterSteps book.afterSteps begins
-grown-after (create left name rolls dir) b e = grown-same b _ refl refl refl
-grown-after (openAppend left name rolls dir) b e = grown-same b _ refl refl refl
+grown-after (create rules left name rolls dir) b e = grown-same b _ refl refl refl
+grown-after (openAppend rules left name rolls dir) b e = grown-same b _ refl refl refl
 grown-after (mount m) b e = grown-refl b
 grown-after (format m size seed) b e = absurd (true≢false e)
 grown-after (append left bytes) b e = grown-refl b

@@ -39,8 +39,8 @@ pub fine-keeps : (c : Call) (w : World) (b : Fine) → Keeps w b → Given w c �
 unfolding Given
 fine-keeps (mount m) w b k g e = mount-keeps m w b k g
 fine-keeps (format m size seed) w b k g e = format-keeps m size seed w b k g
-fine-keeps (create left name rolls dir) w b k g e = create-keeps w b k left name rolls dir e
-fine-keeps (openAppend left name rolls dir) w b k g e = open-keeps left name rolls dir w b k
+fine-keeps (create rules left name rolls dir) w b k g e = create-keeps rules w b k left name rolls dir e
+fine-keeps (openAppend rules left name rolls dir) w b k g e = open-keeps rules left name rolls dir w b k
 fine-keeps (append left bytes) w b k g e = append-keeps w b k left bytes e
 fine-keeps (sync left) w b k g e = sync-keeps w b k left e
 fine-keeps (delete left name) w b k g e = delete-keeps w b k left name e

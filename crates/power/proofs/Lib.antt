@@ -13,6 +13,7 @@ pub mod Deletes
 pub mod Steps
 pub mod Asks
 pub mod Making
+pub mod Rules
 pub mod Creates
 pub mod Standing
 pub mod Flows
@@ -57,3 +58,4 @@ pub mod Positions
 pub mod Near
 pub mod Staged
 pub mod Rolled
+pub mod Dots

@@ -80,8 +80,8 @@ unfolding beforeSteps
 before-files (append left bytes) b = refl
 before-files (mount m) b = refl
 before-files (format m size seed) b = refl
-before-files (create left n rolls dir) b = refl
-before-files (openAppend left n rolls dir) b = refl
+before-files (create rules left n rolls dir) b = refl
+before-files (openAppend rules left n rolls dir) b = refl
 before-files (sync left) b = refl
 before-files (delete left n) b = refl
 before-files (deleteOldest left dir) b = refl
@@ -89,8 +89,8 @@ before-files (query q) b = refl
 
 after-files : (c : Call) (b : Book) → afterSteps c b .files ≡ b .files
 unfolding afterSteps
-after-files (create left n rolls dir) b = refl
-after-files (openAppend left n rolls dir) b = refl
+after-files (create rules left n rolls dir) b = refl
+after-files (openAppend rules left n rolls dir) b = refl
 after-files (mount m) b = refl
 after-files (format m size seed) b = refl
 after-files (append left bytes) b = refl

@@ -28,23 +28,24 @@ use Rattle.plan.specs.Copy.{Kind, created, Out}
 use Rattle.commit.specs.Commit.{commitOf}
 use Rattle.append.specs.declared.Tail.{Tail}
 use Rattle.append.specs.Appender.{isClosed}
+use Rattle.append.specs.Calls.{callOf}
 use Rattle.append.specs.Flush.{AppOut, withRun}
 use Rattle.files.specs.declared.Rollover.{Rollover}
 use Rattle.files.specs.Opened.{refusedAt, openedOut}
 use Rattle.files.specs.Create.{Next, makeOut, overOut, roundOut, createFrom, createOf}
 use Rattle.reopen.specs.Reopen.{tailFor}
 use Rattle.safe.proofs.Frame.{clash}
-use Rattle.store.specs.Asked.{askedOf}
-use Rattle.store.specs.Opening.{openFine, rolloverOf, opening, createCall, openCall}
-use Rattle.power.specs.Calls.{Call, create, openAppend, append}
+use Rattle.store.specs.Opening.{rolloverOf}
+use Rattle.power.specs.Calls.{Rules, Call, create, openAppend, append}
 use Rattle.power.specs.Book as book
 use Rattle.power.specs.Book.{File, termsOf}
-use Rattle.power.specs.History.{World, isOk, ifOk, withLeft, ran, fedBy}
+use Rattle.power.specs.History.{World, isOk, ifOk, withLeft, ranCreate, ran, fedBy}
 use Rattle.power.specs.Room.{Tells}
 use Rattle.power.proofs.Fine.{Fine, forget, entered, enteredAll, beforeSteps, afterSteps, openedFor, written}
 use Rattle.power.proofs.Whole.{Keeps}
 use Rattle.power.proofs.Steps.{kindsOf}
 use Rattle.power.proofs.Members.{Mem, mem-new, more-mem}
+use Rattle.power.proofs.Rules.{admits, create-by, open-by}
 use Rattle.power.proofs.Creates.{steps-done}
 use Rattle.power.proofs.Reopening.{book-id, opened-world, opened-book, open-ways}
 use Rattle.power.proofs.Running.{Opened, append-short}
@@ -72,17 +73,17 @@ live-tail size n =
     let Live : Tail → Type 0 = λ t. isClosed t ≡ false in
     pick-keeps Live (eqb n 0) _ _ refl (pick-keeps Live (eqb n size) _ _ refl refl)
 
-module _ (w : World) (b : Fine) (k : Keeps w b) (left : ℕ) (name dir : List ℕ) where
+module _ (rules : Rules) (w : World) (b : Fine) (k : Keeps w b) (left : ℕ) (name dir : List ℕ) where
   abbrev reopening : Call
-  reopening = openAppend left name false dir
+  reopening = openAppend rules left name false dir
 
   pub open-begun : ran w reopening .accepted ≡ true → Begun name [] (ran w reopening .world) (written reopening (fedBy w reopening) b)
-  unfolding ran openCall opening pick
+  unfolding ran pick
   open-begun =
-      open-ways left name false dir w b k (ran w reopening .accepted ≡ true → Begun name [] (ran w reopening .world) (written reopening (fedBy w reopening) b))
-      (λ e q a. absurd (false≢true (rw q at a)))
+      open-ways rules left name false dir w b k (ran w reopening .accepted ≡ true → Begun name [] (ran w reopening .world) (written reopening (fedBy w reopening) b))
+      (λ e q a. absurd (false≢true (rw (open-by (w .vol) (w .store) name false dir rules (withLeft left (w .medium)), q) at a)))
       (λ s id h e d q a.
-      rw (opened-world left name false dir w b k s id h e d q, opened-book left name false dir w b k s id h e d q)
+      rw (opened-world rules left name false dir w b k s id h e d q, opened-book rules left name false dir w b k s id h e d q)
       (record {
         opened = record { writer = refl; live = live-tail _ _ };
         fill = refl;
@@ -129,12 +130,16 @@ module _ (name : List ℕ) (over : Rollover) (plain : over .rolls ≡ false) (vo
       (onPick-keeps Made (freeOf vol m st) _ _ _ (refused-made vol m st) (over-made next) (λ c _. make-made (s .slot) c))
       (over-made next)))
 
-module _ (w : World) (b : Fine) (k : Keeps w b) (left : ℕ) (name dir : List ℕ) where
+module _ (rules : Rules) (w : World) (b : Fine) (k : Keeps w b) (left : ℕ) (name dir : List ℕ) where
   abbrev making : Call
-  making = create left name false dir
+  making = create rules left name false dir
 
   abbrev out : AppOut
-  out = onDone (askedOf (w .vol) (w .store) (openFine name false dir)) (createOf name (rolloverOf false dir) (w .vol) (withLeft left (w .medium)) (w .store)) (refusedAt (w .vol) (withLeft left (w .medium)) (w .store))
+  out = onDone (admits (w .vol) (w .store) name false dir rules) (createOf name (rolloverOf false dir) (w .vol) (withLeft left (w .medium)) (w .store)) (refusedAt (w .vol) (withLeft left (w .medium)) (w .store))
+
+  is-out : ran w making ≡ ranCreate w (callOf out)
+  unfolding ran
+  is-out = ap (ranCreate w) (create-by (w .vol) (w .store) name false dir rules (withLeft left (w .medium)))
 
   create-made : Made (createOf name (rolloverOf false dir) (w .vol) (withLeft left (w .medium)) (w .store))
   unfolding createFrom rolloverOf
@@ -145,12 +150,10 @@ module _ (w : World) (b : Fine) (k : Keeps w b) (left : ℕ) (name dir : List �
 
   module _ (accepted : ran w making .accepted ≡ true) where
     is-done : out .ans .outcome ≡ Done
-    unfolding ran createCall opening
-    is-done = done-of _ accepted
+    is-done = done-of _ (rw is-out at accepted)
 
     pub create-told : Tells w making (created ∷ [])
-    unfolding ran createCall opening
-    create-told = (accepted, out-made .kinds is-done)
+    create-told = (accepted, rw is-out (out-made .kinds is-done))
 
     abbrev new : File
     new = record { name = name; id = b .next; chunks = 1; payloads = [] }
@@ -160,13 +163,13 @@ module _ (w : World) (b : Fine) (k : Keeps w b) (left : ℕ) (name dir : List �
     made-book = rw (told-fed w making create-told)
 
     made-opened : Opened (ran w making .world) × (ran w making .world .appender .fill ≡ 0)
-    unfolding ran createCall opening ifOk
-    made-opened = rw is-done (record { writer = out-made .writer is-done; live = out-made .live is-done }, out-made .fill is-done)
+    unfolding ifOk
+    made-opened = rw (is-out, is-done) (record { writer = out-made .writer is-done; live = out-made .live is-done }, out-made .fill is-done)
 
     -- a file of the name was not there
     not-there : (f : File) → Mem f (b .files) → f .name ≡ name → ⊥
     not-there f mem n =
-        let z : ran w making .steps ≡ [] = subst (λ (x : List ℕ). ran w (create left x false dir) .steps ≡ []) n (create-known w b k f mem left false dir) in
+        let z : ran w making .steps ≡ [] = subst (λ (x : List ℕ). ran w (create rules left x false dir) .steps ≡ []) n (create-known rules w b k f mem left false dir) in
         let y : _≡_ {A = List Kind} [] (created ∷ []) = sym (ap kindsOf z) ∙ create-told .1 in
         let u : _≡_ {A = ℕ} 0 1 = cc in
         omega (arith, u)
@@ -190,12 +193,12 @@ module _ (w : World) (b : Fine) (k : Keeps w b) (left : ℕ) (name dir : List �
 
   -- refused, the book is as it was
   pub create-unmade : ran w making .accepted ≡ false → written making (fedBy w making) b ≡ b
-  unfolding ran createCall opening written fedBy enteredAll beforeSteps book.beforeSteps pick
+  unfolding written fedBy enteredAll beforeSteps book.beforeSteps pick
   create-unmade refused = go (out .ans .outcome) refl
     where
       go : (o : Outcome) → out .ans .outcome ≡ o → written making (fedBy w making) b ≡ b
-      go Done q = absurd (true≢false (sym (ap (λ (o : Outcome). isOk (outcomeOf o)) q) ∙ refused))
-      go (No e) q = rw (q, out-made .none e q)
+      go Done q = absurd (true≢false (sym (ap (λ (o : Outcome). isOk (outcomeOf o)) q) ∙ (rw is-out at refused)))
+      go (No e) q = rw (is-out, q, out-made .none e q)
 
 -- ---- append, of a line shorter than a record takes
 

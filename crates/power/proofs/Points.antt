@@ -28,9 +28,8 @@ use Rattle.layout.specs.Segments.{Segment}
 use Rattle.reading.specs.GivesTo.{GivesTo}
 use Rattle.reading.specs.Below.{endNumber, below}
 use Rattle.store.specs.Reading.{readerCall}
-use Rattle.store.specs.Opening.{opening, createCall}
 use Rattle.store.specs.Writing.{deleteCall, formatCall}
-use Rattle.power.specs.Calls.{Call, mount, format, create, openAppend, append, sync, delete, deleteOldest, query}
+use Rattle.power.specs.Calls.{Rules, Call, mount, format, create, openAppend, append, sync, delete, deleteOldest, query}
 use Rattle.power.specs.Book as book
 use Rattle.power.specs.Book.{File, Book, Terms, termsOf}
 use Rattle.power.specs.History.{World, withLeft, isOk, ran, fedBy, Premise}
@@ -42,6 +41,7 @@ use Rattle.power.proofs.Checks.{inv-checked}
 use Rattle.power.proofs.Members.{Mem}
 use Rattle.power.proofs.Shown.{each-ends}
 use Rattle.power.proofs.Formatting.{made-book}
+use Rattle.power.proofs.Rules.{create-by}
 use Rattle.power.proofs.Grows.{grows-refl, Grown, call-grown}
 use Rattle.power.proofs.History.{fine-keeps}
 use Rattle.power.proofs.Pins.{file-known, file-fit, file-joined}
@@ -97,10 +97,11 @@ module _ (w : World) (b : Fine) (k : Keeps w b) (m : Medium) (r : Readable (w .v
   known-from zero over = refl
   known-from (suc n) over = known-round over (createFrom n (f .name) over)
 
-pub create-known : (w : World) (b : Fine) → Keeps w b → (f : File) → Mem f (b .files) → (left : ℕ) (rolls : Bool) (dir : List ℕ) → ran w (create left (f .name) rolls dir) .steps ≡ []
-unfolding ran createCall opening
-create-known w b k f mem left rolls dir =
-    onDone-keeps (λ (x : AppOut). x .steps ≡ []) _ _ _ (λ d. known-from w b k (withLeft left (w .medium)) (k .readable) f mem 2 _) (λ e d. refl)
+pub create-known : (rules : Rules) (w : World) (b : Fine) → Keeps w b → (f : File) → Mem f (b .files) → (left : ℕ) (rolls : Bool) (dir : List ℕ) → ran w (create rules left (f .name) rolls dir) .steps ≡ []
+unfolding ran
+create-known rules w b k f mem left rolls dir =
+    rw (create-by (w .vol) (w .store) (f .name) rolls dir rules (withLeft left (w .medium)))
+    (onDone-keeps (λ (x : AppOut). x .steps ≡ []) _ _ _ (λ d. known-from w b k (withLeft left (w .medium)) (k .readable) f mem 2 _) (λ e d. refl))
 
 -- where no file of the name is made, or nothing is to be held
 module _ (name : List ℕ) (l : List (List ℕ)) (t : Terms) where
@@ -135,17 +136,17 @@ module _ (name : List ℕ) (some : name ≢ []) (l : List (List ℕ)) (w : World
   unnamed : {x : List ℕ} → x ≡ [] → x ≡ name → l ≡ []
   unnamed e q = absurd (some (sym q ∙ e))
 
-  create-quiet : (left : ℕ) (n : List ℕ) (rolls : Bool) (dir : List ℕ) → SparedBy name w (create left n rolls dir) (forget b) → QuietBy (create left n rolls dir)
+  create-quiet : (rules : Rules) (left : ℕ) (n : List ℕ) (rolls : Bool) (dir : List ℕ) → SparedBy name w (create rules left n rolls dir) (forget b) → QuietBy (create rules left n rolls dir)
   unfolding termsOf fedBy
-  create-quiet left n rolls dir q = go (hasName name (b .files)) refl (sameBytes name n) refl
+  create-quiet rules left n rolls dir q = go (hasName name (b .files)) refl (sameBytes name n) refl
     where
-      go : (t : Bool) → hasName name (b .files) ≡ t → (u : Bool) → sameBytes name n ≡ u → QuietBy (create left n rolls dir)
+      go : (t : Bool) → hasName name (b .files) ≡ t → (u : Bool) → sameBytes name n ≡ u → QuietBy (create rules left n rolls dir)
       go false e u f = quiet-named name l _ _ _ (λ _. none e) q
       go true e false f = quiet-named name l _ _ _ (λ x. absurd (differs name n f x)) q
       go true e true f =
           let o = has-some name (b .files) e in
           let same : o .0 .name ≡ n = o .2 ∙ same-true name n f in
-          let z : ran w (create left n rolls dir) .steps ≡ [] = subst (λ (x : List ℕ). ran w (create left x rolls dir) .steps ≡ []) same (create-known w b k (o .0) (o .1) left rolls dir) in
+          let z : ran w (create rules left n rolls dir) .steps ≡ [] = subst (λ (x : List ℕ). ran w (create rules left x rolls dir) .steps ≡ []) same (create-known rules w b k (o .0) (o .1) left rolls dir) in
           quiet-empty name l _ _ _ (ap kindsOf z)
 
   delete-quiet : (left : ℕ) (n : List ℕ) → QuietBy (delete left n)
@@ -154,14 +155,14 @@ module _ (name : List ℕ) (some : name ≢ []) (l : List (List ℕ)) (w : World
 
   call-quiet : (c : Call) → SparedBy name w c (forget b) → QuietBy c
   unfolding termsOf
-  call-quiet (create left n rolls dir) q = create-quiet left n rolls dir q
+  call-quiet (create rules left n rolls dir) q = create-quiet rules left n rolls dir q
   call-quiet (delete left n) q = delete-quiet left n
   call-quiet (append left bytes) q = quiet-named name l _ _ _ (unnamed refl) q
   call-quiet (sync left) q = quiet-named name l _ _ _ (unnamed refl) q
   call-quiet (deleteOldest left dir) q = quiet-named name l _ _ _ (unnamed refl) q
   call-quiet (mount m) q = quiet-named name l _ _ _ (unnamed refl) q
   call-quiet (format m size seed) q = quiet-named name l _ _ _ (unnamed refl) q
-  call-quiet (openAppend left n rolls dir) q = quiet-named name l _ _ _ (unnamed refl) q
+  call-quiet (openAppend rules left n rolls dir) q = quiet-named name l _ _ _ (unnamed refl) q
   call-quiet (query x) q = quiet-named name l _ _ _ (unnamed refl) q
 
 -- ---- an accepted format leaves no file
@@ -177,8 +178,8 @@ format-accepted m size seed w = go (formatOf size seed (w .vol) m .ans .outcome)
 begins-empty : (c : Call) (w : World) (b : Fine) → begins c (ran w c .accepted) ≡ true → written c (fedBy w c) b .files ≡ []
 unfolding begins
 begins-empty (mount m) w b e = absurd (false≢true e)
-begins-empty (create left name rolls dir) w b e = absurd (false≢true e)
-begins-empty (openAppend left name rolls dir) w b e = absurd (false≢true e)
+begins-empty (create rules left name rolls dir) w b e = absurd (false≢true e)
+begins-empty (openAppend rules left name rolls dir) w b e = absurd (false≢true e)
 begins-empty (append left bytes) w b e = absurd (false≢true e)
 begins-empty (sync left) w b e = absurd (false≢true e)
 begins-empty (delete left name) w b e = absurd (false≢true e)

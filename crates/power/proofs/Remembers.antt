@@ -14,7 +14,7 @@ use Rattle.append.specs.declared.Appender.{Appender}
 use Rattle.reading.specs.GivesTo.{GivesTo}
 use Rattle.store.specs.Reading.{readerCall}
 use Rattle.store.specs.Writing.{formatCall}
-use Rattle.power.specs.Calls.{Call, create, openAppend, append, sync}
+use Rattle.power.specs.Calls.{present, Call, create, openAppend, append, sync}
 use Rattle.power.specs.Book.{File, Book, newBook}
 use Rattle.power.specs.History.{World, ran, fedBy, after, bookOf, Clean, Premise}
 use Rattle.power.specs.Claim.{started}
@@ -65,8 +65,8 @@ module _ (name : List ℕ) (some : name ≢ []) (lineOf : Pin → List ℕ) wher
   -- ---- a setting: the file of the lines made, or opened, without rollover; the line appended; a sync
 
   abbrev pub opens : Bool → ℕ → List ℕ → Call
-  opens true left dir = create left name false dir
-  opens false left dir = openAppend left name false dir
+  opens true left dir = create present left name false dir
+  opens false left dir = openAppend present left name false dir
 
   -- of a point's name and a file of the book: its id, the number at which its reader finds the end, what it gives
   abbrev pub pinAt : List ℕ → File → ℕ → Pin

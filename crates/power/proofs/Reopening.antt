@@ -31,6 +31,7 @@ use Rattle.record.specs.Record.{judgeOf, onJudged, dataAt, numberAt, readRecord
 use Rattle.append.specs.declared.Appender.{Appender}
 use Rattle.append.specs.declared.Tail.{Tail}
 use Rattle.append.specs.declared.Tail.the-variants.{At}
+use Rattle.append.specs.Calls.{callOf}
 use Rattle.append.specs.Flush.{AppOut}
 use Rattle.files.specs.declared.Rollover.{Rollover}
 use Rattle.files.specs.Opened.{refusedAt, nextToken, withToken, writtenBy, newAppender, openedOut}
@@ -46,18 +47,19 @@ use Rattle.layout.proofs.Judged.{stored-judged, judged-other}
 use Rattle.views.proofs.Stays.{writer-unchanged}
 use Rattle.folds.proofs.Chains.{chain-view}
 use Rattle.folds.proofs.Named.{find-there, find-view}
-use Rattle.store.specs.Asked.{askedOf}
-use Rattle.store.specs.Opening.{openFine, rolloverOf, opening, openCall}
-use Rattle.power.specs.Calls.{openAppend}
+use Rattle.store.specs.Opening.{openFine, rolloverOf}
+use Rattle.power.specs.Calls.{Rules, openAppend}
 use Rattle.power.specs.Book as book
 use Rattle.power.specs.Book.{File, idOf, ifSet}
-use Rattle.power.specs.History.{World, ifOk, withLeft, ran, fedBy}
+use Rattle.power.specs.History.{World, ifOk, withLeft, openBy, ran, fedBy}
+use Rattle.power.specs.Room.{Allows}
 use Rattle.power.proofs.Fine.{Fine, enteredAll, beforeSteps, openedFor, afterSteps, written}
 use Rattle.power.proofs.Whole.{fileOf, Whole, TailAt, Stands, Keeps}
 use Rattle.power.proofs.Members.{Mem}
 use Rattle.power.proofs.Checks.{inv-checked}
 use Rattle.power.proofs.Unmade.{whole-same}
 use Rattle.power.proofs.Asks.{Directed, asked-opens}
+use Rattle.power.proofs.Rules.{admits, admits-asked, admits-done, open-by}
 use Rattle.power.proofs.Shown.{asked}
 use Rattle.power.proofs.Queries.{keeps-medium}
 
@@ -170,7 +172,7 @@ module _ (vol : List ℕ) (m : Medium) (st : Store) (G : ℕ → List Segment) (
 
 -- ---- the call
 
-module _ (left : ℕ) (name : List ℕ) (rolls : Bool) (dir : List ℕ) (w : World) (b : Fine) (k : Keeps w b) where
+module _ (rules : Rules) (left : ℕ) (name : List ℕ) (rolls : Bool) (dir : List ℕ) (w : World) (b : Fine) (k : Keeps w b) where
   abbrev m : Medium
   m = withLeft left (w .medium)
 
@@ -178,19 +180,22 @@ module _ (left : ℕ) (name : List ℕ) (rolls : Bool) (dir : List ℕ) (w : Wor
   roll = rolloverOf rolls dir
 
   abbrev out : AppOut
-  out = onDone (askedOf (w .vol) (w .store) (openFine name rolls dir)) (reopenOf name roll (w .vol) m (w .store)) (refusedAt (w .vol) m (w .store))
+  out = onDone (admits (w .vol) (w .store) name rolls dir rules) (reopenOf name roll (w .vol) m (w .store)) (refusedAt (w .vol) m (w .store))
+
+  is-out : openBy rules (w .vol) m (w .store) name rolls dir ≡ callOf out
+  is-out = open-by (w .vol) (w .store) name rolls dir rules m
 
   abbrev Kept : Type 0
-  Kept = Keeps (ran w (openAppend left name rolls dir) .world) (written (openAppend left name rolls dir) (fedBy w (openAppend left name rolls dir)) b)
+  Kept = Keeps (ran w (openAppend rules left name rolls dir) .world) (written (openAppend rules left name rolls dir) (fedBy w (openAppend rules left name rolls dir)) b)
 
   module _ (e : Error) (q : out ≡ refusedAt (w .vol) m (w .store) e) where
-    refused-world : ran w (openAppend left name rolls dir) .world ≡ record { vol = w .vol; store = w .store; appender = w .appender; medium = m }
-    unfolding ran openCall opening ifOk
-    refused-world = rw q
+    refused-world : ran w (openAppend rules left name rolls dir) .world ≡ record { vol = w .vol; store = w .store; appender = w .appender; medium = m }
+    unfolding ran ifOk
+    refused-world = rw (is-out, q)
 
-    refused-book : written (openAppend left name rolls dir) (fedBy w (openAppend left name rolls dir)) b ≡ b
-    unfolding written fedBy ran openCall opening enteredAll beforeSteps book.beforeSteps pick
-    refused-book = rw q
+    refused-book : written (openAppend rules left name rolls dir) (fedBy w (openAppend rules left name rolls dir)) b ≡ b
+    unfolding written fedBy ran enteredAll beforeSteps book.beforeSteps pick
+    refused-book = rw (is-out, q)
 
     refused-keeps : Kept
     refused-keeps = rw (refused-world, refused-book) (keeps-medium m (k .readable) k)
@@ -212,13 +217,13 @@ module _ (left : ℕ) (name : List ℕ) (rolls : Bool) (dir : List ℕ) (w : Wor
     abbrev begun : Fine
     begun = openedFor (idOf name (b .files)) (ifSet rolls dir) b
 
-    pub opened-world : ran w (openAppend left name rolls dir) .world ≡ record { vol = w .vol; store = served; appender = new; medium = withToken m }
-    unfolding ran openCall opening ifOk openedOut
-    opened-world = rw q
+    pub opened-world : ran w (openAppend rules left name rolls dir) .world ≡ record { vol = w .vol; store = served; appender = new; medium = withToken m }
+    unfolding ran ifOk openedOut
+    opened-world = rw (is-out, q)
 
-    pub opened-book : written (openAppend left name rolls dir) (fedBy w (openAppend left name rolls dir)) b ≡ begun
-    unfolding written fedBy ran openCall opening openedOut enteredAll beforeSteps book.beforeSteps afterSteps book.afterSteps pick
-    opened-book = rw q
+    pub opened-book : written (openAppend rules left name rolls dir) (fedBy w (openAppend rules left name rolls dir)) b ≡ begun
+    unfolding written fedBy ran openedOut enteredAll beforeSteps book.beforeSteps afterSteps book.afterSteps pick
+    opened-book = rw (is-out, q)
 
     same-views : Unchanged (diskOf (w .vol) (w .store)) (diskOf (w .vol) served)
     same-views = writer-unchanged (w .vol) (w .store) served refl refl
@@ -256,14 +261,14 @@ module _ (left : ℕ) (name : List ℕ) (rolls : Bool) (dir : List ℕ) (w : Wor
       → ((s id : ℕ) → s < 64 → diskOf (w .vol) (w .store) .entry s ≡ named name id → Directed roll (ifSet rolls dir)
       → out ≡ opened (w .vol) m (w .store) (k .layout) b (k .whole) (k .readable) roll s id → P) → P
   unfolding onDone
-  open-ways P f g = by-asked (askedOf (w .vol) (w .store) (openFine name rolls dir)) refl
+  open-ways P f g = by-asked (admits (w .vol) (w .store) name rolls dir rules) refl
     where
-      by-way : askedOf (w .vol) (w .store) (openFine name rolls dir) ≡ Done
+      by-way : admits (w .vol) (w .store) name rolls dir rules ≡ Done
           → Way (w .vol) m (w .store) (k .layout) b (k .whole) (k .readable) name roll (reopenOf name roll (w .vol) m (w .store)) → P
       by-way a (refuses e q) = f e (rw a q)
-      by-way a (opens s id h e q) = g s id h e (asked-opens (w .vol) (w .store) name rolls dir a .directed) (rw a q)
+      by-way a (opens s id h e q) = g s id h e (asked-opens (w .vol) (w .store) name rolls dir (admits-asked (w .vol) (w .store) name rolls dir rules a) .directed) (rw a q)
 
-      by-asked : (o : Outcome) → askedOf (w .vol) (w .store) (openFine name rolls dir) ≡ o → P
+      by-asked : (o : Outcome) → admits (w .vol) (w .store) name rolls dir rules ≡ o → P
       by-asked (No e) q = f e (rw q)
       by-asked Done q = by-way q (way (w .vol) m (w .store) (k .layout) b (k .whole) (k .readable) name roll)
 
@@ -271,15 +276,15 @@ module _ (left : ℕ) (name : List ℕ) (rolls : Bool) (dir : List ℕ) (w : Wor
   open-keeps = open-ways Kept refused-keeps opened-keeps
 
   -- a file that is there is opened, with no step; the header stays
-  module _ (s id : ℕ) (h : s < 64) (e : diskOf (w .vol) (w .store) .entry s ≡ named name id) (fine : openFine name rolls dir ≡ true) where
+  module _ (s id : ℕ) (h : s < 64) (e : diskOf (w .vol) (w .store) .entry s ≡ named name id) (allows : Allows rules name) (fine : openFine name rolls dir ≡ true) where
     out-is : out ≡ opened (w .vol) m (w .store) (k .layout) b (k .whole) (k .readable) roll s id
     unfolding reopenOf onFound
     out-is =
-        onDone-done _ _ (asked (w .vol) m (w .store) (k .layout) b (k .whole) (k .readable) (openFine name rolls dir) fine)
+        onDone-done _ _ (admits-done (w .vol) (w .store) name rolls dir rules allows (asked (w .vol) m (w .store) (k .layout) b (k .whole) (k .readable) (openFine name rolls dir) fine))
         ∙ rw (find-there (w .vol) m (w .store) (inv-checked m (k .whole .inv) (k .readable)) (k .layout) (k .whole .good) name s id h e)
         (file-opens (w .vol) m (w .store) (k .layout) b (k .whole) (k .readable) roll s name id h e)
 
-    pub open-run : (ran w (openAppend left name rolls dir) .accepted ≡ true) × (ran w (openAppend left name rolls dir) .steps ≡ [])
-        × (ran w (openAppend left name rolls dir) .world .store .head ≡ w .store .head)
-    unfolding ran openCall opening ifOk openedOut
-    open-run = rw out-is (refl, refl, refl)
+    pub open-run : (ran w (openAppend rules left name rolls dir) .accepted ≡ true) × (ran w (openAppend rules left name rolls dir) .steps ≡ [])
+        × (ran w (openAppend rules left name rolls dir) .world .store .head ≡ w .store .head)
+    unfolding ran ifOk openedOut
+    open-run = rw (is-out, out-is) (refl, refl, refl)

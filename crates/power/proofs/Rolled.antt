@@ -3,6 +3,7 @@
 -- chunk. Each call is accepted, and the volume holds the book before the second format and after it. Assumes nothing.
 use Prim.Native.Nat.{ℕ, _+_, _/_, _≤_, _<_}
 use mathlib.Core.Path.{_≡_, refl, sym, ap, subst, _∙_}
+use mathlib.Core.Logic.{_≢_}
 use mathlib.Core.Bool.{Bool, true, false}
 use mathlib.Core.Option.{none, some}
 use mathlib.Core.List.{List, [], _∷_, List·Memᴰ, List·Memᴰ·head, List·Memᴰ·eq-of-singleton, List·Memᴰ·not-nil}
@@ -15,7 +16,7 @@ use Rattle.le.specs.Part.{zeros}
 use Rattle.le.proofs.Parts.{length-zeros}
 use Rattle.runs.specs.Run.{startsWith, sameBytes}
 use Rattle.runs.specs.Split.{longer, splitAt}
-use Rattle.names.specs.Names.{plainByte, everyByte, noneEmpty, nameOk, dirOk}
+use Rattle.names.specs.Names.{plainByte, everyByte, noneEmpty, nameOk, dirOk, beginsDot, someDot, dotted}
 use Rattle.medium.specs.declared.Medium.{Medium}
 use Rattle.medium.specs.Sector.{Readable}
 use Rattle.handles.specs.Handles.{bodyOf}
@@ -24,11 +25,11 @@ use Rattle.format.specs.Format.{chunksOf}
 use Rattle.append.specs.declared.Appender.{Appender}
 use Rattle.store.specs.Opening.{openFine}
 use Rattle.store.specs.Writing.{formatCall}
-use Rattle.power.specs.Calls.{Call, format, create, openAppend, append, sync}
+use Rattle.power.specs.Calls.{Rules, present, Call, format, create, openAppend, append, sync}
 use Rattle.power.specs.Book.{File, Book, newBook, keep, onFile, isSpared, mayGo, smallest, withoutId, withoutOldest, idOf, termsOf, entered, enteredAll, beforeSteps, afterSteps, written}
 use Rattle.power.specs.History.{World, ran, fedBy, after, bookOf, Given, EachStep, Premise}
 use Rattle.power.specs.Claim.{Holds, started}
-use Rattle.power.specs.Room.{Tells, chunksIn}
+use Rattle.power.specs.Room.{Tells, Allows, chunksIn}
 use Rattle.power.proofs.Whole.{Booked}
 use Rattle.power.proofs.Sanity as sanity
 use Rattle.power.proofs.Staged.{Stage, Next, told, told-more, told-end, book-more, book-end, told-fed, create-next, append-next, sync-next, spares, grow-next, open-next, format-tells}
@@ -47,19 +48,16 @@ two-66 : chunksOf (33792 / 512) 1 ≡ 2
 unfolding chunksOf
 two-66 = refl
 
-abbrev name-a : List ℕ
-name-a = 97 ∷ []
-
 abbrev name-b : List ℕ
 name-b = 98 ∷ []
-
-fine-a : openFine name-a false [] ≡ true
-unfolding pick plainByte everyByte longer splitAt noneEmpty nameOk
-fine-a = refl
 
 fine-b : openFine name-b true [] ≡ true
 unfolding pick plainByte everyByte longer splitAt noneEmpty nameOk dirOk
 fine-b = refl
+
+plain-b : dotted name-b ≡ false
+unfolding pick longer splitAt beginsDot someDot dotted
+plain-b = refl
 
 -- of the calls below (Staged `told`): all accepted, with these steps
 abbrev pub as-told : List (Bool × List Kind)
@@ -81,7 +79,10 @@ takes {bytes} h = take-all 486 bytes (omega (arith, h .most))
 leaves : {bytes : List ℕ} → Batch bytes → drop 486 bytes ≡ []
 leaves {bytes} h = drop-of-length-le bytes {i = 486} (omega (arith, h .most))
 
-module _ (seed : ℕ) (m : Medium) (ap₀ : Appender) (left : 11 ≤ m .left) (r : 66 ≤ m .unreadable) where
+module _ (rules : Rules) (name-a : List ℕ) (allows : Allows rules name-a) (fine : nameOk name-a ≡ true) (other : name-a ≢ name-b) (seed : ℕ) (m : Medium) (ap₀ : Appender) (left : 11 ≤ m .left) (r : 66 ≤ m .unreadable) where
+  fine-a : openFine name-a false [] ≡ true
+  fine-a = rw fine
+
   reads : Readable (zeros 33792) m
   reads = rw (length-zeros 33792) r
 
@@ -124,21 +125,18 @@ module _ (seed : ℕ) (m : Medium) (ap₀ : Appender) (left : 11 ≤ m .left) (r
 
     -- a's name is not b's
     other-name : (f : File) → List·Memᴰ f (file-a (x ∷ []) ∷ []) → f .name ≡ name-b → ⊥
-    other-name f mem e =
-        let q : name-a ≡ name-b = sym (ap (λ (g : File). g .name) (List·Memᴰ·eq-of-singleton mem)) ∙ e in
-        let n : _≡_ {A = ℕ} 97 98 = ap (λ (l : List ℕ). getD l 0 0) q in
-        omega (arith, n)
+    other-name f mem e = other (sym (ap (λ (g : File). g .name) (List·Memᴰ·eq-of-singleton mem)) ∙ e)
 
     -- ---- the calls, and the world before each
 
     abbrev create-a : Call
-    create-a = create 11 name-a false []
+    create-a = create rules 11 name-a false []
 
     abbrev create-b : Call
-    create-b = create 11 name-b true []
+    create-b = create present 11 name-b true []
 
     abbrev open-b : Call
-    open-b = openAppend 0 name-b true []
+    open-b = openAppend present 0 name-b true []
 
     abbrev w₁ : World
     w₁ = ran w₀ create-a .world
@@ -211,7 +209,7 @@ module _ (seed : ℕ) (m : Medium) (ap₀ : Appender) (left : 11 ≤ m .left) (r
 
         next₁ : Next w₀ newBook create-a (created ∷ []) 0 0 2
         unfolding chunksIn
-        next₁ = create-next stage₀ name-a false [] fine-a (omega arith) (omega arith) (λ f mem. absurd (List·Memᴰ·not-nil mem)) (omega arith) (omega arith)
+        next₁ = create-next stage₀ rules name-a false [] allows fine-a (omega arith) (omega arith) (λ f mem. absurd (List·Memᴰ·not-nil mem)) (omega arith) (omega arith)
 
         book₁ : written create-a (fedBy w₀ create-a) newBook ≡ with-a [] []
         unfolding written termsOf enteredAll entered beforeSteps afterSteps pick
@@ -244,7 +242,7 @@ module _ (seed : ℕ) (m : Medium) (ap₀ : Appender) (left : 11 ≤ m .left) (r
 
         next₄ : Next w₃ (with-a (x ∷ []) []) create-b (created ∷ []) 0 0 3
         unfolding chunksIn
-        next₄ = create-next stage₃ name-b true [] fine-b (omega arith) (omega arith) other-name (omega arith) (omega arith)
+        next₄ = create-next stage₃ present name-b true [] plain-b fine-b (omega arith) (omega arith) other-name (omega arith) (omega arith)
 
         book₄ : written create-b (fedBy w₃ create-b) (with-a (x ∷ []) []) ≡ with-both [] []
         unfolding written termsOf enteredAll entered beforeSteps afterSteps pick
@@ -303,7 +301,7 @@ module _ (seed : ℕ) (m : Medium) (ap₀ : Appender) (left : 11 ≤ m .left) (r
         -- ---- it is opened again
 
         next₉ : Tells w₈ open-b [] × (EachStep Distinct (ran w₈ open-b .steps) → Stage w₉ (written open-b (fedBy w₈ open-b) with-b) 5)
-        next₉ = open-next stage₈ (file-b 2 (y ∷ z ∷ [])) (List·Memᴰ·head refl) true [] fine-b
+        next₉ = open-next stage₈ present (file-b 2 (y ∷ z ∷ [])) (List·Memᴰ·head refl) true [] plain-b fine-b
 
         book₉ : written open-b (fedBy w₈ open-b) with-b ≡ with-b
         unfolding written termsOf enteredAll beforeSteps afterSteps pick idOf sameBytes

@@ -35,11 +35,12 @@ use Rattle.safe.proofs.Format.{format-bytes}
 use Rattle.layout.specs.Views.{diskOf}
 use Rattle.layout.specs.Changes.{Fresh}
 use Rattle.views.proofs.Commits.{inv-sane, format-fresh}
-use Rattle.store.specs.Opening.{rolloverOf, openFine, createCall}
+use Rattle.store.specs.Opening.{rolloverOf, openFine}
 use Rattle.store.specs.Writing.{formatCall}
-use Rattle.power.specs.Calls.{Call, create, append, sync, delete, mount}
+use Rattle.power.specs.Calls.{Rules, Call, create, append, sync, delete, mount}
 use Rattle.power.specs.Book.{File, Book, newBook, onFile, termsOf, entered, enteredAll, beforeSteps, afterSteps, written}
-use Rattle.power.specs.History.{World, Ran, isOk, ifOk, withLeft, ran, openOf, fedBy, after, bookOf, Clean, Given, EachStep, Honest, Premise}
+use Rattle.power.specs.History.{World, Ran, isOk, ifOk, withLeft, createBy, ran, openOf, fedBy, after, bookOf, Clean, Given, EachStep, Honest, Premise}
+use Rattle.power.specs.Room.{Allows}
 use Rattle.power.specs.Claim.{Holds, started}
 use Rattle.power.proofs.Whole.{Booked}
 use Rattle.power.proofs.Queries.{pick-same}
@@ -108,10 +109,10 @@ module _ (n size seed : ℕ) (m : Medium) (ap₀ : Appender) (enough : 64 ≤ n 
   abbrev pub needed : ℕ
   needed = bodyOf (chunksOf (n / 512) size) + 2
 
-  module _ (name : List ℕ) (fine : nameOk name ≡ true) (left : ℕ) where
+  module _ (rules : Rules) (name : List ℕ) (allows : Allows rules name) (fine : nameOk name ≡ true) (left : ℕ) where
     -- without a rollover
     abbrev making : Call
-    making = create left name false []
+    making = create rules left name false []
 
     set : openFine name false [] ≡ true
     set = rw fine
@@ -119,11 +120,11 @@ module _ (n size seed : ℕ) (m : Medium) (ap₀ : Appender) (enough : 64 ≤ n 
     -- ---- one write too few
 
     stopped : left < needed
-        → (createCall (start .vol) (withLeft left (start .medium)) (start .store) name false [] .call .answer ≡ refused 4)
-        × (createCall (start .vol) (withLeft left (start .medium)) (start .store) name false [] .steps ≡ [])
+        → (createBy rules (start .vol) (withLeft left (start .medium)) (start .store) name false [] .call .answer ≡ refused 4)
+        × (createBy rules (start .vol) (withLeft left (start .medium)) (start .store) name false [] .steps ≡ [])
     stopped h =
         create-stopped (start .vol) (withLeft left (start .medium)) (start .store) (start-keeps .keeps .whole .inv) (start-keeps .keeps .readable) start-fresh start-cursor name fine start-less
-        (λ e. let z : 1 ≡ 2 ^ 32 - 1 = sym start-next ∙ e in omega (arith, z)) start-alone false [] set (rw start-chunks h)
+        (λ e. let z : 1 ≡ 2 ^ 32 - 1 = sym start-next ∙ e in omega (arith, z)) start-alone rules false [] allows set (rw start-chunks h)
 
     stopped-run : left < needed → (ran start making .accepted ≡ false) × (ran start making .steps ≡ [])
     unfolding ran
@@ -135,7 +136,7 @@ module _ (n size seed : ℕ) (m : Medium) (ap₀ : Appender) (enough : 64 ≤ n 
 
     -- the create gives 4, and the volume holds no file
     pub create-edge : left < needed
-        → (createCall (start .vol) (withLeft left (start .medium)) (start .store) name false [] .call .answer ≡ refused 4) × Holds (ran start making .world .vol) newBook
+        → (createBy rules (start .vol) (withLeft left (start .medium)) (start .store) name false [] .call .answer ≡ refused 4) × Holds (ran start making .world .vol) newBook
     unfolding Given EachStep
     create-edge h =
         let k = call-keeps making start newBook start-keeps tt (subst (EachStep Distinct) (sym (stopped-run h .1)) tt) in
@@ -144,13 +145,13 @@ module _ (n size seed : ℕ) (m : Medium) (ap₀ : Appender) (enough : 64 ≤ n 
     -- ---- enough writes
 
     module _ (h : needed ≤ left) where
-      pub opened : Opened 1 name (start .vol) (withLeft left (start .medium)) (start .store) (rolloverOf false []) (createCall (start .vol) (withLeft left (start .medium)) (start .store) name false [])
+      pub opened : Opened 1 name (start .vol) (withLeft left (start .medium)) (start .store) (rolloverOf false []) (createBy rules (start .vol) (withLeft left (start .medium)) (start .store) name false [])
       opened =
-          subst (λ (id : ℕ). Opened id name (start .vol) (withLeft left (start .medium)) (start .store) (rolloverOf false []) (createCall (start .vol) (withLeft left (start .medium)) (start .store) name false [])) start-next
+          subst (λ (id : ℕ). Opened id name (start .vol) (withLeft left (start .medium)) (start .store) (rolloverOf false []) (createBy rules (start .vol) (withLeft left (start .medium)) (start .store) name false [])) start-next
           (create-made (start .vol) (withLeft left (start .medium)) (start .store) (start-keeps .keeps .whole .inv) (start-keeps .keeps .readable) start-fresh start-cursor name fine start-less
-          (λ e. let z : 1 ≡ 2 ^ 32 - 1 = sym start-next ∙ e in omega (arith, z)) start-alone false [] set (rw start-chunks h))
+          (λ e. let z : 1 ≡ 2 ^ 32 - 1 = sym start-next ∙ e in omega (arith, z)) start-alone rules false [] allows set (rw start-chunks h))
 
-      pub create-enough : createCall (start .vol) (withLeft left (start .medium)) (start .store) name false [] .call .answer ≡ ok tt
+      pub create-enough : createBy rules (start .vol) (withLeft left (start .medium)) (start .store) name false [] .call .answer ≡ ok tt
       unfolding openedOut
       create-enough = rw (opened .is)
 
@@ -307,17 +308,17 @@ some-576 : chunksOf (294912 / 512) 512 ≡ 0 → ⊥
 unfolding chunksOf
 some-576 e = let z : _≡_ {A = ℕ} 1 0 = e in omega (arith, z)
 
-module _ (seed : ℕ) (m : Medium) (ap₀ : Appender) (left : 11 ≤ m .left) (name : List ℕ) (fine : nameOk name ≡ true) where
+module _ (seed : ℕ) (m : Medium) (ap₀ : Appender) (left : 11 ≤ m .left) (rules : Rules) (name : List ℕ) (allows : Allows rules name) (fine : nameOk name ≡ true) where
   -- 128 sectors of zeros: the file with its batch, whatever the batch
   module _ (r : 128 ≤ m .unreadable) (bytes : List ℕ) (least : 1 ≤ length bytes) (most : length bytes < 486) where
     abbrev pub fresh-128 : World
     fresh-128 = started (formatCall (zeros 65536) m 4 seed) ap₀
 
     abbrev pub first-calls : List Call
-    first-calls = create 11 name false [] ∷ append 0 bytes ∷ sync 1 ∷ delete 1 name ∷ []
+    first-calls = create rules 11 name false [] ∷ append 0 bytes ∷ sync 1 ∷ delete 1 name ∷ []
 
     abbrev pub all-calls : List Call
-    all-calls = create 11 name false [] ∷ append 0 bytes ∷ sync 1 ∷ delete 1 name ∷ mount (after fresh-128 first-calls .medium) ∷ []
+    all-calls = create rules 11 name false [] ∷ append 0 bytes ∷ sync 1 ∷ delete 1 name ∷ mount (after fresh-128 first-calls .medium) ∷ []
 
     pub one-batch : Premise Honest fresh-128 all-calls × Holds (after fresh-128 all-calls .vol) (record {
       next = 2;
@@ -330,9 +331,9 @@ module _ (seed : ℕ) (m : Medium) (ap₀ : Appender) (left : 11 ≤ m .left) (n
         let reads : Readable (zeros 65536) m = rw (length-zeros 65536) r in
         let needs : bodyOf (chunksOf (65536 / 512) 4) + 2 ≤ m .left = rw eleven-128 left in
         let eleven : bodyOf (chunksOf (65536 / 512) 4) + 2 ≤ 11 = rw eleven-128 (lit≤ tt) in
-        let still = example-reads 65536 4 seed m ap₀ (lit≤ tt) reads (lit≤ tt) (lit≤ tt) some-128 needs name fine 11 eleven bytes least most in (
-          example-premise 65536 4 seed m ap₀ (lit≤ tt) reads (lit≤ tt) (lit≤ tt) some-128 needs name fine 11 eleven bytes least most Honest _ still,
-          example 65536 4 seed m ap₀ (lit≤ tt) reads (lit≤ tt) (lit≤ tt) some-128 needs name fine 11 eleven bytes least most _ still,
+        let still = example-reads 65536 4 seed m ap₀ (lit≤ tt) reads (lit≤ tt) (lit≤ tt) some-128 needs rules name allows fine 11 eleven bytes least most in (
+          example-premise 65536 4 seed m ap₀ (lit≤ tt) reads (lit≤ tt) (lit≤ tt) some-128 needs rules name allows fine 11 eleven bytes least most Honest _ still,
+          example 65536 4 seed m ap₀ (lit≤ tt) reads (lit≤ tt) (lit≤ tt) some-128 needs rules name allows fine 11 eleven bytes least most _ still,
         )
 
   -- 576 sectors of zeros, one chunk: 11 writes are enough for the first create; with 10 it gives 4, and a mount finds no file
@@ -341,12 +342,12 @@ module _ (seed : ℕ) (m : Medium) (ap₀ : Appender) (left : 11 ≤ m .left) (n
     fresh-576 = started (formatCall (zeros 294912) m 512 seed) ap₀
 
     abbrev pub first-create : ℕ → AppCall
-    first-create n = createCall (fresh-576 .vol) (withLeft n (fresh-576 .medium)) (fresh-576 .store) name false []
+    first-create n = createBy rules (fresh-576 .vol) (withLeft n (fresh-576 .medium)) (fresh-576 .store) name false []
 
     pub eleven-writes : first-create 11 .call .answer ≡ ok tt
     eleven-writes =
-        create-enough 294912 512 seed m ap₀ (lit≤ tt) (rw (length-zeros 294912) r) (lit≤ tt) (lit≤ tt) some-576 (rw eleven-576 left) name fine 11 (rw eleven-576 (lit≤ tt))
+        create-enough 294912 512 seed m ap₀ (lit≤ tt) (rw (length-zeros 294912) r) (lit≤ tt) (lit≤ tt) some-576 (rw eleven-576 left) rules name allows fine 11 (rw eleven-576 (lit≤ tt))
 
-    pub ten-writes : (first-create 10 .call .answer ≡ refused 4) × Holds (ran fresh-576 (create 10 name false []) .world .vol) newBook
+    pub ten-writes : (first-create 10 .call .answer ≡ refused 4) × Holds (ran fresh-576 (create rules 10 name false []) .world .vol) newBook
     ten-writes =
-        create-edge 294912 512 seed m ap₀ (lit≤ tt) (rw (length-zeros 294912) r) (lit≤ tt) (lit≤ tt) some-576 (rw eleven-576 left) name fine 10 (rw eleven-576 (lit< tt))
+        create-edge 294912 512 seed m ap₀ (lit≤ tt) (rw (length-zeros 294912) r) (lit≤ tt) (lit≤ tt) some-576 (rw eleven-576 left) rules name allows fine 10 (rw eleven-576 (lit< tt))

@@ -19,7 +19,7 @@ use Rattle.medium.specs.Refusal.{outcomeOf}
 use Rattle.medium.proofs.Laws.{onDone-keeps}
 use Rattle.append.specs.Calls.{AppCall, mayWrite, offered, syncCall}
 use Rattle.plan.specs.Copy.{Kind, Step, Distinct}
-use Rattle.power.specs.Calls.{Call, create, openAppend, append, sync}
+use Rattle.power.specs.Calls.{present, Call, create, openAppend, append, sync}
 use Rattle.power.specs.Book as book
 use Rattle.power.specs.Book.{File, Book, Terms, termsOf, onFile, withChunk, withPayload, ifSet}
 use Rattle.power.specs.History.{World, withLeft, isOk, ran, fedBy, Given, EachStep}
@@ -177,14 +177,14 @@ module _ (name : List ℕ) (some : name ≢ []) (lineOf : Pin → List ℕ) wher
       }
 
   -- an accepted create of the name: no file had it, so there were no points
-  pub made-points : (w : World) (b : Fine) → Keeps w b → (pins : List Pin) → Points name some lineOf b pins → (left : ℕ) (dir : List ℕ) → ran w (create left name false dir) .accepted ≡ true
-      → Points name some lineOf (written (create left name false dir) (fedBy w (create left name false dir)) b) pins
+  pub made-points : (w : World) (b : Fine) → Keeps w b → (pins : List Pin) → Points name some lineOf b pins → (left : ℕ) (dir : List ℕ) → ran w (create present left name false dir) .accepted ≡ true
+      → Points name some lineOf (written (create present left name false dir) (fedBy w (create present left name false dir)) b) pins
   unfolding fedBy Spared Missed forgotten
   made-points w b k pins p left dir accepted =
-      let c : Call = create left name false dir in
+      let c : Call = create present left name false dir in
       let b′ : Fine = written c (fedBy w c) b in
-      let y = create-begun w b k left name dir accepted in
-      let spared : SparedBy name w c (forget b) = rw (create-told w b k left name dir accepted .1) (tt, tt) in
+      let y = create-begun present w b k left name dir accepted in
+      let spared : SparedBy name w c (forget b) = rw (create-told present w b k left name dir accepted .1) (tt, tt) in
       let same : forgotten name (b′ .files) pins ≡ pins
       = pick-true _ _ (has-true name (b′ .files) (y .there .0) (y .there .1) (y .there .2)) in
       subst (Points name some lineOf b′) same (call-points name some lineOf c w b k pins p spared)
@@ -214,24 +214,24 @@ module _ (name : List ℕ) (some : name ≢ []) (lineOf : Pin → List ℕ) wher
         )
 
     -- the file of the lines opened, or made
-    pub set-opened : (w : World) (b : Fine) → Keeps w b → Points name some lineOf b pins → Pinned b q → (left₁ : ℕ) (dir : List ℕ) → ran w (openAppend left₁ name false dir) .accepted ≡ true
-        → Settled (ran w (openAppend left₁ name false dir) .world) (written (openAppend left₁ name false dir) (fedBy w (openAppend left₁ name false dir)) b)
+    pub set-opened : (w : World) (b : Fine) → Keeps w b → Points name some lineOf b pins → Pinned b q → (left₁ : ℕ) (dir : List ℕ) → ran w (openAppend present left₁ name false dir) .accepted ≡ true
+        → Settled (ran w (openAppend present left₁ name false dir) .world) (written (openAppend present left₁ name false dir) (fedBy w (openAppend present left₁ name false dir)) b)
     unfolding Given EachStep begins fedBy ran
     set-opened w b k p pinned left₁ dir accepted =
-        let c : Call = openAppend left₁ name false dir in
-        line-set (ran w c .world) (written c (fedBy w c) b) (fine-keeps c w b k tt tt) (open-begun w b k left₁ name dir accepted) (still-points c w b pins refl refl p)
+        let c : Call = openAppend present left₁ name false dir in
+        line-set (ran w c .world) (written c (fedBy w c) b) (fine-keeps c w b k tt tt) (open-begun present w b k left₁ name dir accepted) (still-points c w b pins refl refl p)
         (pinned-grown (call-grown c (fedBy w c) b refl) pinned)
 
-    pub set-made : (w : World) (b : Fine) → Keeps w b → Points name some lineOf b pins → Pinned b q → (left₁ : ℕ) (dir : List ℕ) → EachStep Distinct (ran w (create left₁ name false dir) .steps)
-        → ran w (create left₁ name false dir) .accepted ≡ true
-        → Settled (ran w (create left₁ name false dir) .world) (written (create left₁ name false dir) (fedBy w (create left₁ name false dir)) b)
+    pub set-made : (w : World) (b : Fine) → Keeps w b → Points name some lineOf b pins → Pinned b q → (left₁ : ℕ) (dir : List ℕ) → EachStep Distinct (ran w (create present left₁ name false dir) .steps)
+        → ran w (create present left₁ name false dir) .accepted ≡ true
+        → Settled (ran w (create present left₁ name false dir) .world) (written (create present left₁ name false dir) (fedBy w (create present left₁ name false dir)) b)
     unfolding Given begins
     set-made w b k p pinned left₁ dir each accepted =
-        let c : Call = create left₁ name false dir in
-        line-set (ran w c .world) (written c (fedBy w c) b) (fine-keeps c w b k tt each) (create-begun w b k left₁ name dir accepted) (made-points w b k pins p left₁ dir accepted)
+        let c : Call = create present left₁ name false dir in
+        line-set (ran w c .world) (written c (fedBy w c) b) (fine-keeps c w b k tt each) (create-begun present w b k left₁ name dir accepted) (made-points w b k pins p left₁ dir accepted)
         (pinned-grown (call-grown c (fedBy w c) b refl) pinned)
 
   -- refused, none is made
-  pub unmade-points : (w : World) (b : Fine) → Keeps w b → (pins : List Pin) → Points name some lineOf b pins → (left : ℕ) (dir : List ℕ) → ran w (create left name false dir) .accepted ≡ false
-      → Points name some lineOf (written (create left name false dir) (fedBy w (create left name false dir)) b) pins
-  unmade-points w b k pins p left dir refused = rw (create-unmade w b k left name dir refused) p
+  pub unmade-points : (w : World) (b : Fine) → Keeps w b → (pins : List Pin) → Points name some lineOf b pins → (left : ℕ) (dir : List ℕ) → ran w (create present left name false dir) .accepted ≡ false
+      → Points name some lineOf (written (create present left name false dir) (fedBy w (create present left name false dir)) b) pins
+  unmade-points w b k pins p left dir refused = rw (create-unmade present w b k left name dir refused) p

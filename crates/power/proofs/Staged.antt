@@ -22,10 +22,10 @@ use Rattle.append.specs.declared.Appender.{Appender}
 use Rattle.views.proofs.Commits.{inv-sane}
 use Rattle.store.specs.Opening.{openFine}
 use Rattle.writes.specs.Writes.{recordsMost}
-use Rattle.power.specs.Calls.{Call, format, create, openAppend, append, sync}
+use Rattle.power.specs.Calls.{Rules, Call, format, create, openAppend, append, sync}
 use Rattle.power.specs.Book.{File, Book, mayGo, written}
 use Rattle.power.specs.History.{World, Ran, ran, openOf, fedBy, bookOf, Given, EachStep}
-use Rattle.power.specs.Room.{Tells, chunksIn, TakesChunk}
+use Rattle.power.specs.Room.{Tells, Allows, chunksIn, TakesChunk}
 use Rattle.power.proofs.Whole.{Booked, same-files}
 use Rattle.power.proofs.Running.{Ready, opened, stands, append-run, sync-run, sync-leaves}
 use Rattle.power.proofs.Creating.{Made, made-chunks, made-size, made-generation}
@@ -80,14 +80,14 @@ told-fed w c t = rw (t .0, t .1)
 module _ {w : World} {b : Book} {n : ℕ} (s : Stage w b n) where
   -- ---- create, of a new name, where the book's files have not both chunks
 
-  module _ (name : List ℕ) (rolls : Bool) (dir : List ℕ) (fine : openFine name rolls dir ≡ true) (slots : length (b .files) < 64) (few : chunksIn (b .files) < 2)
+  module _ (rules : Rules) (name : List ℕ) (rolls : Bool) (dir : List ℕ) (allows : Allows rules name) (fine : openFine name rolls dir ≡ true) (slots : length (b .files) < 64) (few : chunksIn (b .files) < 2)
       (new : (f : File) → List·Memᴰ f (b .files) → f .name ≡ name → ⊥) (ids : b .next + 1 < 2 ^ 32) (gens : n + 1 < 2 ^ 64) where
     abbrev making : Call
-    making = create 11 name rolls dir
+    making = create rules 11 name rolls dir
 
-    made : Made w 11 name rolls dir
+    made : Made rules w 11 name rolls dir
     made =
-        create-made w b (s .keeps) 11 (record { gens = λ e. omega (arith, s .generation, gens, e); writes = rw (s .chunks) (lit≤ tt) }) name rolls dir fine new
+        create-made w b (s .keeps) 11 (record { gens = λ e. omega (arith, s .generation, gens, e); writes = rw (s .chunks) (lit≤ tt) }) rules name rolls dir allows fine new
         (record { slots = slots; chunks = rw (s .chunks) few; ids = λ e. omega (arith, ids, e) })
 
     pub create-next : Next w b making (created ∷ []) 0 0 (n + 1)
@@ -98,9 +98,9 @@ module _ {w : World} {b : Book} {n : ℕ} (s : Stage w b n) where
           ready = subst (λ (x : Ran). Ready (x .world) 0 0) (sym (made .is)) (record { writer = refl; tail = refl; fill = refl });
           stage = λ e. record {
             keeps = call-keeps making w b (s .keeps) tt e;
-            chunks = made-chunks w 11 name rolls dir made ∙ s .chunks;
-            size = made-size w 11 name rolls dir made ∙ s .size;
-            generation = made-generation w 11 name rolls dir made ∙ ap (λ (k : ℕ). k + 1) (s .generation);
+            chunks = made-chunks rules w 11 name rolls dir made ∙ s .chunks;
+            size = made-size rules w 11 name rolls dir made ∙ s .size;
+            generation = made-generation rules w 11 name rolls dir made ∙ ap (λ (k : ℕ). k + 1) (s .generation);
           };
         }
 
@@ -171,12 +171,12 @@ module _ {w : World} {b : Book} {n : ℕ} (s : Stage w b n) where
 
   -- ---- open_append of a file of the book
 
-  module _ (f : File) (has : List·Memᴰ f (b .files)) (rolls : Bool) (dir : List ℕ) (fine : openFine (f .name) rolls dir ≡ true) where
+  module _ (rules : Rules) (f : File) (has : List·Memᴰ f (b .files)) (rolls : Bool) (dir : List ℕ) (allows : Allows rules (f .name)) (fine : openFine (f .name) rolls dir ≡ true) where
     abbrev opening : Call
-    opening = openAppend 0 (f .name) rolls dir
+    opening = openAppend rules 0 (f .name) rolls dir
 
     opens : (ran w opening .accepted ≡ true) × (ran w opening .steps ≡ []) × (ran w opening .world .store .head ≡ w .store .head)
-    opens = let x = s .keeps .keeps .whole .ties .from f (rw (same-files (s .keeps)) has) in open-run 0 (f .name) rolls dir w (s .keeps .fine) (s .keeps .keeps) (x .0) (f .id) (x .1) (x .2) fine
+    opens = let x = s .keeps .keeps .whole .ties .from f (rw (same-files (s .keeps)) has) in open-run rules 0 (f .name) rolls dir w (s .keeps .fine) (s .keeps .keeps) (x .0) (f .id) (x .1) (x .2) allows fine
 
     pub open-next : Tells w opening [] × (EachStep Distinct (ran w opening .steps) → Stage (ran w opening .world) (written opening (fedBy w opening) b) n)
     unfolding Given

@@ -43,12 +43,13 @@ use Rattle.views.proofs.Stays.{writer-unchanged}
 use Rattle.runs.proofs.Tests.{same-self}
 use Rattle.folds.proofs.Named.{find-there}
 use Rattle.store.specs.Asked.{askedName, askedOf}
-use Rattle.store.specs.Opening.{rolloverOf, createCall}
+use Rattle.store.specs.Opening.{rolloverOf}
 use Rattle.store.specs.Writing.{formatCall, deleteCall}
-use Rattle.power.specs.Calls.{Call, create, delete}
+use Rattle.power.specs.Calls.{Rules, Call, create, delete}
 use Rattle.power.specs.Book.{Book, newBook, keep, withoutName, termsOf, entered, enteredAll, beforeSteps, afterSteps, written}
-use Rattle.power.specs.History.{World, Ran, isOk, withLeft, ran, fedBy, after, bookOf, Given, EachStep, Honest, Premise}
+use Rattle.power.specs.History.{World, Ran, isOk, withLeft, createBy, ran, fedBy, after, bookOf, Given, EachStep, Honest, Premise}
 use Rattle.power.specs.Claim.{Holds, started}
+use Rattle.power.specs.Room.{Allows}
 use Rattle.power.proofs.Whole.{Booked}
 use Rattle.power.proofs.Checks.{inv-checked}
 use Rattle.power.proofs.Creates.{steps-done}
@@ -66,7 +67,7 @@ pub record Skipped9 (name : List ℕ) (w : World) : Type 0 where
   pub honest : EachSkipped Honest skipped
   pub nine : length skipped ≡ 9
 
-module _ (seed : ℕ) (m : Medium) (ap₀ : Appender) (left : 11 ≤ m .left) (r : 128 ≤ m .unreadable) (name : List ℕ) (fine : nameOk name ≡ true) where
+module _ (seed : ℕ) (m : Medium) (ap₀ : Appender) (left : 11 ≤ m .left) (r : 128 ≤ m .unreadable) (rules : Rules) (name : List ℕ) (allows : Allows rules name) (fine : nameOk name ≡ true) where
   reads : Readable (zeros 65536) m
   reads = rw (length-zeros 65536) r
 
@@ -92,10 +93,10 @@ module _ (seed : ℕ) (m : Medium) (ap₀ : Appender) (left : 11 ≤ m .left) (r
   -- ---- created
 
   abbrev making : Call
-  making = create 11 name false []
+  making = create rules 11 name false []
 
-  abbrev first : Opened 1 name (w₀ .vol) (withLeft 11 (w₀ .medium)) (w₀ .store) (rolloverOf false []) (createCall (w₀ .vol) (withLeft 11 (w₀ .medium)) (w₀ .store) name false [])
-  first = sanity.opened 65536 4 seed m ap₀ (lit≤ tt) reads (lit≤ tt) (lit≤ tt) sanity.some-128 needs name fine 11 eleven
+  abbrev first : Opened 1 name (w₀ .vol) (withLeft 11 (w₀ .medium)) (w₀ .store) (rolloverOf false []) (createBy rules (w₀ .vol) (withLeft 11 (w₀ .medium)) (w₀ .store) name false [])
+  first = sanity.opened 65536 4 seed m ap₀ (lit≤ tt) reads (lit≤ tt) (lit≤ tt) sanity.some-128 needs rules name allows fine 11 eleven
 
   abbrev book₁ : Book
   book₁ = record { next = 2; files = (record { name = name; id = 1; chunks = 1; payloads = [] }) ∷ []; file = 1; rollover = none; unwritten = [] }
@@ -110,10 +111,10 @@ module _ (seed : ℕ) (m : Medium) (ap₀ : Appender) (left : 11 ≤ m .left) (r
       }
 
   is-w₁ : ran w₀ making .world ≡ w₁
-  is-w₁ = ap (λ (x : Ran). x .world) (sanity.create-run 65536 4 seed m ap₀ (lit≤ tt) reads (lit≤ tt) (lit≤ tt) sanity.some-128 needs name fine 11 eleven)
+  is-w₁ = ap (λ (x : Ran). x .world) (sanity.create-run 65536 4 seed m ap₀ (lit≤ tt) reads (lit≤ tt) (lit≤ tt) sanity.some-128 needs rules name allows fine 11 eleven)
 
   keeps₁ : Booked w₁ book₁
-  keeps₁ = subst (λ (w : World). Booked w book₁) is-w₁ (sanity.keeps₂ 65536 4 seed m ap₀ (lit≤ tt) reads (lit≤ tt) (lit≤ tt) sanity.some-128 needs name fine 11 eleven)
+  keeps₁ = subst (λ (w : World). Booked w book₁) is-w₁ (sanity.keeps₂ 65536 4 seed m ap₀ (lit≤ tt) reads (lit≤ tt) (lit≤ tt) sanity.some-128 needs rules name allows fine 11 eleven)
 
   -- ---- and deleted
 
@@ -183,7 +184,7 @@ module _ (seed : ℕ) (m : Medium) (ap₀ : Appender) (left : 11 ≤ m .left) (r
   -- ---- the history
 
   abbrev pub calls : List Call
-  calls = create 11 name false [] ∷ delete 2 name ∷ []
+  calls = create rules 11 name false [] ∷ delete 2 name ∷ []
 
   skips : Skipped9 name (ran w₀ making .world)
   skips = subst (Skipped9 name) (sym is-w₁) skips₁
@@ -192,7 +193,7 @@ module _ (seed : ℕ) (m : Medium) (ap₀ : Appender) (left : 11 ≤ m .left) (r
   unfolding Premise Given EachStep
   premise = (
     tt,
-    sanity.create-steps 65536 4 seed m ap₀ (lit≤ tt) reads (lit≤ tt) (lit≤ tt) sanity.some-128 needs name fine 11 eleven Honest,
+    sanity.create-steps 65536 4 seed m ap₀ (lit≤ tt) reads (lit≤ tt) (lit≤ tt) sanity.some-128 needs rules name allows fine 11 eleven Honest,
     (tt, subst (EachStep Honest) (sym (skips .steps)) (skips .honest, tt), tt),
   )
 
@@ -207,9 +208,9 @@ module _ (seed : ℕ) (m : Medium) (ap₀ : Appender) (left : 11 ≤ m .left) (r
   unfolding bookOf
   books =
       ap (λ (b : Book). written (delete 2 name) (fedBy (ran w₀ making .world) (delete 2 name)) b)
-      (sanity.create-book 65536 4 seed m ap₀ (lit≤ tt) reads (lit≤ tt) (lit≤ tt) sanity.some-128 needs name fine 11 eleven) ∙ delete-book
+      (sanity.create-book 65536 4 seed m ap₀ (lit≤ tt) reads (lit≤ tt) (lit≤ tt) sanity.some-128 needs rules name allows fine 11 eleven) ∙ delete-book
 
-  pub two-writes : Premise Honest w₀ calls × Skipped9 name (ran w₀ (create 11 name false []) .world) × Holds (after w₀ calls .vol) book₂
+  pub two-writes : Premise Honest w₀ calls × Skipped9 name (ran w₀ (create rules 11 name false []) .world) × Holds (after w₀ calls .vol) book₂
   two-writes = (
     premise,
     skips,

@@ -99,14 +99,14 @@ abbrev pub noTerms : Terms
 noTerms = record { name = []; dir = none; spared = none }
 
 unfoldable pub termsOf : Call → Option ℕ → Book → Terms
-termsOf (create left name rolls dir) writer b = record { name = name; dir = ifSet rolls dir; spared = none }
+termsOf (create rules left name rolls dir) writer b = record { name = name; dir = ifSet rolls dir; spared = none }
 termsOf (append left bytes) writer b = record { name = []; dir = b .rollover; spared = writer }
 termsOf (sync left) writer b = record { name = []; dir = b .rollover; spared = writer }
 termsOf (delete left name) writer b = record { name = name; dir = none; spared = none }
 termsOf (deleteOldest left dir) writer b = record { name = []; dir = some dir; spared = writer }
 termsOf (mount m) writer b = noTerms
 termsOf (format m size seed) writer b = noTerms
-termsOf (openAppend left name rolls dir) writer b = noTerms
+termsOf (openAppend rules left name rolls dir) writer b = noTerms
 termsOf (query q) writer b = noTerms
 
 abbrev pub withFiles : List File → Book → Book
@@ -155,8 +155,8 @@ beforeSteps (append left bytes) b =
     record { next = b .next; files = b .files; file = b .file; rollover = b .rollover; unwritten = b .unwritten ++ bytes }
 beforeSteps (mount m) b = b
 beforeSteps (format m size seed) b = b
-beforeSteps (create left name rolls dir) b = b
-beforeSteps (openAppend left name rolls dir) b = b
+beforeSteps (create rules left name rolls dir) b = b
+beforeSteps (openAppend rules left name rolls dir) b = b
 beforeSteps (sync left) b = b
 beforeSteps (delete left name) b = b
 beforeSteps (deleteOldest left dir) b = b
@@ -167,8 +167,8 @@ abbrev pub openedFor : ℕ → Option (List ℕ) → Book → Book
 openedFor id dir b = record { next = b .next; files = b .files; file = id; rollover = dir; unwritten = [] }
 
 unfoldable pub afterSteps : Call → Book → Book
-afterSteps (create left name rolls dir) b = openedFor (b .next - 1) (ifSet rolls dir) b
-afterSteps (openAppend left name rolls dir) b = openedFor (idOf name (b .files)) (ifSet rolls dir) b
+afterSteps (create rules left name rolls dir) b = openedFor (b .next - 1) (ifSet rolls dir) b
+afterSteps (openAppend rules left name rolls dir) b = openedFor (idOf name (b .files)) (ifSet rolls dir) b
 afterSteps (mount m) b = b
 afterSteps (format m size seed) b = b
 afterSteps (append left bytes) b = b

@@ -14,12 +14,17 @@ pub data Query : Type 0 where
   next : (rd : Reader) (out : List ℕ) → Query
   seek : (rd : Reader) (number : ℕ) → Query
 
--- of create and open_append: whether a rollover is set, and its directory
+-- S-5: the rules that a create or an opening goes by: those from before that request, which are 01's, or those since
+pub data Rules : Type 0 where
+  earlier : Rules
+  present : Rules
+
+-- of create and open_append: the rules then in force, whether a rollover is set, and its directory
 pub data Call : Type 0 where
   mount : Medium → Call
   format : (m : Medium) (size seed : ℕ) → Call
-  create : (left : ℕ) (name : List ℕ) (rolls : Bool) (dir : List ℕ) → Call
-  openAppend : (left : ℕ) (name : List ℕ) (rolls : Bool) (dir : List ℕ) → Call
+  create : (rules : Rules) (left : ℕ) (name : List ℕ) (rolls : Bool) (dir : List ℕ) → Call
+  openAppend : (rules : Rules) (left : ℕ) (name : List ℕ) (rolls : Bool) (dir : List ℕ) → Call
   append : (left : ℕ) (bytes : List ℕ) → Call
   sync : (left : ℕ) → Call
   delete : (left : ℕ) (name : List ℕ) → Call

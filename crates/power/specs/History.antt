@@ -1,6 +1,7 @@
 -- Demand 3: a history is a list of calls. Each gets the volume as left and the store value, appender and medium record last returned. What a call gives
 -- is what the definitions say that the contracts of the calls cite, and nothing else: mountCall, formatCall, createCall, openCall, appendCall,
--- syncCall, deleteCall, oldestCall, listCall, findCall, readerCall, nextCall and seekCall. Assumes nothing.
+-- syncCall, deleteCall, oldestCall, listCall, findCall, readerCall, nextCall and seekCall; and for the creates and openings from before S-5 what their
+-- contracts cited then, createEarlier and openEarlier. They may be mixed with later ones in any order. Assumes nothing.
 use Prim.Native.Nat.{ℕ, _<_}
 use mathlib.Core.Path.{_≡_}
 use mathlib.Core.Bool.{Bool, true, false}
@@ -19,8 +20,8 @@ use Rattle.append.specs.Calls.{AppCall, appendCall, syncCall}
 use Rattle.reader.specs.Calls.{NextCall, nextCall, SeekCall, seekCall}
 use Rattle.store.specs.Reading.{StoreCall, mountCall, FindCall, findCall, ListCall, listCall, ReaderCall, readerCall}
 use Rattle.store.specs.Writing.{WriteCall, formatCall, deleteCall, OldestCall, oldestCall}
-use Rattle.store.specs.Opening.{createCall, openCall}
-use Rattle.power.specs.Calls.{Query, list, find, reader, next, seek, Call, mount, format, create, openAppend, append, sync, delete, deleteOldest, query}
+use Rattle.store.specs.Opening.{createEarlier, openEarlier, createCall, openCall}
+use Rattle.power.specs.Calls.{Query, list, find, reader, next, seek, Rules, earlier, present, Call, mount, format, create, openAppend, append, sync, delete, deleteOldest, query}
 use Rattle.power.specs.Book.{Book, Fed, written}
 
 -- the volume as left, and the handles last returned
@@ -120,11 +121,20 @@ answered w (reader name) = let c : ReaderCall = readerCall (w .vol) (w .medium) 
 answered w (next rd out) = let c : NextCall = nextCall (w .vol) (w .medium) (w .store) rd out in ranReading w (c .medium) (isOk (c .answer))
 answered w (seek rd number) = let c : SeekCall = seekCall (w .vol) (w .medium) (w .store) rd number in ranReading w (c .medium) (isOk (c .answer))
 
+-- S-5: "creates and openings from before this request, by the rules then in force"
+abbrev pub createBy : Rules → List ℕ → Medium → Store → List ℕ → Bool → List ℕ → AppCall
+createBy earlier = createEarlier
+createBy present = createCall
+
+abbrev pub openBy : Rules → List ℕ → Medium → Store → List ℕ → Bool → List ℕ → AppCall
+openBy earlier = openEarlier
+openBy present = openCall
+
 unfoldable pub ran : World → Call → Ran
 ran w (mount m) = ranMount w (mountCall (w .vol) m)
 ran w (format m size seed) = ranFormat w (formatCall (w .vol) m size seed)
-ran w (create left name rolls dir) = ranCreate w (createCall (w .vol) (withLeft left (w .medium)) (w .store) name rolls dir)
-ran w (openAppend left name rolls dir) = ranReopen w (openCall (w .vol) (withLeft left (w .medium)) (w .store) name rolls dir)
+ran w (create rules left name rolls dir) = ranCreate w (createBy rules (w .vol) (withLeft left (w .medium)) (w .store) name rolls dir)
+ran w (openAppend rules left name rolls dir) = ranReopen w (openBy rules (w .vol) (withLeft left (w .medium)) (w .store) name rolls dir)
 ran w (append left bytes) = ranAppend (appendCall (w .vol) (withLeft left (w .medium)) (w .store) (w .appender) bytes)
 ran w (sync left) = ranAppend (syncCall (w .vol) (withLeft left (w .medium)) (w .store) (w .appender))
 ran w (delete left name) = ranDelete w (deleteCall (w .vol) (withLeft left (w .medium)) (w .store) name)
@@ -160,8 +170,8 @@ unfoldable pub Given : World → Call → Type 0
 Given w (mount m) = Readable (w .vol) m
 Given w (format m size seed) =
     Readable (w .vol) m × (isOk (formatCall (w .vol) m size seed .call .answer) ≡ true → Clean (w .vol) (formatCall (w .vol) m size seed .call .store))
-Given w (create left name rolls dir) = Unit
-Given w (openAppend left name rolls dir) = Unit
+Given w (create rules left name rolls dir) = Unit
+Given w (openAppend rules left name rolls dir) = Unit
 Given w (append left bytes) = Unit
 Given w (sync left) = Unit
 Given w (delete left name) = Unit

@@ -67,8 +67,8 @@ SparedAll name w (c ∷ cs) b = SparedBy name w c b × SparedAll name (ran w c .
 unfoldable pub begins : Call → Bool → Bool
 begins (format m size seed) accepted = accepted
 begins (mount m) accepted = false
-begins (create left name rolls dir) accepted = false
-begins (openAppend left name rolls dir) accepted = false
+begins (create rules left name rolls dir) accepted = false
+begins (openAppend rules left name rolls dir) accepted = false
 begins (append left bytes) accepted = false
 begins (sync left) accepted = false
 begins (delete left name) accepted = false

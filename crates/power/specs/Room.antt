@@ -1,21 +1,28 @@
--- Words for when a call is accepted: what it tells the book, what a commit needs, what a file more needs, and when a record takes another chunk.
+-- Words for when a call is accepted: what it tells the book, which names a create or an opening takes, what a commit needs, what a file more needs, and
+-- when a record takes another chunk.
 -- Assumes nothing.
 use Prim.Native.Nat.{ℕ, _+_, _-_, _^_, _≤_, _<_}
 use mathlib.Core.Path.{_≡_}
-use mathlib.Core.Bool.{true}
+use mathlib.Core.Bool.{true, false}
 use mathlib.Core.List.{List, [], _∷_, map}
 use lib.ListN.{length}
+use Rattle.names.specs.Names.{dotted}
 use Rattle.plan.specs.Copy.{Kind, Step}
 use Rattle.append.specs.declared.Tail.{Tail}
 use Rattle.append.specs.declared.Tail.the-variants.{At, Reopened, Closed}
 use Rattle.writes.specs.Writes.{commitMost}
-use Rattle.power.specs.Calls.{Call}
+use Rattle.power.specs.Calls.{Rules, earlier, present, Call}
 use Rattle.power.specs.Book.{File, Book}
 use Rattle.power.specs.History.{World, ran}
 
 -- a call is accepted, with steps of these kinds
 abbrev pub Tells : World → Call → List Kind → Type 0
 Tells w c kinds = (ran w c .accepted ≡ true) × (map (λ (s : Step). s .kind) (ran w c .steps) ≡ kinds)
+
+-- S-5: since that request a create or an opening takes no name with dots in front
+abbrev pub Allows : Rules → List ℕ → Type 0
+Allows earlier name = Unit {0}
+Allows present name = dotted name ≡ false
 
 -- enough for a commit: the generation is not spent, and as many writes are left as it may make
 pub record CanCommit (w : World) (left : ℕ) : Type 0 where

@@ -27,7 +27,7 @@ use Rattle.store.specs.declared.StoreAnswer.{StoreAnswer}
 use Rattle.store.specs.declared.ListAnswer.{ListAnswer}
 use Rattle.store.specs.Reading.{storeAnswer, listAnswer, listCall}
 use Rattle.store.specs.Writing.{formatCall, deleteCall}
-use Rattle.store.specs.Opening.{createCall, opening}
+use Rattle.store.specs.Opening.{opening, createEarlier, admittedOf, ifAdmitted, createCall}
 use Rattle.store.specs.Opening as store
 use Rattle.session.specs.declared.Session.{Session}
 use Rattle.session.specs.declared.Told.{Told}
@@ -77,7 +77,7 @@ module _ (vol : List ℕ) (s : Session) (size seed : ℕ) (r : StoreAnswer) {v :
 
 create-as : (vol : List ℕ) (s : Session) (name : List ℕ) (rolls : Bool) (dir : List ℕ)
     → opened s (createCall vol (s .medium) (s .store) name rolls dir) ≡ createLine vol s name (pick rolls (rollover dir) noRollover)
-unfolding createLine createCall opening store.rolloverOf pick
+unfolding createLine createCall ifAdmitted admittedOf createEarlier opening store.rolloverOf pick
 create-as vol s name true dir = refl
 create-as vol s name false dir = refl
 

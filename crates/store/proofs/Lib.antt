@@ -2,6 +2,7 @@ pub mod Laws
 pub mod Lists
 pub mod Starts
 pub mod Deletes
+pub mod Admits
 pub mod Opens
 pub mod Appends
 pub mod Live
@@ -9,3 +10,4 @@ pub mod Starred
 pub mod Rests
 pub mod Frame
 pub mod Stale
+pub mod Dots

@@ -31,10 +31,10 @@ use Rattle.files.specs.Opened.{nextToken, openedOut}
 use Rattle.files.proofs.Opens.{overOk, opened-may}
 use Rattle.files.proofs.Keeps.{from-holds}
 use Rattle.reopen.proofs.Opens.{reopen-opens}
-use Rattle.store.specs.Asked.{askedOf}
 use Rattle.store.specs.Edges.{Ready}
-use Rattle.store.specs.Opening.{openFine, rolloverOf, opening, createCall, openCall}
+use Rattle.store.specs.Opening.{openFine, rolloverOf, admittedOf, createCall, openCall}
 use Rattle.store.proofs.Laws.{Accepted, asked-done}
+use Rattle.store.proofs.Admits.{admitted-asked, create-is, open-is}
 
 -- a directory that is set and passes its rule makes a rollover that does
 dir-kept : (dir : List ℕ) → length dir ≤ 40 → dirBytes (record { bytes = over 0 dir (zeros 40); length = length dir }) ≡ dir
@@ -62,10 +62,10 @@ module _ (vol : List ℕ) (m : Medium) (st : Store) (name : List ℕ) (rolls : B
   abbrev over′ : Rollover
   over′ = rolloverOf rolls dir
 
-  accepted : askedOf vol st (openFine name rolls dir) ≡ Done → Accepted vol st (openFine name rolls dir)
-  accepted q = asked-done vol st (openFine name rolls dir) refl q
+  accepted : admittedOf vol st name rolls dir ≡ Done → Accepted vol st (openFine name rolls dir)
+  accepted q = asked-done vol st (openFine name rolls dir) refl (admitted-asked vol st name rolls dir q)
 
-  fine : askedOf vol st (openFine name rolls dir) ≡ Done → Fine name rolls dir
+  fine : admittedOf vol st name rolls dir ≡ Done → Fine name rolls dir
   fine q = fine-facts name rolls dir (accepted q .named)
 
   -- ---- open_append
@@ -74,11 +74,11 @@ module _ (vol : List ℕ) (m : Medium) (st : Store) (name : List ℕ) (rolls : B
   May o = o .ans .outcome ≡ Done → mayWrite vol (o .ans .store) (o .ans .appender) ≡ Done
 
   pub open-may : openCall vol m st name rolls dir .call .answer ≡ ok tt → mayWrite vol (openCall vol m st name rolls dir .call .store) (openCall vol m st name rolls dir .call .appender) ≡ Done
-  unfolding openCall opening
-  open-may a =
-      onDone-keeps May (askedOf vol st (openFine name rolls dir)) _ _
+  open-may =
+      rw (open-is vol st name rolls dir m)
+      (λ a. onDone-keeps May (admittedOf vol st name rolls dir) _ _
       (λ q d. reopen-opens name over′ vol m st (accepted q .ok) d .may (fine q .over))
-      (λ e q. not-done) (done-told _ a)
+      (λ e q. not-done) (done-told _ a))
 
   -- ---- create
 
@@ -101,8 +101,8 @@ module _ (vol : List ℕ) (m : Medium) (st : Store) (name : List ℕ) (rolls : B
 
   pub create-ready : length (st .head .crcs) ≡ 24 → createCall vol m st name rolls dir .call .answer ≡ ok tt → 1 ≤ createCall vol m st name rolls dir .call .medium .left
       → Ready (createCall vol m st name rolls dir .vol) (createCall vol m st name rolls dir .call .medium) (createCall vol m st name rolls dir .call .store) (createCall vol m st name rolls dir .call .appender)
-  unfolding createCall opening
-  create-ready count a =
-      onDone-keeps (λ (o : AppOut). Readies (o .vol) (o .ans)) (askedOf vol st (openFine name rolls dir)) _ _
+  create-ready count =
+      rw (create-is vol st name rolls dir m)
+      (λ a. onDone-keeps (λ (o : AppOut). Readies (o .vol) (o .ans)) (admittedOf vol st name rolls dir) _ _
       (λ q. from-holds vol m st over′ Readies (record { no = λ v n s e k. not-done; yes = new-ready (fine q .over) }) name (fine q .short) 2 vol m st (stands-none vol m st (record { ok = accepted q .ok; count = count })))
-      (λ e q. not-done) (done-told _ a)
+      (λ e q. not-done) (done-told _ a))

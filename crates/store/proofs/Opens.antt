@@ -28,9 +28,9 @@ use Rattle.files.specs.Opened.{refusedAt}
 use Rattle.files.specs.Create.{createOf}
 use Rattle.reopen.specs.Reopen.{reopenOf}
 use Rattle.reopen.proofs.Opens.{reopen-reads}
-use Rattle.store.specs.Asked.{askedOf}
-use Rattle.store.specs.Opening.{openFine, rolloverOf, opening, createCall, openCall}
+use Rattle.store.specs.Opening.{openFine, rolloverOf, admittedOf, createCall, openCall}
 use Rattle.store.proofs.Laws.{Accepted, asked-done}
+use Rattle.store.proofs.Admits.{admitted-asked, create-is, open-is}
 
 -- ---- the input
 
@@ -40,11 +40,11 @@ pub record Opened (vol : List ℕ) (st : Store) (name : List ℕ) (rolls : Bool)
   pub short : length name ≤ 40
   pub near : rolls ≡ true → length dir ≤ 40
 
-pub input-fits : (vol : List ℕ) (st : Store) (name : List ℕ) (rolls : Bool) (dir : List ℕ) {fine : Bool} {o : Outcome} → fine ≡ openFine name rolls dir → o ≡ askedOf vol st fine
-    → o ≡ Done → Opened vol st name rolls dir
-input-fits vol st name rolls dir f q d =
-    let a : Accepted vol st _ = asked-done vol st _ q d in
-    let b = and-true (nameOk name) (not rolls || dirOk dir) (sym f ∙ a .named) in
+pub input-fits : (vol : List ℕ) (st : Store) (name : List ℕ) (rolls : Bool) (dir : List ℕ) {o : Outcome} → o ≡ admittedOf vol st name rolls dir → o ≡ Done
+    → Opened vol st name rolls dir
+input-fits vol st name rolls dir q d =
+    let a : Accepted vol st (openFine name rolls dir) = asked-done vol st _ refl (admitted-asked vol st name rolls dir (sym q ∙ d)) in
+    let b = and-true (nameOk name) (not rolls || dirOk dir) (a .named) in
     record { ok = a .ok; short = name-short name (b .0); near = λ r. dir-short dir (where-true rolls (dirOk dir) (b .1) r) }
 
 -- ---- the rollover
@@ -64,42 +64,30 @@ rollover-near rolls dir e h = rw e (pick-keeps-by (λ (d : Dir). d .length ≤ 4
 
 -- ---- the ways out
 
-module _ (vol : List ℕ) (m : Medium) (st : Store) (name : List ℕ) (rolls : Bool) (dir : List ℕ) {fine : Bool} {o : Outcome} (f : fine ≡ openFine name rolls dir)
-    (q : o ≡ askedOf vol st fine) where
-  module _ (work : Rollover → AppOut) where
-    opening-refused : {e : Error} {r : Handed} → o ≡ No e → r ≡ refusedAt [] m st e .ans → Offers vol r (opening vol m st name rolls dir work)
-    unfolding opening onDone
-    opening-refused h k = rw (k, ← f, ← q, h) (refl, refl)
-
-    opening-worked : {over : Rollover} {v : List ℕ} {r : Handed} → o ≡ Done → over ≡ rolloverOf rolls dir → (v ≡ work over .vol) × (r ≡ work over .ans)
-        → Offers v r (opening vol m st name rolls dir work)
-    unfolding opening onDone
-    opening-worked h k g = rw (← f, ← q, h, ← k) (g .0, ap appAnswer (g .1))
-
+module _ (vol : List ℕ) (m : Medium) (st : Store) (name : List ℕ) (rolls : Bool) (dir : List ℕ) {o : Outcome} (q : o ≡ admittedOf vol st name rolls dir) where
   module _ {e : Error} {r : Handed} (h : o ≡ No e) (k : r ≡ refusedAt [] m st e .ans) where
     pub open-refused : appAnswer r ≡ openCall vol m st name rolls dir .call
-    unfolding openCall
-    open-refused = opening-refused (λ x. reopenOf name x vol m st) h k .1
+    unfolding onDone
+    open-refused = rw (open-is vol st name rolls dir m, k, ← q, h)
 
     pub create-refused : Offers vol r (createCall vol m st name rolls dir)
-    unfolding createCall
-    create-refused = opening-refused (λ x. createOf name x vol m st) h k
+    unfolding onDone
+    create-refused = rw (create-is vol st name rolls dir m, k, ← q, h) (refl, refl)
 
   module _ {over : Rollover} {r : Handed} (h : o ≡ Done) (k : over ≡ rolloverOf rolls dir) where
     pub open-told : r ≡ reopenOf name over vol m st .ans → appAnswer r ≡ openCall vol m st name rolls dir .call
-    unfolding openCall
-    open-told e = opening-worked (λ x. reopenOf name x vol m st) h k (refl, e) .1
+    unfolding onDone
+    open-told e = rw (open-is vol st name rolls dir m, ← q, h, ← k) (ap appAnswer e)
 
     pub create-told : {v : List ℕ} → (v ≡ createOf name over vol m st .vol) × (r ≡ createOf name over vol m st .ans) → Offers v r (createCall vol m st name rolls dir)
-    unfolding createCall
-    create-told g = opening-worked (λ x. createOf name x vol m st) h k g
+    unfolding onDone
+    create-told g = rw (create-is vol st name rolls dir m, ← q, h, ← k) (g .0, ap appAnswer (g .1))
 
 -- open_append writes nothing and makes no step
 pub open-still : (vol : List ℕ) (m : Medium) (st : Store) (name : List ℕ) (rolls : Bool) (dir : List ℕ)
     → (openCall vol m st name rolls dir .vol ≡ vol) × (openCall vol m st name rolls dir .steps ≡ [])
-unfolding openCall opening
 open-still vol m st name rolls dir =
-    let fine : Bool = openFine name rolls dir in
-    onDone-keeps (λ (o : AppOut). (o .vol ≡ vol) × (o .steps ≡ [])) (askedOf vol st fine) _ _
-    (λ q. let r = reopen-reads name (rolloverOf rolls dir) vol m st (asked-done vol st fine refl q .ok) in (r .same, r .still))
-    (λ e q. (refl, refl))
+    rw (open-is vol st name rolls dir m)
+    (onDone-keeps (λ (o : AppOut). (o .vol ≡ vol) × (o .steps ≡ [])) (admittedOf vol st name rolls dir) _ _
+    (λ q. let r = reopen-reads name (rolloverOf rolls dir) vol m st (input-fits vol st name rolls dir refl q .ok) in (r .same, r .still))
+    (λ e q. (refl, refl)))

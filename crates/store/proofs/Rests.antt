@@ -20,9 +20,10 @@ use Rattle.remove.proofs.Keeps.{Good, stands-none, remove-stands, oldest-stands
 use Rattle.append.specs.Flush.{AppOut}
 use Rattle.files.proofs.Keeps.{from-holds}
 use Rattle.store.specs.Asked.{askedOf}
-use Rattle.store.specs.Opening.{openFine, rolloverOf, opening, createCall}
+use Rattle.store.specs.Opening.{openFine, rolloverOf, admittedOf, createCall}
 use Rattle.store.specs.Writing.{deleteCall, oldestTold, oldestCall}
 use Rattle.store.proofs.Laws.{asked-done}
+use Rattle.store.proofs.Admits.{admitted-asked, create-is}
 use Rattle.store.proofs.Opens.{Opened, input-fits}
 
 module _ (vol : List ℕ) (m : Medium) (st : Store) (count : length (st .head .crcs) ≡ 24) where
@@ -33,15 +34,15 @@ module _ (vol : List ℕ) (m : Medium) (st : Store) (count : length (st .head .c
   good fine q = record { ok = asked-done vol st fine refl q .ok; count = count }
 
   pub create-rest : (name : List ℕ) (rolls : Bool) (dir : List ℕ) → Same (createCall vol m st name rolls dir .vol)
-  unfolding createCall opening
   create-rest name rolls dir =
-      onDone-keeps (λ (o : AppOut). Same (o .vol)) (askedOf vol st (openFine name rolls dir)) _ _
+      rw (create-is vol st name rolls dir m)
+      (onDone-keeps (λ (o : AppOut). Same (o .vol)) (admittedOf vol st name rolls dir) _ _
       (λ q.
-      let a : Opened vol st name rolls dir = input-fits vol st name rolls dir refl refl q in
+      let a : Opened vol st name rolls dir = input-fits vol st name rolls dir refl q in
       from-holds vol m st (rolloverOf rolls dir) (λ v x. Same v)
       (record { no = λ v n s e k. k .rest; yes = λ v n s slot id chunk k hs hi hc. k .rest })
-      name (a .short) 2 vol m st (stands-none vol m st (good (openFine name rolls dir) q)))
-      (λ e q. refl)
+      name (a .short) 2 vol m st (stands-none vol m st (good (openFine name rolls dir) (admitted-asked vol st name rolls dir q))))
+      (λ e q. refl))
 
   pub delete-rest : (name : List ℕ) → Same (deleteCall vol m st name .vol)
   unfolding deleteCall

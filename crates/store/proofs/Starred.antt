@@ -21,47 +21,49 @@ use Rattle.header.proofs.Edges.{zeroed-refused, equal-takes-a}
 use Rattle.names.proofs.Edges.{edges}
 use Rattle.names.proofs.Laws.{in-root}
 use Rattle.table.proofs.Edges.{edge-written}
+use Rattle.append.specs.Calls.{AppCall, callOf}
 use Rattle.append.specs.Flush.{AppOut}
-use Rattle.files.specs.declared.Rollover.{Rollover}
+use Rattle.files.specs.Opened.{refusedAt}
 use Rattle.store.specs.Asked.{askedOf}
 use Rattle.store.specs.Edges.{NameRefused, DirRefused, Starred}
 use Rattle.store.specs.Reading.{mountCall, findCall, listCall, readerCall}
 use Rattle.store.specs.Writing.{formatCall, deleteCall, oldestTold, oldestCall}
-use Rattle.store.specs.Opening.{openFine, opening, createCall, openCall}
+use Rattle.store.specs.Opening.{openFine, admittedOf}
 use Rattle.store.proofs.Appends.{append-485, append-486, append-487}
 use Rattle.store.proofs.Lists.{long-enough}
+use Rattle.store.proofs.Admits.{create-is, open-is}
 
 module _ (vol : List ℕ) (m : Medium) (st : Store) (passes : storeOk st (sectorsOf vol) ≡ true) where
   asked-no : (fine : Bool) → fine ≡ false → askedOf vol st fine ≡ No Name
   unfolding askedOf pick
   asked-no fine h = rw (passes, h)
 
-  opening-no : (name : List ℕ) (rolls : Bool) (dir : List ℕ) (work : Rollover → AppOut) → openFine name rolls dir ≡ false
-      → opening vol m st name rolls dir work .call .answer ≡ refused 1
-  unfolding opening onDone
-  opening-no name rolls dir work h = rw (asked-no (openFine name rolls dir) h)
+  opening-no : (name : List ℕ) (rolls : Bool) (dir : List ℕ) (work : AppOut) {c : AppCall} → openFine name rolls dir ≡ false
+      → c ≡ callOf (onDone (admittedOf vol st name rolls dir) work (refusedAt vol m st)) → c .call .answer ≡ refused 1
+  unfolding admittedOf onDone
+  opening-no name rolls dir work h e = rw (e, asked-no (openFine name rolls dir) h)
 
   name-refused : (name : List ℕ) → nameOk name ≡ false → NameRefused vol m st name
-  unfolding createCall openCall findCall readerCall deleteCall onDone
+  unfolding findCall readerCall deleteCall onDone
   name-refused name h =
       let no = asked-no (nameOk name) h in
       let unfit : (rolls : Bool) (dir : List ℕ) → openFine name rolls dir ≡ false = λ rolls dir. ap (λ (t : Bool). t && (not rolls || dirOk dir)) h in
       record {
-        create = λ rolls dir. opening-no name rolls dir _ (unfit rolls dir);
-        open-append = λ rolls dir. opening-no name rolls dir _ (unfit rolls dir);
+        create = λ rolls dir. opening-no name rolls dir _ (unfit rolls dir) (create-is vol st name rolls dir m);
+        open-append = λ rolls dir. opening-no name rolls dir _ (unfit rolls dir) (open-is vol st name rolls dir m);
         find = rw no;
         reader = rw no;
         delete = rw no;
       }
 
   dir-refused : (dir : List ℕ) → dirOk dir ≡ false → DirRefused vol m st dir
-  unfolding createCall openCall oldestCall oldestTold listCall pick onDone
+  unfolding oldestCall oldestTold listCall pick onDone
   dir-refused dir h =
       let no = asked-no (dirOk dir) h in
       let unfit : (name : List ℕ) → openFine name true dir ≡ false = λ name. ap (λ (t : Bool). nameOk name && t) h ∙ and-false (nameOk name) in
       record {
-        create = λ name. opening-no name true dir _ (unfit name);
-        open-append = λ name. opening-no name true dir _ (unfit name);
+        create = λ name. opening-no name true dir _ (unfit name) (create-is vol st name true dir m);
+        open-append = λ name. opening-no name true dir _ (unfit name) (open-is vol st name true dir m);
         delete-oldest = rw no;
         list = λ counts rows c r. rw (long-enough counts rows c r, no);
       }

@@ -3,3 +3,4 @@ pub mod Reading
 pub mod Writing
 pub mod Opening
 pub mod Edges
+pub mod Dots

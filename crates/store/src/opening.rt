@@ -3,6 +3,7 @@ use append::Dir;
 use append::Handed;
 use files::Rollover;
 use handles::Store;
+use medium::Error;
 use medium::Medium;
 use medium::Outcome;
 ghost use mathlib.Core.Path.{_≡_};
@@ -10,7 +11,7 @@ ghost use mathlib.Core.Bool.{true};
 ghost use Prim.Native.Nat.{_≤_};
 ghost use lib.ListN.{length};
 ghost use Rattle.append.specs.Calls.{appAnswer};
-ghost use Rattle.store.specs.Opening.{openFine, rolloverOf, createCall, openCall};
+ghost use Rattle.store.specs.Opening.{openFine, rolloverOf, admittedOf, createCall, openCall};
 
 // The name passes its rule, and the directory where it is set.
 fn open_fine(name: &[u8], rolls: bool, dir: &[u8]) -> bool
@@ -19,6 +20,20 @@ fn open_fine(name: &[u8], rolls: bool, dir: &[u8]) -> bool
     let named = names::name_ok(name);
     let fine = names::dir_ok(dir);
     named & (!rolls | fine)
+}
+
+// Refusals 3, 1 and 16 of a call that opens a file to append, in this order.
+fn admitted(volume: &[u8], store: Store, name: &[u8], rolls: bool, dir: &[u8]) -> Outcome
+    ensures { λ r. ⌜ r ≡ admittedOf (now (volume .entry)) store (now (name .entry)) rolls (now (dir .entry)) ⌝ }
+{
+    let o = crate::asked(volume, store, open_fine(name, rolls, dir));
+    if let Outcome::No(e) = o {
+        return Outcome::No(e);
+    }
+    if names::dotted(name) {
+        return Outcome::No(Error::Dotted);
+    }
+    Outcome::Done
 }
 
 // The rollover of a call. One that is not set has no directory.
@@ -55,7 +70,7 @@ pub fn create(
     ensures { λ r. ⌜ (now (volume .exit) ≡ createCall (now (volume .entry)) medium store (now (name .entry)) rolls (now (dir .entry)) .vol)
         × (appAnswer r ≡ createCall (now (volume .entry)) medium store (now (name .entry)) rolls (now (dir .entry)) .call) ⌝ }
 {
-    let o = crate::asked(&volume[..], store, open_fine(name, rolls, dir));
+    let o = admitted(&volume[..], store, name, rolls, dir);
     if let Outcome::No(e) = o {
         return files::refused(e, medium, store);
     }
@@ -74,7 +89,7 @@ pub fn open_append(
 ) -> Handed
     ensures { λ r. ⌜ appAnswer r ≡ openCall (now (volume .entry)) medium store (now (name .entry)) rolls (now (dir .entry)) .call ⌝ }
 {
-    let o = crate::asked(volume, store, open_fine(name, rolls, dir));
+    let o = admitted(volume, store, name, rolls, dir);
     if let Outcome::No(e) = o {
         return files::refused(e, medium, store);
     }

@@ -27,7 +27,7 @@ use Rattle.append.specs.declared.Appender.{Appender}
 use Rattle.append.specs.Flush.{AppOut}
 use Rattle.append.specs.Calls.{AppCall, mayWrite, callOf, offered, appendCall, syncCall}
 use Rattle.store.specs.Asked.{askedName, askedDir, askedOf}
-use Rattle.store.specs.Opening.{rolloverOf, openFine, opening, createCall}
+use Rattle.store.specs.Opening.{rolloverOf, openFine, opening, createEarlier, admittedOf, ifAdmitted, createCall}
 use Rattle.store.specs.Writing.{WriteCall, writeCallOf, formatCall, deleteCall, OldestCall, wentOf, oldestTold, oldestCall}
 use Rattle.writes.specs.Writes.{commitMost, createMost, recordsMost}
 use Rattle.writes.specs.More.{more, writeMore, oldestMore, appMore}
@@ -110,12 +110,17 @@ module _ (d : ℕ) (vol : List ℕ) where
     called-carries : Carries d handed called callOf
     called-carries = still (λ o. refl) (λ o. refl)
 
-    create-carried : (name : List ℕ) (rolls : Bool) (dir : List ℕ) → Carries d alone called (λ m. createCall vol m st name rolls dir)
-    unfolding createCall opening
-    create-carried name rolls dir =
+    earlier-carried : (name : List ℕ) (rolls : Bool) (dir : List ℕ) → Carries d alone called (λ m. createEarlier vol m st name rolls dir)
+    unfolding createEarlier opening
+    earlier-carried name rolls dir =
         both callOf
         (unless (askedOf vol st (openFine name rolls dir)) (create-carries name (rolloverOf rolls dir) 2 vol st) (λ e. still (λ m. refl) (λ m. refl)))
         called-carries
+
+    -- where its input is admitted, 01's
+    create-carried : (name : List ℕ) (rolls : Bool) (dir : List ℕ) → Carries d alone called (λ m. createCall vol m st name rolls dir)
+    unfolding createCall ifAdmitted
+    create-carried name rolls dir = unless (admittedOf vol st name rolls dir) (earlier-carried name rolls dir) (λ e. still (λ m. refl) (λ m. refl))
 
     -- an appender's call, whatever its work
     offered-carries : (a : Appender) {work : Medium → AppOut} → Carries d alone handed work → Carries d alone called (λ m. offered vol m st a (work m))

@@ -27,10 +27,12 @@ use Rattle.append.specs.declared.Appender.{Appender}
 use Rattle.append.specs.Flush.{AppOut}
 use Rattle.append.specs.Calls.{AppCall, mayWrite, offered, appendCall, syncCall}
 use Rattle.append.proofs.Facts.{may-facts}
-use Rattle.store.specs.Asked.{askedName, askedDir, askedOf}
+use Rattle.store.specs.Asked.{askedName, askedDir}
 use Rattle.store.specs.Writing.{formatCall, deleteCall, oldestCall, oldestTold}
-use Rattle.store.specs.Opening.{rolloverOf, openFine, opening, createCall}
+use Rattle.store.specs.Opening.{rolloverOf, admittedOf, createCall}
 use Rattle.store.proofs.Laws.{asked-done}
+use Rattle.store.proofs.Admits.{create-is}
+use Rattle.store.proofs.Opens.{input-fits}
 use Rattle.writes.specs.Writes.{Most, commitMost, createMost, recordsMost}
 use Rattle.writes.proofs.Copies.{copy-most, commit-most}
 use Rattle.writes.proofs.Removals.{remove-most, oldest-most}
@@ -80,11 +82,12 @@ module _ (vol : List ℕ) (m : Medium) (st : Store) where
 
   module _ (count : length (st .head .crcs) ≡ 24) where
     pub create-writes : (name : List ℕ) (rolls : Bool) (dir : List ℕ) → Most (createMost rolls chunks) m (createCall vol m st name rolls dir .call .medium)
-    unfolding createCall opening rolloverOf
+    unfolding rolloverOf
     create-writes name rolls dir =
-        onDone-keeps (λ (o : AppOut). Most (createMost rolls chunks) m (o .ans .medium)) (askedOf vol st (openFine name rolls dir)) _ _
-        (λ q. create-most name (rolloverOf rolls dir) vol m st (record { ok = asked-done vol st (openFine name rolls dir) refl q .ok; count = count }))
-        (λ e _. omega arith)
+        rw (create-is vol st name rolls dir m)
+        (onDone-keeps (λ (o : AppOut). Most (createMost rolls chunks) m (o .ans .medium)) (admittedOf vol st name rolls dir) _ _
+        (λ q. create-most name (rolloverOf rolls dir) vol m st (record { ok = input-fits vol st name rolls dir refl q .ok; count = count }))
+        (λ e _. omega arith))
 
     -- ---- append, sync: by the records that the bytes fill
 

@@ -22,9 +22,9 @@ use Rattle.reopen.specs.Reopen.{reopenOf}
 use Rattle.reopen.proofs.Opens.{reopen-reads, reopen-opens}
 use Rattle.store.specs.declared.ReaderAnswer.{ReaderAnswer}
 use Rattle.store.specs.Reading.{mountCall, findCall, ListCall, listFrom, listCall, readerCall}
-use Rattle.store.specs.Asked.{askedOf}
-use Rattle.store.specs.Opening.{rolloverOf, openFine, opening, openCall}
-use Rattle.store.proofs.Laws.{asked-done}
+use Rattle.store.specs.Opening.{rolloverOf, admittedOf, openCall}
+use Rattle.store.proofs.Admits.{open-is}
+use Rattle.store.proofs.Opens.{input-fits}
 
 module _ (vol : List ℕ) (m : Medium) where
   pub mount-medium : mountCall vol m .medium ≡ m
@@ -71,8 +71,8 @@ module _ (vol : List ℕ) (m : Medium) (st : Store) where
       go (No e) q = ap (λ (r : Handed). r .medium .left) (reopen-reads name roll vol m st ok .refused e q)
 
   pub open-left : (name : List ℕ) (rolls : Bool) (dir : List ℕ) → openCall vol m st name rolls dir .call .medium .left ≡ m .left
-  unfolding openCall opening
   open-left name rolls dir =
-      onDone-keeps (λ (o : AppOut). o .ans .medium .left ≡ m .left) (askedOf vol st (openFine name rolls dir)) _ _
-      (λ q. reopened name (rolloverOf rolls dir) (asked-done vol st (openFine name rolls dir) refl q .ok))
-      (λ _ _. refl)
+      rw (open-is vol st name rolls dir m)
+      (onDone-keeps (λ (o : AppOut). o .ans .medium .left ≡ m .left) (admittedOf vol st name rolls dir) _ _
+      (λ q. reopened name (rolloverOf rolls dir) (input-fits vol st name rolls dir refl q .ok))
+      (λ _ _. refl))

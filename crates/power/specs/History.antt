@@ -21,7 +21,8 @@ use Rattle.reader.specs.Calls.{NextCall, nextCall, SeekCall, seekCall}
 use Rattle.store.specs.Reading.{StoreCall, mountCall, FindCall, findCall, ListCall, listCall, ReaderCall, readerCall}
 use Rattle.store.specs.Writing.{WriteCall, formatCall, deleteCall, OldestCall, oldestCall}
 use Rattle.store.specs.Opening.{createEarlier, openEarlier, createCall, openCall}
-use Rattle.power.specs.Calls.{Query, list, find, reader, next, seek, Rules, earlier, present, Call, mount, format, create, openAppend, append, sync, delete, deleteOldest, query}
+use Rattle.power.specs.Calls.{Query, list, find, reader, next, seek}
+use Rattle.power.specs.Calls.{Rules, earlier, present, Call, mount, format, create, openAppend, append, sync, delete, deleteOldest, query}
 use Rattle.power.specs.Book.{Book, Fed, written}
 
 -- the volume as left, and the handles last returned

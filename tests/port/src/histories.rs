@@ -1,6 +1,6 @@
 //! Random scripts of the calls that write: histories with power stops, and
 //! single calls on damaged volumes and forged handles.
-use crate::make::{BAD_DIRS, BAD_NAMES, DIRS, Maker, NAMES, SIZES};
+use crate::make::{BAD_DIRS, BAD_NAMES, DIRS, Maker, SIZES};
 
 /// A history: calls with and without a stop, remounts, further formats, an unreadable sector.
 pub fn history(m: &mut Maker) {
@@ -191,7 +191,7 @@ impl Maker {
             0..6 => {
                 let (name, dir) = (self.to_create(), self.rollover());
                 self.made.push(name);
-                format!("create {name} {dir}")
+                self.opening("create", name, dir)
             }
             6..11 => {
                 let whole = 486 * self.r.below(3 * size.min(4) + 1);
@@ -205,7 +205,10 @@ impl Maker {
             11..14 => "sync".into(),
             14 | 15 => format!("delete {}", self.held()),
             16 | 17 => format!("delete_oldest {}", self.dir()),
-            _ => format!("open_append {} {}", self.held(), self.rollover()),
+            _ => {
+                let (name, dir) = (self.held(), self.rollover());
+                self.opening("open_append", &name, dir)
+            }
         }
     }
 
@@ -227,7 +230,7 @@ impl Maker {
     }
 
     fn to_create(&mut self) -> &'static str {
-        if self.r.one_in(30) { self.r.pick(BAD_NAMES) } else { self.r.pick(NAMES) }
+        if self.r.one_in(30) { self.r.pick(BAD_NAMES) } else { self.any_name() }
     }
 
     fn rollover(&mut self) -> &'static str {

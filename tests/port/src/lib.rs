@@ -6,11 +6,12 @@ pub mod firmware;
 pub mod histories;
 pub mod holds;
 pub mod make;
+pub mod rules;
 pub mod world;
 pub mod writes;
 use bridge::{Count, Told};
 use driver::hole_blanks;
-use driver::script::{Session, equal_generations, hole, words};
+use driver::script::{Retires, Session, equal_generations, hole, retires, words};
 use std::collections::{BTreeMap, BTreeSet, VecDeque};
 use std::panic::{AssertUnwindSafe, catch_unwind};
 use writes::{Asked, Writes};
@@ -25,8 +26,8 @@ pub const CALLS: &[(&str, &[u32])] = &[
     ("seek", &[3, 4, 7, 11]),
     ("record", &[3]),
     ("format", &[2, 4, 6, 12]),
-    ("create", &[1, 3, 4, 5, 6, 7, 8, 10, 11, 12]),
-    ("open_append", &[1, 3, 4, 7, 9]),
+    ("create", &[1, 3, 4, 5, 6, 7, 8, 10, 11, 12, 16]),
+    ("open_append", &[1, 3, 4, 7, 9, 16]),
     ("append", &[3, 4, 5, 6, 7, 10, 11, 12]),
     ("sync", &[3, 4, 5, 6, 7, 10, 11, 12]),
     ("delete", &[1, 3, 4, 5, 6, 7, 9, 11, 12]),
@@ -107,7 +108,7 @@ impl Tally {
     /// A line for each call, and one for all: accepted, and refused as NUMBER:COUNT.
     pub fn show(&self) -> String {
         let line = |name: &str, call: &dyn Fn(&str) -> bool| {
-            let refused: Vec<_> = (1..13).map(|r| (r, self.of(call, |x| x == r))).filter(|(_, n)| *n > 0).collect();
+            let refused: Vec<_> = (1..17).map(|r| (r, self.of(call, |x| x == r))).filter(|(_, n)| *n > 0).collect();
             let refused: Vec<_> = refused.iter().map(|(r, n)| format!("{r}:{n}")).collect();
             let (all, accepted) = (self.of(call, |_| true), self.of(call, |x| x == 0));
             format!("{name}: {all} calls, {accepted} accepted, refused {}", refused.join(" "))
@@ -273,7 +274,13 @@ pub fn spelled(lines: Vec<String>) -> Vec<String> {
 
 /// Runs a script. A line `= TEXT` is the answer to the lines before it.
 pub fn play<'a>(lines: impl Iterator<Item = &'a str>, tally: &mut Tally) -> Result<(), Stop> {
+    play_by(lines, tally, retires)
+}
+
+/// The same, with a rule for the names that S-5 retires.
+pub fn play_by<'a>(lines: impl Iterator<Item = &'a str>, tally: &mut Tally, retires: Retires) -> Result<(), Stop> {
     let mut play = Play::new(tally);
+    play.session.retires = retires;
     let mut printed: VecDeque<String> = VecDeque::new();
     let (mut answers, mut last) = (false, 0);
     for (k, line) in lines.enumerate() {

@@ -1,6 +1,7 @@
 //! Random scripts. A round is one volume with a history that the Rust makes,
 //! and then episodes: the history's state with something changed, and calls.
 use crate::histories;
+use driver::dotted;
 use driver::script::Session;
 
 /// What an episode changes.
@@ -47,9 +48,11 @@ impl Rng {
 
 const LONG: &str = "traces/abcdefghijklmnopqrstuvwxyz0123456"; // 40 bytes
 pub const NAMES: &[&str] = &["a", "b", "t/a", "t/b", "t/u/c", "w/1", "x.y_z-0", LONG];
-pub const DIRS: &[&str] = &["\"\"", "\"\"", "t/", "t/u/", "w/", "traces/", "zz/"];
+/// Names that 02, S-5 retires: files have them from before it.
+pub const DOTS: &[&str] = &[".a", "t/.b", ".t/c", "..", "w/.n/1", "t/u/.d"];
+pub const DIRS: &[&str] = &["\"\"", "\"\"", "t/", "t/u/", "w/", "traces/", "zz/", ".t/"];
 /// Empty, no or empty segments, 41 bytes, other characters, no text.
-pub const BAD_NAMES: &[&str] = &["\"\"", "/", "/a", "a/", "a//b", "a+b", "traces/abcdefghijklmnopqrstuvwxyz01234567", "\\6100", "\\612062", "\\ff", "\\c3a4", "a:"];
+pub const BAD_NAMES: &[&str] = &["\"\"", "/", "/.a", "a//.b", "/a", "a/", "a//b", "a+b", "traces/abcdefghijklmnopqrstuvwxyz01234567", "\\6100", "\\612062", "\\ff", "\\c3a4", "a:"];
 pub const BAD_DIRS: &[&str] = &["/", "t", "t//", "/t/", "traces/abcdefghijklmnopqrstuvwxyz0123456/", "t+/", "\\74ff2f", "\\2f00"];
 pub const SIZES: &[u64] = &[0, 1, 5, 40, 41, 485, 486, 487, 1500, 5000];
 
@@ -159,15 +162,24 @@ impl Maker {
     pub fn sizes(&self) -> (u64, u64) {
         self.s.st.store.as_ref().map_or((1, 1), |s| (s.chunks().clamp(1, 2048).into(), s.chunk_sectors().clamp(1, 512).into()))
     }
+    /// One in eight has dots.
+    pub fn any_name(&mut self) -> &'static str {
+        if self.r.one_in(8) { self.r.pick(DOTS) } else { self.r.pick(NAMES) }
+    }
     /// Mostly one that was created.
     pub fn name(&mut self) -> &'static str {
         if self.r.one_in(25) {
             self.r.pick(BAD_NAMES)
         } else if self.made.is_empty() || self.r.one_in(5) {
-            self.r.pick(NAMES)
+            self.any_name()
         } else {
             self.r.pick(&self.made)
         }
+    }
+    /// A create or open_append; of a name with dots by the rule from before S-5, half the time.
+    pub fn opening(&mut self, call: &str, name: &str, dir: &str) -> String {
+        let earlier = if dotted(name.as_bytes()) && self.r.one_in(2) { "earlier " } else { "" };
+        format!("{earlier}{call} {name} {dir}")
     }
     pub fn dir(&mut self) -> &'static str {
         if self.r.one_in(12) { self.r.pick(BAD_DIRS) } else { self.r.pick(DIRS) }
@@ -238,13 +250,15 @@ impl Maker {
 
     /// A file made, or opened again, and records of it; some are cut off by a sync.
     fn file(&mut self, size: u64) {
-        let name = self.r.pick(NAMES);
+        let name = self.any_name();
         if self.r.one_in(3) && !self.made.is_empty() {
             let name = self.r.pick(&self.made);
-            self.say(format!("open_append {name} -"));
+            let call = self.opening("open_append", name, "-");
+            self.say(call);
         } else {
             let dir = self.r.pick(&["-", "-", "\"\"", "t/"]);
-            self.say(format!("create {name} {dir}"));
+            let call = self.opening("create", name, dir);
+            self.say(call);
             self.made.push(name);
         }
         for _ in 0..self.r.below(4) {

@@ -219,6 +219,11 @@ pub fn hole_blanks(m: &Medium, store: &Store, behind: &Reader, from: u32, to: u3
     hole_sectors(store, behind, from, to).filter(blank).count() as u64
 }
 
+/// 02, S-5: one of a name's segments begins with a dot.
+pub fn dotted(name: &[u8]) -> bool {
+    name.split(|b| *b == b'/').any(|segment| segment.starts_with(b"."))
+}
+
 /// FNV-1a of 64 bits, by which volumes are compared. Not a CRC-32: that of a volume does not
 /// change with what stands in a sector that ends in its own CRC-32, as headers and records do.
 pub fn sum(bytes: &[u8]) -> u64 {

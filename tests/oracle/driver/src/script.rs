@@ -142,8 +142,17 @@ pub fn next_text(next: Next, out: &[u8]) -> String {
     }
 }
 
-/// One call; the answer's text. `rule3` applies what is the port's own: 01's handle tests and numbers, and S-7's format.
-fn call(st: &mut State, lent: &mut Lent, words: &[&str], rule3: bool) -> String {
+/// Whether a create or open_append, by its words, is refused with 16 (02, S-5): asked before the tests of number 1 (false) and
+/// after them (true).
+pub type Retires = fn(&[&str], bool) -> bool;
+
+pub fn retires(words: &[&str], after: bool) -> bool {
+    after && words.get(1).is_some_and(|name| dotted(&bytes_of(name)))
+}
+
+/// One call; the answer's text. `rule3` applies what is the port's own: 01's handle tests and numbers, and S-7's format; `retires`
+/// S-5's names.
+fn call(st: &mut State, lent: &mut Lent, words: &[&str], rule3: bool, retires: Option<Retires>) -> String {
     let sector: &mut Sector = &mut [0xa5; 512];
     let State { m, store, app, reader, .. } = st;
     let need_store = !matches!(words[0], "format" | "mount");
@@ -197,7 +206,13 @@ fn call(st: &mut State, lent: &mut Lent, words: &[&str], rule3: bool) -> String 
             if bad {
                 return "no 3".into();
             }
+            if retires.is_some_and(|r| r(words, false)) {
+                return "no 16".into();
+            }
             let (n, d) = (name!(1), dir!(2));
+            if retires.is_some_and(|r| r(words, true)) {
+                return "no 16".into(); // the port's test; the Rust takes these names
+            }
             let s = store.as_mut().unwrap();
             let r = if words[0] == "create" { s.create(m, &n, d, sector) } else { s.open_append(m, &n, d, sector) };
             match r {
@@ -419,6 +434,8 @@ pub struct Session {
     pub st: State,
     pub lent: Lent,
     pub rule3: bool,
+    /// Which names are refused with 16, where `rule3` is on; `earlier CALL` is the call without that.
+    pub retires: Retires,
     /// The blank sectors of the last hole (02, S-4).
     blank: u64,
     saved: HashMap<String, State>,
@@ -433,6 +450,7 @@ impl Session {
             st: State { m: Medium::new(128 * 512), store: None, app: None, reader: None, token: 0 },
             lent: Lent::new(80, 3200, 500),
             rule3,
+            retires,
             blank: 0,
             saved: HashMap::new(),
             trace: false,
@@ -444,11 +462,13 @@ impl Session {
     pub fn line(&mut self, line: &str) -> Option<String> {
         let line = line.split('#').next().unwrap().trim();
         let w = words(line);
+        let earlier = w.first() == Some(&"earlier");
+        let w = &w[usize::from(earlier)..];
         if w.is_empty() {
             return None;
         }
         let echoed = if self.echo { format!("{line:<40} ") } else { String::new() };
-        let Session { st, lent, rule3, blank, saved, trace, echo } = self;
+        let Session { st, lent, rule3, retires, blank, saved, trace, echo } = self;
         let n = |i: usize| w.get(i).and_then(|t| num(t));
         let echoing = *echo;
         let quiet = |t: &str| if echoing { t.to_string() } else { String::new() };
@@ -577,7 +597,8 @@ impl Session {
                 st.m.begin();
                 st.m.spent = *rule3;
                 *lent = lent.anew();
-                let r = catch_unwind(AssertUnwindSafe(|| call(st, lent, &w, *rule3)));
+                let retires = (*rule3 && !earlier).then_some(*retires);
+                let r = catch_unwind(AssertUnwindSafe(|| call(st, lent, w, *rule3, retires)));
                 let r = r.unwrap_or_else(|e| {
                     let t = e.downcast_ref::<String>().cloned().or(e.downcast_ref::<&str>().map(|s| s.to_string()));
                     let t = t.unwrap_or_default();

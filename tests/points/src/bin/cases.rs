@@ -312,6 +312,22 @@ fn lost_lines(d: &mut Desk) {
     d.accepted("unreadable none");
 }
 
+/// A file from before 02, S-5, which create and open_append refuse today.
+fn dots(d: &mut Desk) {
+    d.base();
+    d.accepted("earlier create .old -");
+    d.record(b"s0");
+    let got = d.say("open_append .old -");
+    d.row("D1", "`.old` (id 3) from before S-5 with record s0; open_append `.old`", "no 16", got);
+    let got = d.set("p", ".old");
+    d.row("D2", "D1, set `p` `.old`", "ok 1", got);
+    let got = d.up("p");
+    d.row("D3", "D2, read up to `p`", "s0, end", got);
+    d.accepted("delete .old");
+    let got = d.up("p");
+    d.row("D4", "D2, `.old` deleted, read up to `p`", "no 15", got);
+}
+
 fn stops(d: &mut Desk) {
     for (k, marks, want) in [("S1", 0, "5"), ("S2", 1, "5"), ("S3", 2, "4")] {
         d.base();
@@ -420,6 +436,7 @@ fn main() {
     holes(&mut d);
     lost_lines(&mut d);
     blank_sectors(&mut d);
+    dots(&mut d);
     stops(&mut d);
     full(&mut d);
     older_stores(&mut d);

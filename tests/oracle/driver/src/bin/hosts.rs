@@ -1,6 +1,6 @@
 //! 01's "Hosts" line program over the unchanged Rust store.   hosts [rule3]
-//! `rule3` applies 01's refusal 3 before the Rust is asked (default: the Rust as
-//! it is, which says 11 there).
+//! `rule3` applies 01's refusal 3 and 02's refusal 16 before the Rust is asked (default: the
+//! Rust as it is, which says 11 there, and makes files with names that S-5 retires).
 use driver::*;
 use std::io::{BufRead, Write};
 
@@ -54,6 +54,9 @@ fn main() {
                 C::Create(n, d) => {
                     let n = Name::new(&n).map_err(number)?;
                     let d = d.map(|d| Dir::new(&d)).transpose().map_err(number)?;
+                    if rule3 && dotted(n.as_str().as_bytes()) {
+                        return Err(16);
+                    }
                     let a = s.create(&mut m, &n, d, sector).map_err(number)?;
                     let id = a.x_id();
                     app = Some(a);

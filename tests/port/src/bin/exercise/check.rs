@@ -1,6 +1,7 @@
 //! A call of a history held against the book, at each number of writes left up to those that it has.
 use crate::faults::{Shim, changed, is_whole_header, sector};
 use driver::book::{Book, Call, Step};
+use driver::dotted;
 use port::holds::{Held, holds, same_rows};
 use port::world::{Next, Told, Turn, World};
 use std::collections::BTreeMap;
@@ -13,7 +14,7 @@ pub struct Stats {
     pub stopped_inside: u64,
     pub runs: u64,
     /// Of each call, accepted and refused by number.
-    pub answers: BTreeMap<String, [u64; 13]>,
+    pub answers: BTreeMap<String, [u64; 17]>,
     pub formats: u64,
     pub creates: u64,
     pub create_rollovers: u64,
@@ -25,6 +26,17 @@ pub struct Stats {
     pub nexts: u64,
     pub held: Held,
     pub most_chunks: u32,
+    /// Histories with calls from before 02, S-5, and what became of their files with dots.
+    pub earlier: u64,
+    pub dots: Dots,
+}
+
+#[derive(Default)]
+pub struct Dots {
+    pub deleted: u64,
+    pub rolled: u64,
+    /// Calls that were to delete one or roll one over, and were stopped before or after it.
+    pub stopped: u64,
 }
 
 /// Which of the runs with fewer writes left are read back too; the last always is.
@@ -198,12 +210,20 @@ impl Run<'_> {
         if want == self.told.answer { Ok(()) } else { Err(format!("answer {}, the book's {want}", self.told.answer)) }
     }
 
+    fn count_dots(&self, book: &Book, stopped: bool, dots: &mut Dots) {
+        let goes = |s: &&Step| matches!(s, Step::Gone(id) if book.files.iter().any(|f| f.id == *id && dotted(f.name.as_bytes())));
+        dots.stopped += u64::from(stopped && self.plan.iter().any(|s| goes(&s)));
+        let gone = self.plan[..self.done].iter().filter(goes).count() as u64;
+        *if matches!(self.call, Call::Delete(_) | Call::DeleteOldest(_)) { &mut dots.deleted } else { &mut dots.rolled } += gone;
+    }
+
     fn count(&self, book: &Book, stopped: bool, st: &mut Stats) {
         st.calls += 1;
         st.stopped += u64::from(stopped);
         st.stopped_inside += u64::from(stopped && self.before.volume != self.after.volume);
         let name: String = format!("{:?}", self.call).chars().take_while(char::is_ascii_alphabetic).collect();
-        st.answers.entry(name).or_default()[self.told.refusal.min(12) as usize] += 1;
+        st.answers.entry(name).or_default()[self.told.refusal.min(16) as usize] += 1;
+        self.count_dots(book, stopped, &mut st.dots);
         let opened = matches!(self.call, Call::OpenAppend(..)) && self.told.refusal == 0;
         st.reopened += u64::from(opened && self.after.appender[5] == 1);
         for s in &self.plan[..self.done] {

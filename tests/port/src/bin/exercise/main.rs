@@ -16,16 +16,36 @@ use port::world::{Turn, World, turn};
 use std::collections::HashSet;
 use std::time::{Duration, Instant};
 
-/// How it starts, as lines of a script, and its calls.
+/// How it starts, as lines of a script; the calls from before 02, S-5, by the rules then in force; and its calls.
 struct History {
     start: Vec<String>,
+    earlier: Vec<Call>,
     turns: Vec<Turn>,
 }
 
-fn world_of(start: &[String]) -> World {
-    let mut s = Session::new(true);
-    start.iter().for_each(|line| drop(s.line(line)));
-    World::new(s.st.m.volume)
+impl History {
+    /// The port has only the rules of today, so the earlier calls are made on the volume by the Rust.
+    fn opening(&self) -> String {
+        let line = |call: &Call| {
+            let word = if matches!(call, Call::Create(..) | Call::OpenAppend(..)) { "earlier " } else { "" };
+            format!("{word}{}", script(&[turn(call.clone()).op]))
+        };
+        self.start.join("\n") + "\n" + &self.earlier.iter().map(line).collect::<String>()
+    }
+
+    /// The volume and the book after them. The handles in hand are gone.
+    fn begin(&self) -> (World, Book) {
+        let mut s = Session::new(true);
+        self.opening().lines().for_each(|line| drop(s.line(line)));
+        let world = World::new(s.st.m.volume);
+        let mut book = Book::new(world.sectors());
+        for call in self.earlier.iter().chain([&Call::Mount]) {
+            let (plan, refusal) = book.plan(call);
+            book.enter(call, &plan, plan.len(), refusal);
+        }
+        book.retired = true;
+        (world, book)
+    }
 }
 
 /// As many names in a history that mostly creates, to fill the 64 slots.
@@ -72,10 +92,35 @@ impl Maker {
         (Maker { r, sizes, pool, formats, stops, seed, ids: HashSet::new(), again: 0, avoided: 0 }, start)
     }
 
+    /// Calls from before 02, S-5, in a third of the histories; half of their names have dots.
+    fn earlier(&mut self) -> Vec<Call> {
+        if !self.r.one_in(3) {
+            return vec![];
+        }
+        let mut calls = vec![Call::Format(self.r.pick(&self.sizes), self.r.next() >> 8)];
+        for _ in 0..1 + self.r.below(8) {
+            let name = if self.r.one_in(2) { self.dotted() } else { self.name() };
+            calls.push(if self.r.one_in(4) { Call::OpenAppend(name, self.rollover()) } else { Call::Create(name, self.rollover()) });
+            for _ in 0..self.r.below(3) {
+                calls.push(Call::Append(self.r.below(1500) as usize, self.r.next()));
+            }
+            calls.push(Call::Sync);
+        }
+        calls
+    }
+
+    fn dotted(&mut self) -> String {
+        let k = self.r.below(self.pool.min(9));
+        self.r.pick(&[".a", "t/.b", ".t/c", "t/u/.d", ".w/.e"]).to_string() + &k.to_string()
+    }
+
     fn name(&mut self) -> String {
         if self.r.one_in(100) {
             let long = "aaaaaaaaaabbbbbbbbbbccccccccccddddddddddd";
-            return self.r.pick(&["", "/", "a//b", "a/", "x y", long]).into();
+            return self.r.pick(&["", "/", "a//b", "a/", "x y", "/.a", long]).into();
+        }
+        if self.r.one_in(20) {
+            return self.dotted();
         }
         let k = self.r.below(self.pool);
         match k % 5 {
@@ -88,7 +133,7 @@ impl Maker {
     }
 
     fn dir(&mut self) -> String {
-        if self.r.one_in(50) { "bad".into() } else { self.r.pick(&["", "", "", "t/", "t/u/", "w/", "traces/", "zz/"]).into() }
+        if self.r.one_in(50) { "bad".into() } else { self.r.pick(&["", "", "", "t/", "t/u/", "w/", "traces/", "zz/", ".t/"]).into() }
     }
 
     fn rollover(&mut self) -> Option<String> {
@@ -214,8 +259,8 @@ fn carried(world: &World, id: u64) -> bool {
 
 /// Runs a history again; the first failure and its call. One whose premise fails is none.
 fn run(h: &History, fault: Fault) -> Option<(usize, Failure)> {
-    let (mut world, mut shim, mut st) = (world_of(&h.start), Shim::new(fault), Stats::default());
-    let mut book = Book::new(world.sectors());
+    let (mut shim, mut st) = (Shim::new(fault), Stats::default());
+    let (mut world, mut book) = h.begin();
     for (k, t) in h.turns.iter().enumerate() {
         if matches!(t.op.call, Call::Format(..)) && taken(&world, t).is_some_and(|id| carried(&world, id)) {
             return None;
@@ -247,7 +292,7 @@ fn simpler(t: &Turn, last: bool) -> Vec<Turn> {
 fn smallest(mut h: History, mut f: Failure, fault: Fault) -> (History, Failure) {
     let until = Instant::now() + Duration::from_secs(30);
     let try_ = |h: &mut History, f: &mut Failure, turns: Vec<Turn>| {
-        let mut other = History { start: h.start.clone(), turns };
+        let mut other = History { start: h.start.clone(), earlier: h.earlier.clone(), turns };
         let Some((k, why)) = run(&other, fault) else { return false };
         other.turns.truncate(k + 1);
         other.turns[k].op.left = Some(why.left);
@@ -284,7 +329,7 @@ fn smallest(mut h: History, mut f: Failure, fault: Fault) -> (History, Failure) 
 
 /// As a script.
 fn show(h: &History) -> String {
-    let mut text = format!("rule3 on\n{}\n", h.start.join("\n"));
+    let mut text = format!("rule3 on\n{}", h.opening());
     for t in &h.turns {
         if let Some((entropy, token)) = t.fresh {
             text += &format!("entropy {entropy}\ntoken {token}\n");
@@ -296,10 +341,11 @@ fn show(h: &History) -> String {
 
 /// One history. `until`: the time or the calls are used up.
 fn history(maker: &mut Maker, start: Vec<String>, fault: Fault, st: &mut Stats, until: &dyn Fn(&Stats) -> bool) -> Result<(), (History, Failure)> {
-    let (mut world, mut shim) = (world_of(&start), Shim::new(fault));
-    let (mut book, mut h) = (Book::new(world.sectors()), History { start, turns: vec![] });
+    let mut h = History { start, earlier: maker.earlier(), turns: vec![] };
+    let (mut shim, (mut world, mut book)) = (Shim::new(fault), h.begin());
     let length = 20 + maker.r.below(if maker.pool == CREATING { 300 } else { 180 });
-    let mut mount = false;
+    let mut mount = !h.earlier.is_empty();
+    st.earlier += u64::from(mount);
     while (h.turns.len() as u64) < length && !until(st) {
         let mut t = if mount { turn(Call::Mount) } else { maker.call(&world, &book) };
         if mount {
@@ -355,6 +401,10 @@ fn main() {
     }
     println!("{} reader answers, {} files opened again in a partial chunk, most files {}, most chunks {}", st.nexts, st.reopened, st.held.most_files, st.most_chunks);
     println!("formats with an id had before {again}, seeds not taken for demand 3's premise {avoided}");
+    println!(
+        "histories with calls from before S-5 {}; of their files with dots {} deleted, {} rolled over, {} of these calls stopped",
+        st.earlier, st.dots.deleted, st.dots.rolled, st.dots.stopped
+    );
     println!("runs of calls {}, read back {} times, {} payloads", st.runs, st.held.checks, st.held.payloads);
     println!(
         "{} calls, {} stopped ({} after some writes), {} formats, {} creates, {} rollovers ({} in create), {} deletes, {} extensions, {} records, {} files read back, no failure",

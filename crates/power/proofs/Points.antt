@@ -26,7 +26,7 @@ use Rattle.files.specs.Create.{Next, roundOut, createFrom}
 use Rattle.folds.proofs.Named.{look-view}
 use Rattle.layout.specs.Segments.{Segment}
 use Rattle.reading.specs.GivesTo.{GivesTo}
-use Rattle.reading.specs.Below.{endNumber, below}
+use Rattle.reading.specs.Below.{endNumber}
 use Rattle.store.specs.Reading.{readerCall}
 use Rattle.store.specs.Writing.{deleteCall, formatCall}
 use Rattle.power.specs.Calls.{Rules, Call, mount, format, create, openAppend, append, sync, delete, deleteOldest, query}

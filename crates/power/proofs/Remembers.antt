@@ -7,7 +7,7 @@ use mathlib.Core.Bool.{Bool, true, false}
 use mathlib.Core.List.{List, [], _∷_, _++_, List·Memᴰ, List·Memᴰ·head, List·Memᴰ·tail, List·Memᴰ·not-nil}
 use lib.ListN.{length, getD}
 use Rattle.medium.specs.declared.Medium.{Medium}
-use Rattle.medium.specs.Refusal.{ok, refused}
+use Rattle.medium.specs.Refusal.{ok}
 use Rattle.medium.specs.Sector.{Readable}
 use Rattle.plan.specs.Copy.{Distinct}
 use Rattle.append.specs.declared.Appender.{Appender}

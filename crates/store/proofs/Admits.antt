@@ -14,7 +14,7 @@ use Rattle.medium.specs.declared.Outcome.the-variants.{Done, No}
 use Rattle.medium.specs.Refusal.{onDone}
 use Rattle.medium.proofs.Laws.{onDone-keeps, onDone-done, not-done}
 use Rattle.handles.specs.declared.Store.{Store}
-use Rattle.append.specs.Calls.{AppCall, callOf}
+use Rattle.append.specs.Calls.{callOf}
 use Rattle.append.specs.Flush.{AppOut}
 use Rattle.files.specs.declared.Rollover.{Rollover}
 use Rattle.files.specs.Opened.{refusedAt}

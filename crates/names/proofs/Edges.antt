@@ -1,4 +1,4 @@
--- The edges of 01's rule for names and directories, and those of a name with dots, computed from the definitions. Assumes nothing.
+-- The edges of 01's rule for names and directories, and those of dot names, computed from the definitions. Assumes nothing.
 use Prim.Native.Nat.{ℕ}
 use mathlib.Core.Path.{_≡_, refl}
 use mathlib.Core.Bool.{true, false}

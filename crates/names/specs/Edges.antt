@@ -1,4 +1,4 @@
--- 02, S-5: the edges of a name with dots, made of the definitions. One statement has them all; proofs/Edges proves it. Assumes nothing.
+-- 02, S-5: the edges of dot names, made of the definitions. One statement has them all; proofs/Edges proves it. Assumes nothing.
 use Prim.Native.Nat.{ℕ}
 use mathlib.Core.Path.{_≡_}
 use mathlib.Core.Bool.{true, false}

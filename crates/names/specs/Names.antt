@@ -70,7 +70,7 @@ everyPlain (b ∷ bs) = plainByte b && everyPlain bs
 unfoldable pub pointOk : List ℕ → Bool
 pointOk l = between 1 16 (length l) && everyPlain l
 
--- ---- S-5: names that are retired. `nameOk` still takes them, since entries keep them
+-- ---- S-5: dot names, which are retired. `nameOk` still takes them, since entries keep them
 
 -- a segment begins with `.`
 unfoldable pub beginsDot : List ℕ → Bool
@@ -81,6 +81,6 @@ unfoldable pub someDot : List (List ℕ) → Bool
 someDot [] = false
 someDot (s ∷ ss) = beginsDot s || someDot ss
 
--- one of the name's segments does
+-- a dot name: one of its segments does
 unfoldable pub dotted : List ℕ → Bool
 dotted l = someDot (segments l)

@@ -97,7 +97,7 @@ pub fn point_ok(bytes: &[u8]) -> bool
     true
 }
 
-// S-5: a segment begins with a dot. One pass, as in `name_ok`: `fresh` says that a segment starts here.
+// S-5: a dot name: one of its segments begins with a dot. One pass, as in `name_ok`: `fresh` says that a segment starts here.
 pub fn dotted(bytes: &[u8]) -> bool
     ensures { λ r. ⌜ r ≡ dotted (now (bytes .entry)) ⌝ }
 {

@@ -1,5 +1,5 @@
 -- Enough is enough: in a history whose generation is not spent, a call with as many writes left as its commit may take is accepted: delete of a file of
--- the book, delete_oldest of any directory, and create of a new name where the book has room. So is a sync with one write left where the chunk has
+-- the book, delete_oldest of any directory, and create of a new name that its rules take where the book has room. So is a sync with one write left where the chunk has
 -- room, and a format with its writes left. So none of them gives 4. Assumes nothing.
 use Prim.Native.Nat.{ℕ, _-_, _^_, _≤_, _<_}
 use mathlib.Core.Path.{_≡_, refl, sym, ap, subst, _∙_}

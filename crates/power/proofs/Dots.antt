@@ -1,5 +1,5 @@
--- S-5 in histories. Since that request a create or an opening of a name with dots leaves world and book as they were, but for the writes left that it was
--- given; one of a name without dots is the same call by either rules. And three histories with a file `.a` from before it: stopped in its deletion it is
+-- S-5 in histories. Since that request a create or an opening of a dot name leaves world and book as they were, but for the writes left that it was
+-- given; one of any other name is the same call by either rules. And three histories with a file `.a` from before it: stopped in its deletion it is
 -- found, deleted it is gone, and so rolled over. Assumes nothing.
 use Prim.Native.Nat.{ℕ, _≤_, _<_}
 use mathlib.Core.Path.{_≡_, refl, ap}
@@ -64,7 +64,7 @@ module _ (w : World) (left : ℕ) (name : List ℕ) (rolls : Bool) (dir : List �
   unfolding beforeSteps
   retired-book b = (still (create present left name rolls dir) b create-retired refl, still (openAppend present left name rolls dir) b open-retired refl)
 
--- ---- a name without dots: one call by either rules
+-- ---- any other name: one call by either rules
 
 module _ (w : World) (left : ℕ) (name : List ℕ) (rolls : Bool) (dir : List ℕ) (plain : dotted name ≡ false) where
   pub create-either : ran w (create present left name rolls dir) ≡ ran w (create earlier left name rolls dir)

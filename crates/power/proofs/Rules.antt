@@ -1,5 +1,5 @@
 -- S-5: a create or an opening by either rules. Its input is admitted and it works, or it is refused with all as given. Assumes nothing.
-use mathlib.Core.Path.{_≡_, refl}
+use mathlib.Core.Path.{_≡_, refl, _∙_}
 use mathlib.Core.Bool.{Bool}
 use mathlib.Core.List.{List}
 use Prim.Native.Nat.{ℕ}
@@ -14,7 +14,7 @@ use Rattle.files.specs.Create.{createOf}
 use Rattle.reopen.specs.Reopen.{reopenOf}
 use Rattle.store.specs.Asked.{askedOf}
 use Rattle.store.specs.Opening.{openFine, rolloverOf, opening, createEarlier, openEarlier, admittedOf}
-use Rattle.store.proofs.Admits.{admitted-asked, asked-admitted, create-is, open-is}
+use Rattle.store.proofs.Admits.{admitted-asked, admitted-same, create-is, open-is}
 use Rattle.power.specs.Calls.{Rules, earlier, present}
 use Rattle.power.specs.History.{createBy, openBy}
 use Rattle.power.specs.Room.{Allows}
@@ -31,7 +31,7 @@ module _ (vol : List ℕ) (st : Store) (name : List ℕ) (rolls : Bool) (dir : L
 
   pub admits-done : (rules : Rules) → Allows rules name → askedOf vol st (openFine name rolls dir) ≡ Done → admits rules ≡ Done
   admits-done earlier allows q = q
-  admits-done present allows q = asked-admitted vol st name rolls dir q allows
+  admits-done present allows q = admitted-same vol st name rolls dir (λ _. allows) ∙ q
 
   pub create-by : (rules : Rules) (m : Medium)
       → createBy rules vol m st name rolls dir ≡ callOf (onDone (admits rules) (createOf name (rolloverOf rolls dir) vol m st) (refusedAt vol m st))

@@ -19,7 +19,7 @@ use Rattle.power.specs.History.{World, ran}
 abbrev pub Tells : World → Call → List Kind → Type 0
 Tells w c kinds = (ran w c .accepted ≡ true) × (map (λ (s : Step). s .kind) (ran w c .steps) ≡ kinds)
 
--- S-5: since that request a create or an opening takes no name with dots in front
+-- S-5: since that request a create or an opening takes no dot name
 abbrev pub Allows : Rules → List ℕ → Type 0
 Allows earlier name = Unit {0}
 Allows present name = dotted name ≡ false

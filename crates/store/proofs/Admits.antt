@@ -1,10 +1,9 @@
 -- S-5: create and open_append go by whether their input is admitted. What that tells of the input, and the two calls by it. Assumes nothing.
-use mathlib.Core.Path.{_≡_, refl, ap, _∙_}
+use mathlib.Core.Path.{_≡_, refl, ap}
 use mathlib.Core.Bool.{Bool, false}
 use mathlib.Core.List.{List}
 use Prim.Native.Nat.{ℕ}
 use Rattle.le.specs.Choice.{pick}
-use Rattle.le.proofs.Choices.{pick-false}
 use Rattle.names.specs.Names.{dotted}
 use Rattle.medium.specs.declared.Error.{Error}
 use Rattle.medium.specs.declared.Error.the-variants.{Dotted}
@@ -31,9 +30,14 @@ module _ (vol : List ℕ) (st : Store) (name : List ℕ) (rolls : Bool) (dir : L
   unfolding admittedOf
   admitted-asked = onDone-keeps (λ (o : Outcome). o ≡ Done → asked ≡ Done) asked _ _ (λ q _. q) (λ e _ d. not-done d)
 
-  pub asked-admitted : asked ≡ Done → dotted name ≡ false → admittedOf vol st name rolls dir ≡ Done
-  unfolding admittedOf
-  asked-admitted q plain = onDone-done _ _ q ∙ pick-false _ _ plain
+  -- where 16 is not given it is what 01 asks
+  pub admitted-same : (asked ≡ Done → dotted name ≡ false) → admittedOf vol st name rolls dir ≡ asked
+  unfolding admittedOf onDone pick
+  admitted-same plain = go asked refl
+    where
+      go : (o : Outcome) → asked ≡ o → onDone o (pick (dotted name) (No Dotted) Done) No ≡ o
+      go Done q = rw (plain q)
+      go (No e) q = refl
 
   -- as the code decides
   module _ {fine : Bool} {o : Outcome} (f : fine ≡ openFine name rolls dir) (q : o ≡ askedOf vol st fine) where

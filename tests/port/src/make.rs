@@ -1,7 +1,6 @@
 //! Random scripts. A round is one volume with a history that the Rust makes,
 //! and then episodes: the history's state with something changed, and calls.
 use crate::histories;
-use driver::dotted;
 use driver::script::Session;
 
 /// What an episode changes.
@@ -48,7 +47,7 @@ impl Rng {
 
 const LONG: &str = "traces/abcdefghijklmnopqrstuvwxyz0123456"; // 40 bytes
 pub const NAMES: &[&str] = &["a", "b", "t/a", "t/b", "t/u/c", "w/1", "x.y_z-0", LONG];
-/// Names that 02, S-5 retires: files have them from before it.
+/// Dot names, which 02, S-5 retires: files have them from before it.
 pub const DOTS: &[&str] = &[".a", "t/.b", ".t/c", "..", "w/.n/1", "t/u/.d"];
 pub const DIRS: &[&str] = &["\"\"", "\"\"", "t/", "t/u/", "w/", "traces/", "zz/", ".t/"];
 /// Empty, no or empty segments, 41 bytes, other characters, no text.
@@ -162,7 +161,7 @@ impl Maker {
     pub fn sizes(&self) -> (u64, u64) {
         self.s.st.store.as_ref().map_or((1, 1), |s| (s.chunks().clamp(1, 2048).into(), s.chunk_sectors().clamp(1, 512).into()))
     }
-    /// One in eight has dots.
+    /// One in eight is a dot name.
     pub fn any_name(&mut self) -> &'static str {
         if self.r.one_in(8) { self.r.pick(DOTS) } else { self.r.pick(NAMES) }
     }
@@ -176,9 +175,9 @@ impl Maker {
             self.r.pick(&self.made)
         }
     }
-    /// A create or open_append; of a name with dots by the rule from before S-5, half the time.
+    /// A create or open_append; of a dot name by the rule from before S-5, half the time.
     pub fn opening(&mut self, call: &str, name: &str, dir: &str) -> String {
-        let earlier = if dotted(name.as_bytes()) && self.r.one_in(2) { "earlier " } else { "" };
+        let earlier = if DOTS.contains(&name) && self.r.one_in(2) { "earlier " } else { "" };
         format!("{earlier}{call} {name} {dir}")
     }
     pub fn dir(&mut self) -> &'static str {

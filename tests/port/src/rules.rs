@@ -2,7 +2,7 @@
 use driver::dotted;
 use driver::script::{Retires, bytes_of};
 
-fn word<'a>(words: &[&'a str], k: usize) -> Vec<u8> {
+fn word(words: &[&str], k: usize) -> Vec<u8> {
     bytes_of(words.get(k).copied().unwrap_or("")).into_owned()
 }
 

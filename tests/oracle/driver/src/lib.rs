@@ -219,7 +219,7 @@ pub fn hole_blanks(m: &Medium, store: &Store, behind: &Reader, from: u32, to: u3
     hole_sectors(store, behind, from, to).filter(blank).count() as u64
 }
 
-/// 02, S-5: one of a name's segments begins with a dot.
+/// 02, S-5: a dot name, one of whose segments begins with a dot.
 pub fn dotted(name: &[u8]) -> bool {
     name.split(|b| *b == b'/').any(|segment| segment.starts_with(b"."))
 }

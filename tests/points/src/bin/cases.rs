@@ -318,14 +318,14 @@ fn dots(d: &mut Desk) {
     d.accepted("earlier create .old -");
     d.record(b"s0");
     let got = d.say("open_append .old -");
-    d.row("D1", "`.old` (id 3) from before S-5 with record s0; open_append `.old`", "no 16", got);
+    d.row("N1", "`.old` (id 3) from before S-5 with record s0; open_append `.old`", "no 16", got);
     let got = d.set("p", ".old");
-    d.row("D2", "D1, set `p` `.old`", "ok 1", got);
+    d.row("N2", "N1, set `p` `.old`", "ok 1", got);
     let got = d.up("p");
-    d.row("D3", "D2, read up to `p`", "s0, end", got);
+    d.row("N3", "N2, read up to `p`", "s0, end", got);
     d.accepted("delete .old");
     let got = d.up("p");
-    d.row("D4", "D2, `.old` deleted, read up to `p`", "no 15", got);
+    d.row("N4", "N2, `.old` deleted, read up to `p`", "no 15", got);
 }
 
 fn stops(d: &mut Desk) {

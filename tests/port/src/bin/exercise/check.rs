@@ -26,7 +26,7 @@ pub struct Stats {
     pub nexts: u64,
     pub held: Held,
     pub most_chunks: u32,
-    /// Histories with calls from before 02, S-5, and what became of their files with dots.
+    /// Histories with calls from before 02, S-5, and what became of files with dot names.
     pub earlier: u64,
     pub dots: Dots,
 }

@@ -92,7 +92,7 @@ impl Maker {
         (Maker { r, sizes, pool, formats, stops, seed, ids: HashSet::new(), again: 0, avoided: 0 }, start)
     }
 
-    /// Calls from before 02, S-5, in a third of the histories; half of their names have dots.
+    /// Calls from before 02, S-5, in a third of the histories; half of their names are dot names.
     fn earlier(&mut self) -> Vec<Call> {
         if !self.r.one_in(3) {
             return vec![];
@@ -402,9 +402,13 @@ fn main() {
     println!("{} reader answers, {} files opened again in a partial chunk, most files {}, most chunks {}", st.nexts, st.reopened, st.held.most_files, st.most_chunks);
     println!("formats with an id had before {again}, seeds not taken for demand 3's premise {avoided}");
     println!(
-        "histories with calls from before S-5 {}; of their files with dots {} deleted, {} rolled over, {} of these calls stopped",
+        "histories with calls from before S-5 {}; of their files with dot names {} deleted, {} rolled over, {} of these calls stopped",
         st.earlier, st.dots.deleted, st.dots.rolled, st.dots.stopped
     );
+    if n(1) >= Some(5) && calls == u64::MAX && (st.dots.deleted == 0 || st.dots.rolled == 0) {
+        println!("no file with a dot name was deleted, or none rolled over");
+        std::process::exit(1);
+    }
     println!("runs of calls {}, read back {} times, {} payloads", st.runs, st.held.checks, st.held.payloads);
     println!(
         "{} calls, {} stopped ({} after some writes), {} formats, {} creates, {} rollovers ({} in create), {} deletes, {} extensions, {} records, {} files read back, no failure",

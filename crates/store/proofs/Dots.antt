@@ -14,9 +14,12 @@ use Rattle.medium.specs.Sector.{sectorsOf}
 use Rattle.handles.specs.declared.Store.{Store}
 use Rattle.handles.specs.Handles.{storeOk}
 use Rattle.append.specs.Calls.{AppCall, callOf}
+use Rattle.append.specs.Flush.{AppOut}
 use Rattle.files.specs.Opened.{refusedAt}
+use Rattle.files.specs.Create.{createOf}
+use Rattle.reopen.specs.Reopen.{reopenOf}
 use Rattle.store.specs.Asked.{askedOf}
-use Rattle.store.specs.Opening.{openFine, opening, createEarlier, openEarlier, admittedOf, ifAdmitted, createCall, openCall}
+use Rattle.store.specs.Opening.{openFine, rolloverOf, opening, createEarlier, openEarlier, admittedOf, ifAdmitted, createCall, openCall}
 use Rattle.store.specs.Dots.{Refused16, BothRefused, AsEarlier, Dots}
 use Rattle.store.proofs.Laws.{asked-done}
 use Rattle.store.proofs.Admits.{admitted-same, create-is, open-is}
@@ -35,9 +38,10 @@ module _ (vol : List ℕ) (m : Medium) (st : Store) (name : List ℕ) (rolls : B
   as-earlier : (askedOf vol st (openFine name rolls dir) ≡ Done → dotted name ≡ false) → AsEarlier vol m st name rolls dir
   unfolding createEarlier openEarlier opening
   as-earlier not =
-      let same = admitted-same vol st name rolls dir not in (
-        create-is vol st name rolls dir m ∙ ap (λ (o : Outcome). callOf (onDone o _ (refusedAt vol m st))) same,
-        open-is vol st name rolls dir m ∙ ap (λ (o : Outcome). callOf (onDone o _ (refusedAt vol m st))) same,
+      let same = admitted-same vol st name rolls dir not in
+      let by : AppOut → Outcome → AppCall = λ work o. callOf (onDone o work (refusedAt vol m st)) in (
+        create-is vol st name rolls dir m ∙ ap (by (createOf name (rolloverOf rolls dir) vol m st)) same,
+        open-is vol st name rolls dir m ∙ ap (by (reopenOf name (rolloverOf rolls dir) vol m st)) same,
       )
 
 -- a directory that is not set is not asked

@@ -44,6 +44,7 @@ pub record Dots : Type 0 where
   -- `.a` with a directory that breaks its rule: 1 where it is set, 16 where it is not
   pub bad-directory : (vol : List ℕ) (m : Medium) (st : Store) (dir : List ℕ) → storeOk st (sectorsOf vol) ≡ true → dirOk dir ≡ false
       → (createCall vol m st (46 ∷ 97 ∷ []) true dir .call .answer ≡ refused 1) × (openCall vol m st (46 ∷ 97 ∷ []) true dir .call .answer ≡ refused 1)
-  pub unset-directory : (vol : List ℕ) (m : Medium) (st : Store) (dir : List ℕ) → storeOk st (sectorsOf vol) ≡ true → BothRefused vol m st (46 ∷ 97 ∷ []) false dir
+  pub unset-directory : (vol : List ℕ) (m : Medium) (st : Store) (dir : List ℕ) → storeOk st (sectorsOf vol) ≡ true
+      → BothRefused vol m st (46 ∷ 97 ∷ []) false dir
   -- `a.b` with the directory `.d/`: as it was
   pub dot-directory : (vol : List ℕ) (m : Medium) (st : Store) → AsEarlier vol m st (97 ∷ 46 ∷ 98 ∷ []) true (46 ∷ 100 ∷ 47 ∷ [])

@@ -61,7 +61,7 @@ pub extern "C" fn port_list(
     store: &[u64; 10],
     crcs: &[u32; 24],
     dir: &[u8],
-    counts: &mut [u32],
+    counts: &mut [u16],
     rows: &mut [u8],
     answer: &mut [u64; 3],
 ) -> u32

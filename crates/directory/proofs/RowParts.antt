@@ -1,19 +1,27 @@
--- A row is put part by part, and a walk makes one row more. Assumes nothing.
-use mathlib.Core.Path.{_≡_, ap, sym, _∙_}
+-- A row is put part by part, and a walk makes one row more; of the counts it reads those of the 64 slots. Assumes nothing.
+use mathlib.Core.Path.{_≡_, refl, ap, sym, _∙_}
 use mathlib.Core.List.{List, _++_, append-assoc}
 use mathlib.Core.Bool.{Bool, true, false}
-use Prim.Native.Nat.{ℕ, _+_, _-_, _*_, _≤_}
+use Prim.Native.Nat.{ℕ, _+_, _-_, _*_, _<_, _≤_, zero-le}
 use native.Mathlib.Omega.{arith}
 use lib.ListN.{length, getD, length-append}
+use Rattle.le.specs.Choice.{pick}
 use Rattle.le.specs.Field.{leBytes, putLe}
-use Rattle.le.specs.Part.{over, zeros}
+use Rattle.le.specs.Part.{part, over, zeros}
 use Rattle.le.proofs.Choices.{pick-true, pick-false}
 use Rattle.le.proofs.Fields.{length-bytes}
 use Rattle.le.proofs.Parts.{length-zeros, over-over}
 use Rattle.le.proofs.Turns.{told}
 use Rattle.names.specs.Names.{inDir}
-use Rattle.walk.specs.Walk.{next}
-use Rattle.directory.specs.Rows.{rowOf, rowMade, listing}
+use Rattle.medium.specs.declared.Medium.{Medium}
+use Rattle.handles.specs.declared.Store.{Store}
+use Rattle.walk.specs.Walk.{next, visits}
+use Rattle.walk.proofs.Laws.{walk-alike}
+use Rattle.directory.specs.declared.Slot.{Slot}
+use Rattle.directory.specs.declared.Slot.the-variants as slot
+use Rattle.directory.specs.Entry.{entryAt, slotAt}
+use Rattle.directory.specs.Rows.{rowOf, Made, rowMade, listing, rowsOf}
+use Rattle.directory.specs.Scan.{onSlot}
 
 -- two parts that meet are one, with the second's place in a variable
 meets : (o p : ℕ) (vs ws l : List ℕ) → o + length vs ≡ p → p + length ws ≤ length l → over p ws (over o vs l) ≡ over o (vs ++ ws) l
@@ -60,3 +68,16 @@ module _ (dir counts : List ℕ) (i id : ℕ) (name rows : List ℕ) (count : �
 
   pub row-skipped : inside ≡ false → listing dir counts .file i id name (record { rows = rows; count = count }) ≡ next (record { rows = rows; count = count })
   row-skipped t = ap next (pick-false _ _ (told tested t))
+
+-- ---- counts that agree at the 64 slots give the same rows
+
+module _ (vol : List ℕ) (m : Medium) (st : Store) (dir c d : List ℕ) (same : (i : ℕ) → i < 64 → getD c i 0 ≡ getD d i 0) where
+  visited : (i : ℕ) (s : Made) → i < 64 → (x : Slot) → onSlot (listing dir c) (entryAt vol st) i s x ≡ onSlot (listing dir d) (entryAt vol st) i s x
+  visited i s h (slot.Refused e) = refl
+  visited i s h slot.Free = refl
+  visited i s h (slot.File id len) =
+      let name : List ℕ = part 0 len (entryAt vol st i) in ap (λ (n : ℕ). next (pick (inDir dir name) (rowMade name id n s) s)) (same i h)
+
+  pub rows-same : (rows : List ℕ) → rowsOf vol m st dir c rows ≡ rowsOf vol m st dir d rows
+  unfolding rowsOf visits
+  rows-same rows = walk-alike _ _ (listing dir d .done) 64 (λ k t h. visited k t h (slotAt vol m st k)) 0 _ zero-le

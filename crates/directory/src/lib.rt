@@ -286,7 +286,7 @@ pub fn oldest(
 }
 
 // Row `count` of the lent rows: the name with zeros to 40, the id and the chunks.
-fn put_row(rows: &mut [u8], count: usize, name: &[u8], id: u32, chunks: u32)
+fn put_row(rows: &mut [u8], count: usize, name: &[u8], id: u32, chunks: u16)
     requires { ⌜ (48 * count + 48 ≤ length (now rows)) × (count < 64) × (length (now name) ≤ 40) ⌝ }
     ensures { λ _. ⌜ now (rows .exit) ≡ over (48 * count) (rowOf (now (name .entry)) id chunks) (now (rows .entry)) ⌝ }
 {
@@ -295,7 +295,7 @@ fn put_row(rows: &mut [u8], count: usize, name: &[u8], id: u32, chunks: u32)
     runs::put_bytes(rows, at, name);
     runs::put_zeros(rows, at + len, 40 - len);
     le::put_u32(rows, at + 40, id);
-    le::put_u32(rows, at + 44, chunks);
+    le::put_u32(rows, at + 44, chunks as u32);
 }
 
 pub struct Rows {
@@ -309,7 +309,7 @@ pub fn list_rows(
     medium: Medium,
     store: Store,
     dir: &[u8],
-    counts: &[u32],
+    counts: &[u16],
     rows: &mut [u8],
 ) -> Rows
     requires { ⌜ (64 ≤ sectorsOf (now volume)) × (64 ≤ length (now counts)) × (3072 ≤ length (now rows)) ⌝ }

@@ -108,7 +108,7 @@ pub extern "C" fn store_list(
     if let Outcome::No(e) = o {
         return medium::number(e);
     }
-    let mut counts = [0u32; 64];
+    let mut counts = [0u16; 64];
     let l = store::list(
         volume,
         found.medium,

@@ -98,6 +98,11 @@ pub over-whole : (vs l : List ℕ) → length vs ≡ length l → over 0 vs l �
 unfolding over
 over-whole vs l e = rw (zero-add, e, drop-length) (append-nil vs)
 
+-- zeros written from the start on
+pub over-zeros : (n : ℕ) (l : List ℕ) → over 0 (zeros n) l ≡ zeros n ++ drop n l
+unfolding over
+over-zeros n l = rw (zero-add, length-zeros n)
+
 -- two parts that meet are one
 pub over-over : (o : ℕ) (vs ws l : List ℕ) → o + length vs + length ws ≤ length l → over (o + length vs) ws (over o vs l) ≡ over o (vs ++ ws) l
 unfolding over

@@ -13,7 +13,7 @@ use Rattle.le.specs.Choice.{pick}
 use Rattle.le.specs.Part.{part, over, zeros}
 use Rattle.le.specs.Field.{leNumber, leBytes, getLe}
 use Rattle.le.proofs.Choices.{pick-keeps, pick-true, pick-false}
-use Rattle.le.proofs.Parts.{length-zeros, drop-over}
+use Rattle.le.proofs.Parts.{length-zeros, drop-over, over-zeros}
 use Rattle.checksum.specs.Crc.{crc32Of}
 use Rattle.walk.specs.Walk.{walk, visits}
 use Rattle.medium.specs.declared.Medium.{Medium}
@@ -49,10 +49,6 @@ use Rattle.power.proofs.FirstCommit.{current, commit-is}
 
 -- ---- a file made in the first slot and the first chunk of an empty body, and removed
 
-over-first : (l : List ℕ) → over 0 (zeros 64) l ≡ zeros 64 ++ drop 64 l
-unfolding over zeros
-over-first l = refl
-
 zeros-more : zeros 64 ++ drop 64 (zeros 512) ≡ zeros 512
 unfolding zeros
 zeros-more = refl
@@ -61,7 +57,7 @@ first-entry : (name : List ℕ) (id : ℕ) → length name ≤ 40 → over 0 (ze
 first-entry name id short =
     let n : length (entryBytes name id) ≡ 64 = length-entry name id short in
     let d : drop 64 (over 0 (entryBytes name id) (zeros 512)) ≡ drop 64 (zeros 512) = rw n at (drop-over 0 (entryBytes name id) (zeros 512) (rw (n, length-zeros 512) (lit≤ tt))) in
-    over-first (over 0 (entryBytes name id) (zeros 512)) ∙ ap (λ (l : List ℕ). zeros 64 ++ l) d ∙ zeros-more
+    over-zeros 64 (over 0 (entryBytes name id) (zeros 512)) ∙ ap (λ (l : List ℕ). zeros 64 ++ l) d ∙ zeros-more
 
 first-link : clearedOf 0 (over 0 (linkBytes (plainLink 0 0)) (zeros 512)) ≡ zeros 512
 unfolding clearedOf visits walk clearLink ownedBy linkBytes ownerOf placeOf leBytes over part zeros pick getLe leNumber

@@ -270,7 +270,7 @@ fn list_line(volume: &[u8], s: Session, rows: &mut [u8]) -> Told
     if !s.formatted {
         return refused(s, Error::Uninitialized);
     }
-    let mut counts = [0u32; 64];
+    let mut counts = [0u16; 64];
     let l = store::list(volume, s.medium, s.store, b"", &mut counts, rows);
     let o = l.outcome;
     let medium = l.medium;

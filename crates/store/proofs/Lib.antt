@@ -11,3 +11,4 @@ pub mod Rests
 pub mod Frame
 pub mod Stale
 pub mod Dots
+pub mod Widths

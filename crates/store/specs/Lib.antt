@@ -4,3 +4,4 @@ pub mod Writing
 pub mod Opening
 pub mod Edges
 pub mod Dots
+pub mod Widths

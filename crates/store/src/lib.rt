@@ -117,7 +117,7 @@ fn not_listed(e: Error, medium: Medium) -> ListAnswer
 }
 
 // The first 64 counts set to 0.
-fn clear_counts(counts: &mut [u32])
+fn clear_counts(counts: &mut [u16])
     requires { ⌜ 64 ≤ length (now counts) ⌝ }
     ensures { λ _. ⌜ now (counts .exit) ≡ over 0 (zeros 64) (now (counts .entry)) ⌝ }
 {
@@ -132,7 +132,7 @@ pub fn list(
     medium: Medium,
     store: Store,
     dir: &[u8],
-    counts: &mut [u32],
+    counts: &mut [u16],
     rows: &mut [u8],
 ) -> ListAnswer
     ensures { λ r. ⌜ listAnswer r (now (counts .exit)) (now (rows .exit))

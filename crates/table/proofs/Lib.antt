@@ -1,5 +1,6 @@
 pub mod Numbers
 pub mod Walks
+pub mod Counts
 pub mod Last
 pub mod Nearest
 pub mod Clears

@@ -328,7 +328,7 @@ pub fn free_chunk(volume: &[u8], medium: Medium, store: Store) -> Pick
 }
 
 // Adds the chunks that are linked to each slot to the counts, which the caller cleared; a refusal keeps what was counted before it.
-pub fn count(volume: &[u8], medium: Medium, store: Store, counts: &mut [u32]) -> Outcome
+pub fn count(volume: &[u8], medium: Medium, store: Store, counts: &mut [u16]) -> Outcome
     requires { ⌜ (64 ≤ sectorsOf (now volume)) × (store .head .chunks ≤ 2048) × (64 ≤ length (now counts)) × ((k : ℕ) → k < 64 → getD (now counts) k 0 ≡ 0) ⌝ }
     ensures { λ r. ⌜ (r ≡ countOf (now (volume .entry)) medium store (now (counts .entry)) .outcome)
         × (now (counts .exit) ≡ countOf (now (volume .entry)) medium store (now (counts .entry)) .counts) ⌝ }

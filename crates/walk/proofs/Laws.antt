@@ -1,5 +1,5 @@
--- Laws of a walk: a turn that goes on, a turn that stops, the end; a property that each visit keeps holds of the answer; and walks whose
--- visits agree agree. Assumes nothing.
+-- Laws of a walk: a turn that goes on, a turn that stops, the end; a property that each visit keeps holds of the answer, of one walk or of two side by
+-- side; and walks whose visits agree agree. Assumes nothing.
 use Prim.Native.Nat.{ℕ, zero, suc, _+_, _-_, _<_, _≤_, zero-le}
 use mathlib.Core.Path.{_≡_, refl, ap, sym, _∙_, subst}
 use native.Mathlib.Omega.{arith}
@@ -38,18 +38,40 @@ module _ {S R : Type 0} (f : ℕ → S → Visit S R) (done : S → R) (n : ℕ)
   pub walk-keeps : (i : ℕ) (s : S) → i ≤ n → P i s → Q (rest f done n i s)
   walk-keeps i s h p = steps (n - i) i s (omega arith) p
 
-module _ {S R : Type 0} (f g : ℕ → S → Visit S R) (done : S → R) (n : ℕ) (agree : (k : ℕ) (t : S) → k < n → f k t ≡ g k t) where
-  alike : (count i : ℕ) (s : S) → i + count ≡ n → walk f done count i s ≡ walk g done count i s
-  unfolding walk
-  alike zero i s e = refl
-  alike (suc count) i s e = ap (λ (x : Visit S R). afterVisit x (λ t. walk f done count (i + 1) t)) (agree i s (omega arith)) ∙ go (λ t. alike count (i + 1) t (omega arith)) (g i s)
-    where
-      go : ((t : S) → walk f done count (i + 1) t ≡ walk g done count (i + 1) t) → (x : Visit S R) → afterVisit x (λ t. walk f done count (i + 1) t) ≡ afterVisit x (λ t. walk g done count (i + 1) t)
-      go more (next t) = more t
-      go more (stop r) = refl
+-- what two visits leave: both go on, or both stop
+abbrev pub Both : {S T R Q : Type 0} → (S → T → Type 0) → (R → Q → Type 0) → Visit S R → Visit T Q → Type 0
+Both P E (next s) (next t) = P s t
+Both P E (stop r) (stop q) = E r q
+Both P E (next s) (stop q) = ⊥
+Both P E (stop r) (next t) = ⊥
 
+module _ {S T R Q : Type 0} (f : ℕ → S → Visit S R) (g : ℕ → T → Visit T Q) (fdone : S → R) (gdone : T → Q) (n : ℕ) (P : ℕ → S → T → Type 0) (E : R → Q → Type 0)
+    (visit : (k : ℕ) (s : S) (t : T) → k < n → P k s t → Both (P (k + 1)) E (f k s) (g k t))
+    (ends : (s : S) (t : T) → P n s t → E (fdone s) (gdone t)) where
+  beside : (count i : ℕ) (s : S) (t : T) → i + count ≡ n → P i s t → E (walk f fdone count i s) (walk g gdone count i t)
+  unfolding walk
+  beside zero i s t e p = let q : i ≡ n = omega arith in ends s t (subst (λ (k : ℕ). P k s t) q p)
+  beside (suc count) i s t e p = go (λ u v h. beside count (i + 1) u v (omega arith) h) (f i s) (g i t) (visit i s t (omega arith) p)
+    where
+      go : ((u : S) (v : T) → P (i + 1) u v → E (walk f fdone count (i + 1) u) (walk g gdone count (i + 1) v)) → (x : Visit S R) (y : Visit T Q) → Both (P (i + 1)) E x y
+          → E (afterVisit x (λ u. walk f fdone count (i + 1) u)) (afterVisit y (λ v. walk g gdone count (i + 1) v))
+      go more (next u) (next v) b = more u v b
+      go more (stop r) (stop q) b = b
+      go more (next u) (stop q) b = absurd b
+      go more (stop r) (next v) b = absurd b
+
+  pub walks-beside : (i : ℕ) (s : S) (t : T) → i ≤ n → P i s t → E (rest f fdone n i s) (rest g gdone n i t)
+  walks-beside i s t h p = beside (n - i) i s t (omega arith) p
+
+-- the same visit, twice
+both-same : {S R : Type 0} (x : Visit S R) → Both _≡_ _≡_ x x
+both-same (next s) = refl
+both-same (stop r) = refl
+
+module _ {S R : Type 0} (f g : ℕ → S → Visit S R) (done : S → R) (n : ℕ) (agree : (k : ℕ) (t : S) → k < n → f k t ≡ g k t) where
   pub walk-alike : (i : ℕ) (s : S) → i ≤ n → rest f done n i s ≡ rest g done n i s
-  walk-alike i s h = alike (n - i) i s (omega arith)
+  walk-alike i s h =
+      walks-beside f g done done n (λ (k : ℕ). _≡_) _≡_ (λ k s t b e. subst (Both _≡_ _≡_ (f k s)) (agree k s b ∙ ap (g k) e) (both-same (f k s))) (λ s t e. ap done e) i s s h refl
 
 -- A loop over the items has come to number i with the state s: what is left gives what the whole walk gives. This is the loop's invariant.
 pub record At {X S R : Type 0} (on : ℕ → S → X → Visit S R) (item : ℕ → X) (done : S → R) (n : ℕ) (whole : R) (i : ℕ) (s : S) : Type 0 where

@@ -196,7 +196,7 @@ impl World {
 
     fn list(&mut self, dir: &str, told: &mut Told) -> u32 {
         let World { volume: v, medium: m, store: s, crcs: c, .. } = self;
-        let (counts, rows, answer) = (&mut [0xeeee_u32; 64], &mut [0xee_u8; 3072], &mut [0; 3]);
+        let (counts, rows, answer) = (&mut [0xeeee_u16; 64], &mut [0xee_u8; 3072], &mut [0; 3]);
         let no = unsafe {
             port_list(
                 v.as_ptr(), v.len(), m, s, c, dir.as_ptr(), dir.len(),

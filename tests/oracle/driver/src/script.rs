@@ -12,11 +12,11 @@ pub struct State {
     token: u32,
 }
 
-/// What a caller lends to list and next. The Rust has an array or a visitor
-/// there: its answers are laid out here as 01 has them.
+/// What a caller lends to list and next. The Rust has an array, of 32 bits, or a
+/// visitor there: its answers are laid out here as 01 has them, and 02, S-9 the counts.
 #[derive(Clone, PartialEq, Eq)]
 pub struct Lent {
-    pub counts: Vec<u32>,
+    pub counts: Vec<u16>,
     pub rows: Vec<u8>,
     pub out: Vec<u8>,
 }
@@ -26,7 +26,7 @@ impl Lent {
     pub fn new(counts: usize, rows: usize, out: usize) -> Self {
         let byte = |i: usize| (i * 167 + 13) as u8 | 1;
         Lent {
-            counts: (0..counts as u32).map(|i| (i + 1).wrapping_mul(0x9e3779b9)).collect(),
+            counts: (0..counts as u16).map(|i| (i + 1).wrapping_mul(0x9e37)).collect(),
             rows: (0..rows).map(byte).collect(),
             out: (0..out).map(byte).collect(),
         }
@@ -283,7 +283,11 @@ fn call(st: &mut State, lent: &mut Lent, words: &[&str], rule3: bool, retires: O
                 Err(e) => return refuse(e),
             };
             let s = store.as_ref().unwrap();
-            let _ = s.x_counts(m, (&mut lent.counts[..64]).try_into().unwrap(), sector);
+            let mut counts = [0u32; 64];
+            let _ = s.x_counts(m, &mut counts, sector);
+            for (narrow, wide) in lent.counts.iter_mut().zip(counts) {
+                *narrow = wide.try_into().expect("a count that 16 bits do not hold");
+            }
             m.begin();
             let mut k = 0;
             let r = s.list(m, &d, sector, |e| {

@@ -7,7 +7,8 @@
 
 A column counts what the columns before it do not need: the contracts of the calls on offer (demands 1 and 2); the claim of demand 3; old or new
 (S-7: what is claimed of a stop in a format); blank (S-4: the judge's answer, and the calls of before); dots (S-5: what 16 leaves, that all
-else is 01's, and the edges); widths (S-9: that the listing goes by no width of its counts); points (S-1: their calls, and what is claimed of them over histories); the starred edges; how many writes a call makes;
+else is 01's, and the edges); widths (S-9: that the listing goes by no width of its counts);
+tables (S-10: that the checksum's 16 entries and its 256 agree); points (S-1: their calls, and what is claimed of them over histories); the starred edges; how many writes a call makes;
 the hosts (the C calls and the line program). What is left serves proofs, contracts inside, and the comparison with the Rust: who trusts the checker need not read it. A line is one of a definition or of the comment
 right above it; imports, empty lines and heads of files are not counted."""
 import os
@@ -26,6 +27,7 @@ STARTS = [
         + [("crates/reader/specs/Earlier.antt", n) for n in ("nextEarlier", "belowEarlier", "nextForgot", "belowForgot")]),
     ("dots", {}, [("crates/store/specs/Dots.antt", "Dots"), ("crates/names/specs/Edges.antt", "Edges")]),
     ("widths", {}, [("crates/store/specs/Widths.antt", "Widths")]),
+    ("tables", {}, [("crates/checksum/specs/Tables.antt", "Sixteen")]),
     ("points", {"points": ["set_point", "read_point"]}, [("crates/hatch/specs/Claim.antt", n) for n in ("CountsAsCalls", "SetByCalls", "Demand3Acts", "PowerStop")]
         + [("crates/hatch/specs/Pins.antt", "AsSet"), ("crates/marks/specs/Edges.antt", "Edges")]),
     ("edges", {}, [("crates/store/specs/Edges.antt", "Starred")]),

@@ -8,16 +8,16 @@
  * What the archive asks of the program that links it. tests/firmware reads it
  * off the machine code, and fails where more is asked than stands here:
  *   - memcpy and memset, and nothing else: no heap, no global state, no I/O;
- *     17 KB of code and constants.
+ *     16 KB of code and constants.
  *   - x86-64 with SSE2, called as the System V ABI has it. An interrupt handler
  *     that uses xmm registers saves them.
- *   - The red zone. The checksum, which every call reaches, keeps data in the
- *     128 bytes below the stack pointer, and no flag of your build changes
- *     that. An interrupt handler must not run on the stack of the code that
- *     makes a call, unless its entry first steps over those 128 bytes: give
- *     handlers a stack of their own, or make the calls with interrupts off.
+ *   - The red zone. A call may keep data in the 128 bytes below the stack
+ *     pointer, and no flag of your build changes that. An interrupt handler
+ *     must not run on the stack of the code that makes a call, unless its
+ *     entry first steps over those 128 bytes: give handlers a stack of their
+ *     own, or make the calls with interrupts off.
  *   - Stack, at most, for any input, without what memcpy and memset use: mount
- *     2,272 bytes, format 1,648, delete 4,304, list 2,704.
+ *     1,288 bytes, format 648, delete 3,352, list 1,688.
  *
  * The whole volume is in memory. A medium that is not has to be read into an
  * array before a call and its changed sectors written back after it. What is

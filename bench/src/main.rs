@@ -1,5 +1,6 @@
 //! Runs the workloads on the Rust and on the port. README.md says how; docs/BENCHMARKS.md what came out.
 mod sides;
+mod sixteen;
 mod work;
 use sides::{Port, Rust, Side};
 use std::process::Command;

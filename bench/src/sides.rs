@@ -3,9 +3,12 @@ use device_api::bulk::{Error as MediaError, OwnedInfo, ReadWrite, SECTOR_SIZE};
 use services::store::{Appender, Dir, Error, Name, Next, PAYLOAD, Reader, Sector, Store, mount};
 
 /// A side of the comparison. Nothing here may be refused: a refusal ends the program.
-pub trait Side {
+pub trait Side: 'static {
     fn new(sectors: usize) -> Self;
-    fn crc32(bytes: &[u8]) -> u32;
+    /// The checksum of these bytes, put into the first four of `out`.
+    fn crc32(&mut self, bytes: &[u8]);
+    /// The same, where the Rust has 16 entries too.
+    fn crc32_of_16(&mut self, bytes: &[u8]);
     fn format(&mut self, size: u32, seed: u64);
     fn mount(&mut self);
     /// The refusal of a mount of the first `sectors` sectors.
@@ -87,8 +90,11 @@ impl Side for Rust {
         let rows = vec![0; 64 * 48];
         Rust { medium, sector: [0; 512], store: None, appender: None, reader: None, rows, out: [0; PAYLOAD] }
     }
-    fn crc32(bytes: &[u8]) -> u32 {
-        services::checksum::crc32(bytes)
+    fn crc32(&mut self, bytes: &[u8]) {
+        self.out[..4].copy_from_slice(&services::checksum::crc32(bytes).to_le_bytes());
+    }
+    fn crc32_of_16(&mut self, bytes: &[u8]) {
+        self.out[..4].copy_from_slice(&crate::sixteen::crc32(bytes).to_le_bytes());
     }
     #[inline(never)]
     fn format(&mut self, size: u32, seed: u64) {
@@ -329,8 +335,12 @@ impl Side for Port {
             out: [0; 486],
         }
     }
-    fn crc32(bytes: &[u8]) -> u32 {
-        unsafe { port_crc32(bytes.as_ptr(), bytes.len()) }
+    fn crc32(&mut self, bytes: &[u8]) {
+        let sum = unsafe { port_crc32(bytes.as_ptr(), bytes.len()) };
+        self.out[..4].copy_from_slice(&sum.to_le_bytes());
+    }
+    fn crc32_of_16(&mut self, bytes: &[u8]) {
+        self.crc32(bytes);
     }
     #[inline(never)]
     fn format(&mut self, size: u32, seed: u64) {

@@ -83,13 +83,9 @@ fn read_all<S: Side>(s: &mut S, records: u32) {
     assert_eq!(n, records);
 }
 
-fn checksum<S: Side>(name: &'static str, n: usize, ops: u32) -> Work<S> {
+fn checksum<S: Side>(name: &'static str, n: usize, ops: u32, sum: fn(&mut S, &[u8])) -> Work<S> {
     let data = bytes(n);
-    let body = move |_: &mut S| {
-        for _ in 0..ops {
-            std::hint::black_box(S::crc32(std::hint::black_box(&data)));
-        }
-    };
+    let body = move |s: &mut S| (0..ops).for_each(|_| sum(s, std::hint::black_box(&data)));
     work(name, 1, 1, ops, |_| {}, body)
 }
 
@@ -100,8 +96,10 @@ pub fn table<S: Side>() -> Vec<Work<S>> {
     let many = bytes(64 * 486);
     let rolling = record.clone();
     vec![
-        checksum("crc32 of 64 MiB", 64 * MIB, 1),
-        checksum("crc32 of a sector", 512, 2000),
+        checksum("crc32 of 64 MiB", 64 * MIB, 1, S::crc32),
+        checksum("crc32 of a sector", 512, 2000, S::crc32),
+        checksum("crc32 of 64 MiB, both of 16", 64 * MIB, 1, S::crc32_of_16),
+        checksum("crc32 of a sector, both of 16", 512, 2000, S::crc32_of_16),
         work("format", 128, SIZE, 200, |s: &mut S| s.format(SIZE, 1), |s: &mut S| (0..200).for_each(|n| s.format(SIZE, n))),
         work("mount", 128, SIZE, 500, |s: &mut S| filled(s, SIZE, 8), |s: &mut S| (0..500).for_each(|_| s.mount())),
         work("list of 64 files", 128, SIZE, 100, |s: &mut S| filled(s, SIZE, 64), |s: &mut S| {

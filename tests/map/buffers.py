@@ -1,6 +1,6 @@
 #!/usr/bin/env python3
-"""A header is filled in the volume's own sector (02, S-2): in the crates of format and commit, and in those below them but for the checksum with its table, no
-array of a sector's size is made but one, for the body sector that `write_body_sector` takes from one copy to the other. A lent array is another's."""
+"""A header is filled in the volume's own sector (02, S-2): in the crates of format and commit, and in those below them, no array of a sector's size is made but one,
+for the body sector that `write_body_sector` takes from one copy to the other. A lent array is another's. So no table of 256 numbers is left in the checksum (02, S-10)."""
 import glob
 import re
 import sys
@@ -46,7 +46,7 @@ def arrays(text):
 
 
 misread = [text for count, texts in TRIED.items() for text in texts if len(list(arrays(text))) != count]
-crates = sorted(set(below("commit", "format")) - {"checksum"})
+crates = sorted(set(below("commit", "format")))
 sources = [(crate, path) for crate in crates for path in sorted(glob.glob(f"crates/{crate}/src/**/*.rt", recursive=True))]
 made = [f"{crate}::{name}" for crate, path in sources for name in arrays(open(path, encoding="utf-8").read())]
 print(f"buffers: {len(crates)} crates, those of format and commit and below; arrays of {SECTOR} bytes or more: {', '.join(made) or 'none'}")

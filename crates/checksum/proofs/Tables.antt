@@ -1,0 +1,72 @@
+-- 02, S-10: the 16 entries and the 256 agree, for all bytes and all starting states. Each table follows the rule by one computed test; from there one
+-- argument over a table of any size serves both, and no byte is a case of its own. Assumes nothing.
+use mathlib.Core.Path.{_≡_, refl, sym, ap, _∙_}
+use mathlib.Core.List.{List}
+use Prim.Native.Nat.{ℕ, _*_, _/_, _%_, _^_, _<_}
+use native.Mathlib.Omega.{arith}
+use native.Mathlib.Nat.{mod-lt, div-eq-of-lt}
+use lib.Pow.{pow-pos}
+use lib.Dec.{eqb, eqb→eq}
+use lib.Bits.{bitXor, xor-shr, xor-mod, xor-zero-r}
+use lib.ListN.{getD}
+use Rattle.checksum.specs.Crc.{bitSteps, bitStep, byteStep, added}
+use Rattle.checksum.specs.Tables.{table256, table16, Rule, stepBy, byByte, byHalves, Sixteen}
+use Rattle.checksum.proofs.Table.{rule, at}
+use Rattle.checksum.proofs.Steps.{steps-split, steps-add, steps-parts}
+
+rule16 : Rule 4 table16
+unfolding table16 bitSteps bitStep added
+rule16 = record { size = refl; entry = λ i h. rule (bitSteps 4) table16 i tt h }
+
+rule256 : Rule 8 table256
+unfolding table256 bitSteps bitStep added
+rule256 = record { size = refl; entry = λ i h. rule (bitSteps 8) table256 i tt h }
+
+-- the argument: the low bits of a word go out by their entry
+pub by-entry : (bits : ℕ) (table : List ℕ) → Rule bits table → (x : ℕ) → bitXor (x / 2 ^ bits) (getD table (x % 2 ^ bits) 0) ≡ bitSteps bits x
+by-entry bits table r x = ap (bitXor (x / 2 ^ bits)) (r .entry (x % 2 ^ bits) (mod-lt x (pow-pos bits))) ∙ sym (steps-split bits x)
+
+-- new bits that lie below those that move down do not change them
+pub step-is : (bits : ℕ) (table : List ℕ) → Rule bits table → (c new : ℕ) → new < 2 ^ bits → stepBy bits table c new ≡ bitSteps bits (bitXor c new)
+unfolding stepBy
+step-is bits table r c new h =
+    ap (λ (y : ℕ). bitXor y (getD table (bitXor c new % 2 ^ bits) 0))
+    (sym (xor-shr c new bits ∙ ap (bitXor (c / 2 ^ bits)) (div-eq-of-lt h) ∙ xor-zero-r (c / 2 ^ bits)))
+    ∙ by-entry bits table r (bitXor c new)
+
+pub byte-is : (c b : ℕ) → b < 2 ^ 8 → byByte c b ≡ byteStep c b
+unfolding byByte byteStep
+byte-is = step-is 8 table256 rule256
+
+pub halves-is : (c b : ℕ) → b < 2 ^ 8 → byHalves c b ≡ byteStep c b
+unfolding byHalves byteStep
+halves-is c b h =
+    step-is 4 table16 rule16 (stepBy 4 table16 c (b % 2 ^ 4)) (b / 2 ^ 4) (omega arith)
+    ∙ ap (λ (s : ℕ). bitSteps 4 (bitXor s (b / 2 ^ 4))) (step-is 4 table16 rule16 c (b % 2 ^ 4) (mod-lt b (pow-pos 4)))
+    ∙ sym (steps-parts 4 4 c b)
+
+pub sixteen : Sixteen
+sixteen = record { rule16 = rule16; rule256 = rule256; agree = λ c b h. halves-is c b h ∙ sym (byte-is c b h) }
+
+-- ---- the loop's byte
+
+-- the low half of an entry is that of 4 times its number
+low-half : (k : ℕ) → k < 2 ^ 4 → getD table16 k 0 % 2 ^ 4 ≡ k * 4 % 2 ^ 4
+unfolding table16
+low-half k h = eqb→eq (getD table16 k 0 % 2 ^ 4) (k * 4 % 2 ^ 4) (at (λ (i e : ℕ). eqb (e % 2 ^ 4) (i * 4 % 2 ^ 4)) table16 tt k h)
+
+-- so the number of the second entry is known without the first
+second : (x : ℕ) → bitXor (x / 2 ^ 4) (getD table16 (x % 2 ^ 4) 0) % 2 ^ 4 ≡ bitXor (x / 2 ^ 4) (x * 4 % 2 ^ 32) % 2 ^ 4
+second x =
+    let low : getD table16 (x % 2 ^ 4) 0 % 2 ^ 4 ≡ x * 4 % 2 ^ 32 % 2 ^ 4 = low-half (x % 2 ^ 4) (mod-lt x (pow-pos 4)) ∙ omega arith in
+    xor-mod (x / 2 ^ 4) (getD table16 (x % 2 ^ 4) 0) 4 ∙ ap (bitXor (x / 2 ^ 4 % 2 ^ 4)) low ∙ sym (xor-mod (x / 2 ^ 4) (x * 4 % 2 ^ 32) 4)
+
+-- both halves of the low byte go out
+pub both-halves : (x : ℕ)
+    → bitXor (bitXor (x / 2 ^ 4) (getD table16 (x % 2 ^ 4) 0) / 2 ^ 4) (getD table16 (bitXor (x / 2 ^ 4) (x * 4 % 2 ^ 32) % 2 ^ 4) 0) ≡ bitSteps 8 x
+both-halves x =
+    let y : ℕ = bitXor (x / 2 ^ 4) (getD table16 (x % 2 ^ 4) 0) in
+    ap (λ (k : ℕ). bitXor (y / 2 ^ 4) (getD table16 k 0)) (sym (second x))
+    ∙ by-entry 4 table16 rule16 y
+    ∙ ap (bitSteps 4) (by-entry 4 table16 rule16 x)
+    ∙ sym (steps-add 4 4 x)

@@ -1,5 +1,5 @@
-//! The Rust's checksum.rs with 16 entries and two steps a byte in place of 256 and one, as 02's S-10 asks: what the request
-//! costs the Rust itself.
+//! A checksum in Rust written after its checksum.rs, with 16 entries and two steps a byte in place of 256 and one, as 02's
+//! S-10 asks: what the request costs in Rust.
 
 const fn table() -> [u32; 16] {
     let mut table = [0; 16];

@@ -4,7 +4,7 @@
     archive.py ARCHIVE HEADER
 
 It fails where the archive needs another symbol than memcpy and memset, has data that is written, has an instruction past plain x86-64 with SSE2,
-or asks for more code or stack than HEADER (include/store.h) says; and it says which functions use the red zone. The stack is a bound for every input: no function calls itself, calls through a pointer or moves the stack
+or asks for more code or stack than HEADER (include/store.h) says, or for more below the stack pointer than the red zone; and it says which functions use that. The stack is a bound for every input: no function calls itself, calls through a pointer or moves the stack
 pointer after its first instructions, so a call uses what the deepest chain of calls adds up to, with the red zone below it. What memcpy and memset use
 themselves is the linked library's."""
 import re
@@ -12,6 +12,7 @@ import subprocess
 import sys
 
 NEEDS = {"memcpy", "memset"}
+RED_ZONE = 128
 CALLS = ["store_mount", "store_format", "store_delete", "store_list"]
 
 # the instructions of SSE and SSE2 on its registers, without the ones on floats that compute
@@ -111,6 +112,7 @@ def main():
     if text > code:
         faults.append("%d bytes of code and constants, %d promised" % (text, code))
     red = {name for name, f in found.items() if f.red}
+    faults += ["%s: %d bytes below the stack pointer" % (name, found[name].red) for name in sorted(red) if found[name].red > RED_ZONE]
     faults += strays(archive)
     faults += ["%s: not there" % name for name in CALLS if name not in found]
     if not faults:

@@ -11,7 +11,7 @@ NUMBER = re.compile(r"u(8|16|32|64)$")
 TYPE = re.compile(r"u(?:8|16|32|64)|usize|bool|\[.*|[A-Z]\w*[a-z]\w*")
 COPY = re.compile(r"= \*\w+;")
 TRIED = {
-    1: ["let zero = [0u8; 512];", "[0u32; 128]", "[0; 64]", "[0u8; SIZE]", "[0u8; medium::SECTOR]", "[0u8; 2 * 256]", "[[0u8; 64]; 8]", "&[0; 512]", "&[ZERO; 512]"],
+    1: ["let zero = [0u8; 512];", "[0u32; 128]", "[0; 64]", "[0u8; SIZE]", "[0u8; medium::SECTOR]", "[0u8; 2 * 256]", "[[0u8; 64]; 8]", "&[0; 512]", "&[ZERO; 512]", "const TABLE: [u32; 256] = [1, 2];"],
     2: ["let sector: [u8; 512] = *lent;", "fn image() -> [u8; 0x200] { [0; 512] }"],
     0: ["sector: &mut [u8; 512]", "sector: &[u8]", "[0u32; 24]", "[Header; 2]", "[head, head]", "&volume[a..a + 512]", "// as [0u8; 512]"],
 }  # fmt: skip

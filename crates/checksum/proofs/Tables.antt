@@ -1,5 +1,6 @@
 -- 02, S-10: the 16 entries and the 256 agree, for all bytes and all starting states. Each table follows the rule by one computed test; from there one
--- argument over a table of any size serves both, and no byte is a case of its own. Assumes nothing.
+-- argument over a table of any size serves both, and no byte is a case of its own. The code's loop needs one further test, of the low halves of the 16.
+-- Assumes nothing.
 use mathlib.Core.Path.{_≡_, refl, sym, ap, _∙_}
 use mathlib.Core.List.{List}
 use Prim.Native.Nat.{ℕ, _*_, _/_, _%_, _^_, _<_}
@@ -46,16 +47,16 @@ halves-is c b h =
     ∙ sym (steps-parts 4 4 c b)
 
 pub sixteen : Sixteen
-sixteen = record { rule16 = rule16; rule256 = rule256; agree = λ c b h. halves-is c b h ∙ sym (byte-is c b h) }
+sixteen = record { rule16 = rule16; rule256 = rule256; agree = λ c b h. halves-is c b h ∙ sym (byte-is c b h); sum = halves-is }
 
 -- ---- the loop's byte
 
 -- the low half of an entry is that of 4 times its number
-low-half : (k : ℕ) → k < 2 ^ 4 → getD table16 k 0 % 2 ^ 4 ≡ k * 4 % 2 ^ 4
+pub low-half : (k : ℕ) → k < 2 ^ 4 → getD table16 k 0 % 2 ^ 4 ≡ k * 4 % 2 ^ 4
 unfolding table16
 low-half k h = eqb→eq (getD table16 k 0 % 2 ^ 4) (k * 4 % 2 ^ 4) (at (λ (i e : ℕ). eqb (e % 2 ^ 4) (i * 4 % 2 ^ 4)) table16 tt k h)
 
--- so the number of the second entry is known without the first
+-- so the number of the second entry is known without the first; `x * 4 % 2 ^ 32` is the code's `x << 2`
 second : (x : ℕ) → bitXor (x / 2 ^ 4) (getD table16 (x % 2 ^ 4) 0) % 2 ^ 4 ≡ bitXor (x / 2 ^ 4) (x * 4 % 2 ^ 32) % 2 ^ 4
 second x =
     let low : getD table16 (x % 2 ^ 4) 0 % 2 ^ 4 ≡ x * 4 % 2 ^ 32 % 2 ^ 4 = low-half (x % 2 ^ 4) (mod-lt x (pow-pos 4)) ∙ omega arith in

@@ -1,12 +1,12 @@
 -- 02, S-10: "The boot block is to share our checksum and has its table as 16 entries, two steps a byte. Replace the 256-entry table in every build; 01's
 -- rule is then proved over the 16, and the 256 stay as a definition. For all bytes and all starting states the two agree, shown by one argument over the
--- table." One statement has this; proofs/Tables proves it. Assumes nothing.
+-- table." What of this is a statement is `Sixteen`; proofs/Tables proves it. Assumes nothing.
 use Prim.Native.Nat.{ℕ, _/_, _%_, _^_, _<_}
 use mathlib.Core.Path.{_≡_}
 use mathlib.Core.List.{List, [], _∷_}
 use lib.Bits.{bitXor}
 use lib.ListN.{length, getD}
-use Rattle.checksum.specs.Crc.{bitSteps}
+use Rattle.checksum.specs.Crc.{bitSteps, byteStep}
 
 -- 01's table, an entry for each byte
 unfoldable pub table256 : List ℕ
@@ -44,7 +44,7 @@ table256 =
     ∷ 0xbdbd_f21c ∷ 0xcaba_c28a ∷ 0x53b3_9330 ∷ 0x24b4_a3a6 ∷ 0xbad0_3605 ∷ 0xcdd7_0693 ∷ 0x54de_5729 ∷ 0x23d9_67bf
     ∷ 0xb366_7a2e ∷ 0xc461_4ab8 ∷ 0x5d68_1b02 ∷ 0x2a6f_2b94 ∷ 0xb40b_be37 ∷ 0xc30c_8ea1 ∷ 0x5a05_df1b ∷ 0x2d02_ef8d ∷ []
 
--- the boot block's, an entry for each half of a byte
+-- the boot block's, an entry for each value of half a byte
 unfoldable pub table16 : List ℕ
 table16 =
     0x0000_0000 ∷ 0x1db7_1064 ∷ 0x3b6e_20c8 ∷ 0x26d9_30ac ∷ 0x76dc_4190 ∷ 0x6b6b_51f4 ∷ 0x4db2_6158 ∷ 0x5005_713c
@@ -55,7 +55,7 @@ pub record Rule (bits : ℕ) (table : List ℕ) : Type 0 where
   pub size : length table ≡ 2 ^ bits
   pub entry : (i : ℕ) → i < 2 ^ bits → getD table i 0 ≡ bitSteps bits i
 
--- a step by a table: so many new bits go into the low bits of c, what is above them moves down, and their entry is added
+-- a step by a table: so many new bits go into the low bits of c; these go out, what is above them moves down, and their entry is added
 unfoldable pub stepBy : ℕ → List ℕ → ℕ → ℕ → ℕ
 stepBy bits table c new = bitXor (c / 2 ^ bits) (getD table (bitXor c new % 2 ^ bits) 0)
 
@@ -67,8 +67,9 @@ byByte c b = stepBy 8 table256 c b
 unfoldable pub byHalves : ℕ → ℕ → ℕ
 byHalves c b = stepBy 4 table16 (stepBy 4 table16 c (b % 2 ^ 4)) (b / 2 ^ 4)
 
--- both tables follow the rule, and they agree for all bytes and all starting states, those of more than 32 bits too
+-- both tables follow the rule; for all bytes and all starting states, those of more than 32 bits too, they agree, and make what the checksum's byte makes
 pub record Sixteen : Type 0 where
   pub rule16 : Rule 4 table16
   pub rule256 : Rule 8 table256
   pub agree : (c b : ℕ) → b < 2 ^ 8 → byHalves c b ≡ byByte c b
+  pub sum : (c b : ℕ) → b < 2 ^ 8 → byHalves c b ≡ byteStep c b

@@ -1,27 +1,31 @@
 -- 02, S-10: the 16 entries and the 256 agree, for all bytes and all starting states. Each table follows the rule by one computed test; from there one
 -- argument over a table of any size serves both, and no byte is a case of its own. The code's loop needs one further test, of the low halves of the 16.
 -- Assumes nothing.
-use mathlib.Core.Path.{_≡_, refl, sym, ap, _∙_}
+use mathlib.Core.Path.{_≡_, refl, sym, ap, subst, _∙_}
 use mathlib.Core.List.{List}
 use Prim.Native.Nat.{ℕ, _*_, _/_, _%_, _^_, _<_}
 use native.Mathlib.Omega.{arith}
 use native.Mathlib.Nat.{mod-lt, div-eq-of-lt}
 use lib.Pow.{pow-pos}
-use lib.Dec.{eqb, eqb→eq}
+use lib.Dec.{T, eqb, eqb→eq}
 use lib.Bits.{bitXor, xor-shr, xor-mod, xor-zero-r}
-use lib.ListN.{getD}
+use lib.ListN.{length, getD}
 use Rattle.checksum.specs.Crc.{bitSteps, bitStep, byteStep, added}
 use Rattle.checksum.specs.Tables.{table256, table16, Rule, stepBy, byByte, byHalves, Sixteen}
-use Rattle.checksum.proofs.Table.{rule, at}
+use Rattle.checksum.proofs.Table.{every, at, agrees, rule}
 use Rattle.checksum.proofs.Steps.{steps-split, steps-add, steps-parts}
+
+-- the rule of a table, by one test of all its entries
+pub follows : (bits : ℕ) (table : List ℕ) → length table ≡ 2 ^ bits → T (every (agrees (bitSteps bits)) 0 table) → Rule bits table
+follows bits table size t = record { size = size; entry = λ i h. rule (bitSteps bits) table i t (subst (λ (n : ℕ). i < n) (sym size) h) }
 
 rule16 : Rule 4 table16
 unfolding table16 bitSteps bitStep added
-rule16 = record { size = refl; entry = λ i h. rule (bitSteps 4) table16 i tt h }
+rule16 = follows 4 table16 refl tt
 
 rule256 : Rule 8 table256
 unfolding table256 bitSteps bitStep added
-rule256 = record { size = refl; entry = λ i h. rule (bitSteps 8) table256 i tt h }
+rule256 = follows 8 table256 refl tt
 
 -- the argument: the low bits of a word go out by their entry
 pub by-entry : (bits : ℕ) (table : List ℕ) → Rule bits table → (x : ℕ) → bitXor (x / 2 ^ bits) (getD table (x % 2 ^ bits) 0) ≡ bitSteps bits x

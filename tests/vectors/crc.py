@@ -19,3 +19,8 @@ for byte in range(256):
 for length in range(1, 65):
     show(zlib.crc32(PATTERN[:length]))
 show(zlib.crc32(PATTERN))
+for block in range(1, 9):
+    for length in range(504 * block - 8, 504 * block + 9):
+        show(zlib.crc32(PATTERN[:length]))
+for first in range(1, 65):
+    show(zlib.crc32(PATTERN[first:], zlib.crc32(PATTERN[:first])))

@@ -1,18 +1,17 @@
 -- 02, S-10: the 16 entries and the 256 agree, for all bytes and all starting states. Each table follows the rule by one computed test; from there one
--- argument over a table of any size serves both, and no byte is a case of its own. The code's loop needs one further test, of the low halves of the 16.
--- Assumes nothing.
+-- argument over a table of any size serves both, and no byte is a case of its own. Assumes nothing.
 use mathlib.Core.Path.{_≡_, refl, sym, ap, subst, _∙_}
 use mathlib.Core.List.{List}
-use Prim.Native.Nat.{ℕ, _*_, _/_, _%_, _^_, _<_}
+use Prim.Native.Nat.{ℕ, _/_, _%_, _^_, _<_}
 use native.Mathlib.Omega.{arith}
 use native.Mathlib.Nat.{mod-lt, div-eq-of-lt}
 use lib.Pow.{pow-pos}
-use lib.Dec.{T, eqb, eqb→eq}
-use lib.Bits.{bitXor, xor-shr, xor-mod, xor-zero-r}
+use lib.Dec.{T}
+use lib.Bits.{bitXor, xor-shr, xor-zero-r}
 use lib.ListN.{length, getD}
 use Rattle.checksum.specs.Crc.{bitSteps, bitStep, byteStep, added}
 use Rattle.checksum.specs.Tables.{table256, table16, Rule, stepBy, byByte, byHalves, Sixteen}
-use Rattle.checksum.proofs.Table.{every, at, agrees, rule}
+use Rattle.checksum.proofs.Table.{every, agrees, rule}
 use Rattle.checksum.proofs.Steps.{steps-split, steps-add, steps-parts}
 
 -- the rule of a table, by one test of all its entries
@@ -53,25 +52,10 @@ halves-is c b h =
 pub sixteen : Sixteen
 sixteen = record { rule16 = rule16; rule256 = rule256; agree = λ c b h. halves-is c b h ∙ sym (byte-is c b h); sum = halves-is }
 
--- ---- the loop's byte
-
--- the low half of an entry is that of 4 times its number
-pub low-half : (k : ℕ) → k < 2 ^ 4 → getD table16 k 0 % 2 ^ 4 ≡ k * 4 % 2 ^ 4
-unfolding table16
-low-half k h = eqb→eq (getD table16 k 0 % 2 ^ 4) (k * 4 % 2 ^ 4) (at (λ (i e : ℕ). eqb (e % 2 ^ 4) (i * 4 % 2 ^ 4)) table16 tt k h)
-
--- so the number of the second entry is known without the first; `x * 4 % 2 ^ 32` is the code's `x << 2`
-second : (x : ℕ) → bitXor (x / 2 ^ 4) (getD table16 (x % 2 ^ 4) 0) % 2 ^ 4 ≡ bitXor (x / 2 ^ 4) (x * 4 % 2 ^ 32) % 2 ^ 4
-second x =
-    let low : getD table16 (x % 2 ^ 4) 0 % 2 ^ 4 ≡ x * 4 % 2 ^ 32 % 2 ^ 4 = low-half (x % 2 ^ 4) (mod-lt x (pow-pos 4)) ∙ omega arith in
-    xor-mod (x / 2 ^ 4) (getD table16 (x % 2 ^ 4) 0) 4 ∙ ap (bitXor (x / 2 ^ 4 % 2 ^ 4)) low ∙ sym (xor-mod (x / 2 ^ 4) (x * 4 % 2 ^ 32) 4)
-
--- both halves of the low byte go out
-pub both-halves : (x : ℕ)
-    → bitXor (bitXor (x / 2 ^ 4) (getD table16 (x % 2 ^ 4) 0) / 2 ^ 4) (getD table16 (bitXor (x / 2 ^ 4) (x * 4 % 2 ^ 32) % 2 ^ 4) 0) ≡ bitSteps 8 x
-both-halves x =
-    let y : ℕ = bitXor (x / 2 ^ 4) (getD table16 (x % 2 ^ 4) 0) in
-    ap (λ (k : ℕ). bitXor (y / 2 ^ 4) (getD table16 k 0)) (sym (second x))
-    ∙ by-entry 4 table16 rule16 y
-    ∙ ap (bitSteps 4) (by-entry 4 table16 rule16 x)
-    ∙ sym (steps-add 4 4 x)
+-- the code's byte, by a table that holds the 16: it goes in whole, then both halves of the low byte go out
+pub both-halves : (t : List ℕ) (c w b : ℕ) → t ≡ table16 → w ≡ b
+    → (let x : ℕ = bitXor c w in let y : ℕ = bitXor (x / 2 ^ 4) (getD t (x % 2 ^ 4) 0) in bitXor (y / 2 ^ 4) (getD t (y % 2 ^ 4) 0)) ≡ byteStep c b
+unfolding byteStep
+both-halves t c w b et ew =
+    let x : ℕ = bitXor c b in
+    rw (et, ew) (by-entry 4 table16 rule16 (bitXor (x / 2 ^ 4) (getD table16 (x % 2 ^ 4) 0)) ∙ ap (bitSteps 4) (by-entry 4 table16 rule16 x) ∙ sym (steps-add 4 4 x))

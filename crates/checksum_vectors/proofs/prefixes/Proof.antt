@@ -1,13 +1,17 @@
-use Prim.Native.Nat.{_≤_, _-_}
+use mathlib.Core.Path.{_≡_}
+use Prim.Native.Nat.{_≤_, _+_, _-_}
 use borrow.Author.Needs.{needs}
 use Rattle.checksum_vectors.proofs.prefixes.Statement.{statement}
 use Rattle.checksum_vectors.proofs.prefixes.Tie as tie
 
 abbrev Inv-loop : tie.InvT-loop
-Inv-loop pattern n₀ n = n ≤ 65
+Inv-loop pattern from to n₀ n-end n = (n-end ≡ to + 1) × (n ≤ n-end)
 
 abbrev μ-loop : tie.MeasureT-loop
-μ-loop pattern n₀ n = 65 - n
+μ-loop pattern from to n₀ n-end n = n-end - n
+
+add-n-end : tie.Need-add-n-end Inv-loop μ-loop
+add-n-end c = search needs
 
 loop-holds : tie.Need-loop-holds Inv-loop μ-loop
 loop-holds c = search needs
@@ -45,6 +49,7 @@ prefixes-spec =
     (tie.spec
     Inv-loop
     μ-loop
+    add-n-end
     loop-holds
     sub-crc32
     part-crc32-start

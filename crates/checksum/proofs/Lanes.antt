@@ -1,6 +1,6 @@
 -- Why the sums of lanes, put together, are the sum of all the bytes: what stands before a lane only moves over it, and the lane adds what it makes of 0
 -- (Steps `from-split`). Assumes nothing.
-use mathlib.Core.Path.{_≡_, refl, sym, ap, ap₂, _∙_}
+use mathlib.Core.Path.{_≡_, sym, ap, ap₂, _∙_}
 use mathlib.Core.List.{List, [], _∷_}
 use Prim.Native.Nat.{ℕ, suc, _+_, _*_, _<_, _≤_}
 use native.Mathlib.Numerals.{add-one}
@@ -14,14 +14,14 @@ use Rattle.checksum.specs.Lanes.{laneBits, joined}
 use Rattle.checksum.proofs.Xor.{xor-assoc}
 use Rattle.checksum.proofs.Steps.{steps-xor, steps-add, from-append, from-split}
 
--- one byte of a lane that starts at o: the byte at j
-pub lane-turn : (c o i j s r : ℕ) (l : List ℕ) → j ≡ o + i → j < length l → s ≡ crcFrom c (take i (drop o l)) → r ≡ byteStep s (getD l j 0)
+-- one byte more of the bytes from o on: the byte at `at`
+pub byte-after : (c o i at s r : ℕ) (l : List ℕ) → at ≡ o + i → at < length l → s ≡ crcFrom c (take i (drop o l)) → r ≡ byteStep s (getD l at 0)
     → r ≡ crcFrom c (take (i + 1) (drop o l))
 unfolding crcFrom
-lane-turn c o i j s r l ej h es er =
+byte-after c o i at s r l ea h es er =
     let p : List ℕ = drop o l in
     let inside : i < length p = simp length-drop (omega arith) in
-    let here : getD l j 0 ≡ getD p i 0 = ap (λ (k : ℕ). getD l k 0) ej ∙ sym (getD-drop o l i 0) in
+    let here : getD l at 0 ≡ getD p i 0 = ap (λ (k : ℕ). getD l k 0) ea ∙ sym (getD-drop o l i 0) in
     er
     ∙ ap₂ byteStep es here
     ∙ sym (from-append c (take i p) (getD p i 0 ∷ []))

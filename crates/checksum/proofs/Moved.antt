@@ -11,7 +11,7 @@ use Rattle.checksum.specs.Lanes.{laneBits}
 use Rattle.checksum.proofs.Xor.{by-digit, xor-assoc}
 use Rattle.checksum.proofs.Steps.{steps-xor, steps-zero, steps-shifted, steps-add, steps-lt}
 
--- a bit times a word is the word or nothing
+-- a bit times the polynomial is what a low bit adds; times any word, it is that word or nothing
 pub times-poly : (b : ℕ) → b < 2 → b * poly ≡ added b
 unfolding added
 times-poly = by-digit (λ (b : ℕ). b * poly ≡ added b) refl refl

@@ -5,13 +5,17 @@ use lib.Bits.{bitXor}
 use lib.ListN.{length, getD}
 use Rattle.checksum.specs.Crc.{bitSteps}
 
--- the bits of a lane, which has 63 bytes
+-- the bytes of a lane
+abbrev pub lane : ℕ
+lane = 63
+
+-- its bits
 abbrev pub laneBits : ℕ
-laneBits = 8 * 63
+laneBits = 8 * lane
 
 -- byte i of lane j
 abbrev pub laneByte : List ℕ → ℕ → ℕ → ℕ
-laneByte part i j = getD part (i + 63 * j) 0
+laneByte part i j = getD part (i + lane * j) 0
 
 -- each lane's sum moves over the bits of those after it
 unfoldable pub joined : List ℕ → ℕ

@@ -23,6 +23,7 @@ STARTS = [
     ("calls", {"store": None, "append": ["append", "sync", "room"], "reader": ["next", "seek", "record"], "handles": ["generation", "store_id", "chunks", "chunk_sectors"]}, []),
     ("demand 3", {}, [("crates/power/specs/Claim.antt", "Demand3")]),
     ("old or new", {}, [("crates/power/specs/OldOrNew.antt", n) for n in ("AfterFormat", "ValidMounts")]),
+    ("map", {}, [("crates/power/specs/Map.antt", "MapHolds")]),
     ("blank", {"record": ["judge"]}, [("crates/record/specs/Edges.antt", "Edges")]
         + [("crates/reader/specs/Earlier.antt", n) for n in ("nextEarlier", "belowEarlier", "nextForgot", "belowForgot")]),
     ("dots", {}, [("crates/store/specs/Dots.antt", "Dots"), ("crates/names/specs/Edges.antt", "Edges")]),

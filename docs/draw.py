@@ -255,7 +255,7 @@ BANDS = [
     ("a copy anew", ["format", "commit", "plan"]),
     ("layers", ["header", "directory", "table", "record"]),
     ("a store value, names", ["handles", "marks", "names", "words"]),
-    ("ground", ["seal", "medium", "walk", "mix", "checksum", "decimal", "runs", "le"]),
+    ("ground", ["seal", "medium", "walk", "mix", "checksum", "decimal", "freemap", "runs", "le"]),
 ]
 LAWS = {"hatch", "power", "writes", "reading", "folds", "views", "layout", "safe"}
 FROM_KIT = {"io", "libc"}

@@ -29,7 +29,7 @@ FAULTS = [
     ("record", "record_without_number", "a record passes without its number", "(le::get_u32(sector, 16) == number)", "(le::get_u32(sector, 16) <= 0xffff_ffff)"),
     ("commit", "other_trusted", "the other copy is trusted whatever store it is of", "    known & (theirs == crc)", "    (theirs == crc)"),
     ("commit", "stale_goes_on", "a store value that is not current is not refused", "    if !is_current(found, store) {", "    if is_current(found, store) & false {"),
-    ("commit", "old_copy_kept", "the store handed back names the old copy", "store: Store { copy, head, writer },", "store: Store { copy: store.copy, head, writer },"),
+    ("commit", "old_copy_kept", "the store handed back names the old copy", "finished(wm, store, copy, head, free)", "finished(wm, store, store.copy, head, free)"),
     ("commit", "last_generation_wraps", "the last generation is not refused", "if own.generation == 0xffff_ffff_ffff_ffff {", "if own.generation == 0xffff_ffff_ffff_fffe {"),
     ("plan", "same_generation", "a commit does not raise the generation", "after.generation = head.generation + 1;", "after.generation = head.generation;"),
     ("plan", "same_id_again", "create does not advance the next id", "} => id + 1,", "} => id,"),

@@ -212,26 +212,26 @@ impl Side for Rust {
 // The order of the numbers is that of crates/bridge/src/lib.rt and crates/bridge_write/src/lib.rt.
 #[link(name = "bridge", kind = "static")]
 unsafe extern "C" {
-    fn port_mount(volume: *const u8, length: usize, medium: &mut [u64; 4], store: &mut [u64; 10], crcs: &mut [u32; 24]) -> u32;
+    fn port_mount(volume: *const u8, length: usize, medium: &mut [u64; 4], store: &mut [u64; 43], crcs: &mut [u32; 24]) -> u32;
     fn port_find(
-        volume: *const u8, length: usize, medium: &mut [u64; 4], store: &[u64; 10], crcs: &[u32; 24],
+        volume: *const u8, length: usize, medium: &mut [u64; 4], store: &[u64; 43], crcs: &[u32; 24],
         name: *const u8, name_length: usize, answer: &mut [u64; 3],
     ) -> u32;
     fn port_list(
-        volume: *const u8, length: usize, medium: &mut [u64; 4], store: &[u64; 10], crcs: &[u32; 24],
+        volume: *const u8, length: usize, medium: &mut [u64; 4], store: &[u64; 43], crcs: &[u32; 24],
         dir: *const u8, dir_length: usize, counts: *mut u16, counts_length: usize, rows: *mut u8, rows_length: usize,
         answer: &mut [u64; 3],
     ) -> u32;
     fn port_reader(
-        volume: *const u8, length: usize, medium: &mut [u64; 4], store: &[u64; 10], crcs: &[u32; 24],
+        volume: *const u8, length: usize, medium: &mut [u64; 4], store: &[u64; 43], crcs: &[u32; 24],
         name: *const u8, name_length: usize, reader: &mut [u64; 10],
     ) -> u32;
     fn port_next(
-        volume: *const u8, length: usize, medium: &mut [u64; 4], store: &[u64; 10], crcs: &[u32; 24],
+        volume: *const u8, length: usize, medium: &mut [u64; 4], store: &[u64; 43], crcs: &[u32; 24],
         reader: &mut [u64; 10], out: *mut u8, out_length: usize, answer: &mut [u64; 4],
     ) -> u32;
     fn port_seek(
-        volume: *const u8, length: usize, medium: &mut [u64; 4], store: &[u64; 10], crcs: &[u32; 24],
+        volume: *const u8, length: usize, medium: &mut [u64; 4], store: &[u64; 43], crcs: &[u32; 24],
         reader: &mut [u64; 10], record: u32,
     ) -> u32;
 }
@@ -240,27 +240,27 @@ unsafe extern "C" {
 unsafe extern "C" {
     fn port_format(
         volume: *mut u8, length: usize, medium: &mut [u64; 4], size: u32, seed: u64,
-        store: &mut [u64; 10], crcs: &mut [u32; 24],
+        store: &mut [u64; 43], crcs: &mut [u32; 24],
     ) -> u32;
     fn port_delete(
-        volume: *mut u8, length: usize, medium: &mut [u64; 4], store: &mut [u64; 10], crcs: &mut [u32; 24],
+        volume: *mut u8, length: usize, medium: &mut [u64; 4], store: &mut [u64; 43], crcs: &mut [u32; 24],
         name: *const u8, name_length: usize,
     ) -> u32;
     fn port_append(
-        volume: *mut u8, length: usize, medium: &mut [u64; 4], store: &mut [u64; 10], crcs: &mut [u32; 24],
+        volume: *mut u8, length: usize, medium: &mut [u64; 4], store: &mut [u64; 43], crcs: &mut [u32; 24],
         appender: &mut [u64; 10], buffer: &mut [u8; 486], dir: &mut [u8; 40], bytes: *const u8, bytes_length: usize,
     ) -> u32;
     fn port_sync(
-        volume: *mut u8, length: usize, medium: &mut [u64; 4], store: &mut [u64; 10], crcs: &mut [u32; 24],
+        volume: *mut u8, length: usize, medium: &mut [u64; 4], store: &mut [u64; 43], crcs: &mut [u32; 24],
         appender: &mut [u64; 10], buffer: &mut [u8; 486], dir: &mut [u8; 40],
     ) -> u32;
     fn port_create(
-        volume: *mut u8, length: usize, medium: &mut [u64; 4], store: &mut [u64; 10], crcs: &mut [u32; 24],
+        volume: *mut u8, length: usize, medium: &mut [u64; 4], store: &mut [u64; 43], crcs: &mut [u32; 24],
         name: *const u8, name_length: usize, rolls: u32, dir: *const u8, dir_length: usize,
         appender: &mut [u64; 10], buffer: &mut [u8; 486], over: &mut [u8; 40],
     ) -> u32;
     fn port_open_append(
-        volume: *const u8, length: usize, medium: &mut [u64; 4], store: &mut [u64; 10], crcs: &mut [u32; 24],
+        volume: *const u8, length: usize, medium: &mut [u64; 4], store: &mut [u64; 43], crcs: &mut [u32; 24],
         name: *const u8, name_length: usize, rolls: u32, dir: *const u8, dir_length: usize,
         appender: &mut [u64; 10], buffer: &mut [u8; 486], over: &mut [u8; 40],
     ) -> u32;
@@ -278,7 +278,7 @@ unsafe extern "C" {
 pub struct Port {
     volume: Vec<u8>,
     medium: [u64; 4],
-    store: [u64; 10],
+    store: [u64; 43],
     crcs: [u32; 24],
     appender: [u64; 10],
     buffer: [u8; 486],
@@ -322,7 +322,7 @@ impl Side for Port {
         Port {
             volume: vec![0xff; sectors * 512],
             medium: [u32::MAX.into(), u64::MAX, 7, 0],
-            store: [0; 10],
+            store: [0; 43],
             crcs: [0; 24],
             appender: [0; 10],
             buffer: [0; 486],
@@ -355,7 +355,7 @@ impl Side for Port {
     }
     #[inline(never)]
     fn mount_of(&mut self, sectors: usize) -> u32 {
-        let (mut store, mut crcs) = ([0; 10], [0; 24]);
+        let (mut store, mut crcs) = ([0; 43], [0; 24]);
         unsafe { port_mount(self.volume.as_ptr(), sectors * 512, &mut self.medium, &mut store, &mut crcs) }
     }
     #[inline(never)]

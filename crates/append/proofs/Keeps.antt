@@ -20,8 +20,8 @@ use Rattle.medium.proofs.Frame.{kept-rest, write-spends, write-kept}
 use Rattle.handles.specs.declared.Store.{Store}
 use Rattle.handles.specs.Handles.{isOpen, openId}
 use Rattle.handles.proofs.Laws.{Held, store-facts}
-use Rattle.table.specs.Table.{freeOf}
-use Rattle.table.proofs.Nearest.{free-range}
+use Rattle.table.specs.Free.{freeOf}
+use Rattle.table.proofs.Mapped.{free-range}
 use Rattle.table.proofs.Decides.{onPick-keeps}
 use Rattle.record.specs.Record.{numberAt, dataAt, recordOf, writeRecordOf}
 use Rattle.record.proofs.Laws.{data-inside}
@@ -88,7 +88,7 @@ module _ (vol : List ℕ) (m : Medium) (st : Store) (a : Appender) (partial : Bo
       (λ _. pick-keeps (Goes vol m st) (g .ans .any) _ _
       (onPick-keeps (Goes vol m st) (freeOf (g .vol) (g .ans .medium) (g .ans .store)) _ _ _ no (no Corrupt)
       (λ c q. goes-more (linkOut (g .vol) (g .ans .medium) (g .ans .store) a partial records c) k
-      (link-goes (g .vol) (g .ans .medium) (g .ans .store) a partial records (k .good) f near c (free-range (g .vol) (g .ans .medium) (g .ans .store) q))))
+      (link-goes (g .vol) (g .ans .medium) (g .ans .store) a partial records (k .good) f near c (free-range (g .vol) (g .ans .medium) (g .ans .store) (store-facts _ _ (k .good .ok) .map) q))))
       (no Full))
       (λ e _. no e)
 
@@ -101,7 +101,7 @@ module _ (vol : List ℕ) (m : Medium) (st : Store) (a : Appender) (partial : Bo
       let near : a .position < 32767 = leb-false _ _ t in
       onPick-keeps (Goes vol m st) (freeOf vol m st) _ _ _ no
       (pick-keeps (Goes vol m st) (a .rolls) _ _ (rolled-goes near) (no Full))
-      (λ c q. link-goes vol m st a partial records good fit near c (free-range vol m st q)))
+      (λ c q. link-goes vol m st a partial records good fit near c (free-range vol m st (store-facts _ _ (good .ok) .map) q)))
 
 -- ---- a record
 

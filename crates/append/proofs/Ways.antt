@@ -18,7 +18,8 @@ use Rattle.handles.specs.declared.Store.{Store}
 use Rattle.handles.specs.Handles.{isOpen, openId}
 use Rattle.table.specs.declared.Pick.{Pick}
 use Rattle.table.specs.declared.Pick.the-variants as free
-use Rattle.table.specs.Table.{freeOf, onPick}
+use Rattle.table.specs.Table.{onPick}
+use Rattle.table.specs.Free.{freeOf}
 use Rattle.record.specs.Record.{numberAt, writeRecordOf}
 use Rattle.plan.specs.declared.Committed.{Committed}
 use Rattle.plan.specs.declared.Edit.the-variants.{Extend}

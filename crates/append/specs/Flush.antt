@@ -14,7 +14,8 @@ use Rattle.medium.specs.Refusal.{onDone}
 use Rattle.medium.specs.Sector.{WriteOut}
 use Rattle.handles.specs.declared.Store.{Store}
 use Rattle.handles.specs.Handles.{isOpen, openId}
-use Rattle.table.specs.Table.{freeOf, onPick}
+use Rattle.table.specs.Table.{onPick}
+use Rattle.table.specs.Free.{freeOf}
 use Rattle.record.specs.Record.{numberAt, writeRecordOf}
 use Rattle.plan.specs.declared.Edit.the-variants.{Extend}
 use Rattle.plan.specs.Copy.{Skipped, Step, rolledOver, extended, recorded, Out, stepsOf}

@@ -1,7 +1,7 @@
 -- What each call gives back in numbers: 0 or the refusal, then the handles, buffers and answer, then the medium record. Assumes nothing.
 use Prim.Native.Nat.{ℕ}
 use mathlib.Core.List.{List, [], _∷_}
-use Rattle.store.specs.Reading.{StoreCall, mountCall, FindCall, findCall, ListCall, listCall, ReaderCall, readerCall}
+use Rattle.store.specs.Reading.{StoreCall, mountCall, CountCall, freeCountCall, FindCall, findCall, ListCall, listCall, ReaderCall, readerCall}
 use Rattle.reader.specs.Calls.{NextCall, nextCall, SeekCall, seekCall, recordCall}
 use Rattle.bridge.specs.Numbers.{codeOf, mediumOf, mediumWords, storeOf, storeWords, readerOf, readerWords, foundWords, itemWords, numberWords}
 
@@ -10,6 +10,12 @@ mountWords r = (codeOf (r .answer), storeWords (r .store), r .store .head .crcs,
 
 unfoldable pub mountAt : List ℕ → List ℕ → ℕ × List ℕ × List ℕ × List ℕ
 mountAt vol m = mountWords (mountCall vol (mediumOf m))
+
+abbrev pub countWords : CountCall → ℕ × List ℕ × List ℕ
+countWords r = (codeOf (r .answer), numberWords (r .answer), mediumWords (r .medium))
+
+unfoldable pub freeCountAt : List ℕ → List ℕ → List ℕ → List ℕ → ℕ × List ℕ × List ℕ
+freeCountAt vol m st crcs = countWords (freeCountCall vol (mediumOf m) (storeOf st crcs))
 
 abbrev pub findWords : FindCall → ℕ × List ℕ × List ℕ
 findWords r = (codeOf (r .answer), foundWords (r .answer), mediumWords (r .medium))

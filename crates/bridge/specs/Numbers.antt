@@ -1,11 +1,14 @@
 -- The numbers in which answers, handles and the medium record cross to another language. Assumes nothing.
 use Prim.Native.Nat.{ℕ, _%_}
+use mathlib.Core.Bool.{Bool, true, false, not}
 use mathlib.Core.List.{List, [], _∷_}
 use lib.Dec.{eqb}
 use lib.ListN.{getD}
 use Rattle.le.specs.Choice.{pick}
+use Rattle.le.specs.Part.{part}
 use Rattle.medium.specs.declared.Medium.{Medium}
 use Rattle.medium.specs.Refusal.{Answer, ok, refused}
+use Rattle.freemap.specs.declared.FreeMap.{FreeMap}
 use Rattle.handles.specs.declared.Header.{Header}
 use Rattle.handles.specs.declared.Store.{Store}
 use Rattle.handles.specs.declared.Writer.{Writer}
@@ -45,17 +48,30 @@ headOf w crcs =
       crcs = crcs;
     }
 
-unfoldable pub storeOf : List ℕ → List ℕ → Store
-storeOf w crcs = record { copy = getD w 0 0; head = headOf w crcs; writer = writerOf (getD w 7 0) (getD w 8 0) (getD w 9 0) }
+-- S-3: the map of free chunks
+unfoldable pub mapIn : List ℕ → FreeMap
+mapIn w = record { fit = not (eqb (getD w 10 0) 0); words = part 11 32 w }
 
-abbrev pub writerWords : Writer → List ℕ
-writerWords Nobody = 0 ∷ 0 ∷ 0 ∷ []
-writerWords (Open token id) = 1 ∷ token ∷ id ∷ []
+unfoldable pub storeOf : List ℕ → List ℕ → Store
+storeOf w crcs =
+    record { copy = getD w 0 0; head = headOf w crcs; writer = writerOf (getD w 7 0) (getD w 8 0) (getD w 9 0); free = mapIn w }
+
+abbrev pub writerWords : Writer → List ℕ → List ℕ
+writerWords Nobody l = 0 ∷ 0 ∷ 0 ∷ l
+writerWords (Open token id) l = 1 ∷ token ∷ id ∷ l
+
+abbrev pub flagOf : Bool → ℕ
+flagOf true = 1
+flagOf false = 0
+
+-- the numbers before the words of the map, and those after them
+unfoldable pub rowWords : Store → List ℕ → List ℕ
+rowWords s l =
+    s .copy ∷ s .head .id ∷ s .head .generation ∷ s .head .«next_id» ∷ s .head .cursor ∷ s .head .chunks ∷ s .head .chunk
+    ∷ writerWords (s .writer) (flagOf (s .free .fit) ∷ l)
 
 unfoldable pub storeWords : Store → List ℕ
-storeWords s =
-    s .copy ∷ s .head .id ∷ s .head .generation ∷ s .head .«next_id» ∷ s .head .cursor ∷ s .head .chunks ∷ s .head .chunk
-    ∷ writerWords (s .writer)
+storeWords s = rowWords s (s .free .words)
 
 -- the slot and the id of a file that was found
 abbrev pub foundWords : Answer (ℕ × ℕ) → List ℕ

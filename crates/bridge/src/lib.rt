@@ -4,20 +4,21 @@
 // number for a field of 32 bits the low 32 count.
 //   medium: left, unreadable, entropy, token.
 //   store: copy, id, generation, next id, cursor, chunks, sectors per chunk, writer (0 nobody, else
-//     open), its token, its file id. The 24 checksums of its header cross beside it.
+//     open), its token, its file id, whether its map of free chunks is fit (0 no, else yes), the map's 32
+//     words. The 24 checksums of its header cross beside it.
 //   reader: store id, generation, slot, id, chunks, chunk, end (0 the file's last chunk, else
 //     known), the records there, position, index.
 pub mod numbers;
 
 ghost use mathlib.Core.Path.{_≡_};
-ghost use Rattle.bridge.specs.Calls.{mountAt, findAt, listAt, readerAt, nextAt, seekAt, recordAt};
+ghost use Rattle.bridge.specs.Calls.{mountAt, freeCountAt, findAt, listAt, readerAt, nextAt, seekAt, recordAt};
 
 // The store is all zeros where it is refused.
 #[no_mangle]
 pub extern "C" fn port_mount(
     volume: &[u8],
     medium: &mut [u64; 4],
-    store: &mut [u64; 10],
+    store: &mut [u64; 43],
     crcs: &mut [u32; 24],
 ) -> u32
     ensures { λ r. ⌜ (r, now (store .exit), now (crcs .exit), now (medium .exit)) ≡ mountAt (now (volume .entry)) (now (medium .entry)) ⌝ }
@@ -30,12 +31,34 @@ pub extern "C" fn port_mount(
     numbers::code(o)
 }
 
+// Answer: how many chunks are free (S-3).
+#[no_mangle]
+pub extern "C" fn port_free_count(
+    volume: &[u8],
+    medium: &mut [u64; 4],
+    store: &[u64; 43],
+    crcs: &[u32; 24],
+    answer: &mut [u64; 3],
+) -> u32
+    ensures { λ r. ⌜ (r, now (answer .exit), now (medium .exit))
+        ≡ freeCountAt (now (volume .entry)) (now (medium .entry)) (now (store .entry)) (now (crcs .entry)) ⌝ }
+{
+    let m = *medium;
+    let w = *store;
+    let c = *crcs;
+    let r = store::free_count(volume, numbers::medium_in(m), numbers::store_in(w, c));
+    *medium = numbers::medium_words(r.medium);
+    let n = r.count;
+    *answer = numbers::count_words(n);
+    numbers::count_code(n)
+}
+
 // Answer: the slot and the file id.
 #[no_mangle]
 pub extern "C" fn port_find(
     volume: &[u8],
     medium: &mut [u64; 4],
-    store: &[u64; 10],
+    store: &[u64; 43],
     crcs: &[u32; 24],
     name: &[u8],
     answer: &mut [u64; 3],
@@ -58,7 +81,7 @@ pub extern "C" fn port_find(
 pub extern "C" fn port_list(
     volume: &[u8],
     medium: &mut [u64; 4],
-    store: &[u64; 10],
+    store: &[u64; 43],
     crcs: &[u32; 24],
     dir: &[u8],
     counts: &mut [u16],
@@ -91,7 +114,7 @@ pub extern "C" fn port_list(
 pub extern "C" fn port_reader(
     volume: &[u8],
     medium: &mut [u64; 4],
-    store: &[u64; 10],
+    store: &[u64; 43],
     crcs: &[u32; 24],
     name: &[u8],
     reader: &mut [u64; 10],
@@ -114,7 +137,7 @@ pub extern "C" fn port_reader(
 pub extern "C" fn port_next(
     volume: &[u8],
     medium: &mut [u64; 4],
-    store: &[u64; 10],
+    store: &[u64; 43],
     crcs: &[u32; 24],
     reader: &mut [u64; 10],
     out: &mut [u8],
@@ -140,7 +163,7 @@ pub extern "C" fn port_next(
 pub extern "C" fn port_seek(
     volume: &[u8],
     medium: &mut [u64; 4],
-    store: &[u64; 10],
+    store: &[u64; 43],
     crcs: &[u32; 24],
     reader: &mut [u64; 10],
     record: u32,
@@ -168,7 +191,7 @@ pub extern "C" fn port_seek(
 // Answer: the number of the record that comes next.
 #[no_mangle]
 pub extern "C" fn port_record(
-    store: &[u64; 10],
+    store: &[u64; 43],
     crcs: &[u32; 24],
     reader: &[u64; 10],
     answer: &mut [u64; 3],

@@ -1,5 +1,6 @@
 // Handles, the medium record and answers as rows of numbers, and back.
 use directory::Found;
+use freemap::FreeMap;
 use handles::Header;
 use handles::Store;
 use handles::Writer;
@@ -9,12 +10,17 @@ use reader::End;
 use reader::Next;
 use reader::Numbered;
 use reader::Reader;
+use table::FreeCount;
 ghost use mathlib.Core.Path.{_≡_};
+ghost use mathlib.Core.List.{[]};
+ghost use Prim.Native.Nat.{_+_, _≤_};
+ghost use lib.ListN.{length};
+ghost use Rattle.le.specs.Part.{over};
 ghost use Rattle.medium.specs.Refusal.{outcomeOf};
-ghost use Rattle.store.specs.Reading.{foundAnswer};
+ghost use Rattle.store.specs.Reading.{countAnswer, foundAnswer};
 ghost use Rattle.reader.specs.Calls.{nextAnswer, numberedAnswer};
-ghost use Rattle.bridge.specs.Numbers.{codeOf, narrowOf, mediumOf, mediumWords, writerOf, storeOf, storeWords, endAt, readerOf};
-ghost use Rattle.bridge.specs.Numbers.{readerWords, foundWords, itemWords, numberWords};
+ghost use Rattle.bridge.specs.Numbers.{codeOf, narrowOf, mediumOf, mediumWords, writerOf, mapIn, storeOf, flagOf, rowWords, storeWords};
+ghost use Rattle.bridge.specs.Numbers.{endAt, readerOf, readerWords, foundWords, itemWords, numberWords};
 
 // The low 32 bits.
 pub fn narrow(x: u64) -> u32
@@ -52,7 +58,27 @@ fn writer_in(kind: u64, token: u64, id: u64) -> Writer
     }
 }
 
-pub fn store_in(w: [u64; 10], crcs: [u32; 24]) -> Store
+fn put_words(dst: &mut [u64], at: usize, src: &[u64])
+    requires { ⌜ at + length (now src) ≤ length (now dst) ⌝ }
+    ensures { λ _. ⌜ now (dst .exit) ≡ over at (now (src .entry)) (now (dst .entry)) ⌝ }
+{
+    for i in 0..src.len() {
+        dst[at + i] = src[i];
+    }
+}
+
+fn map_in(w: [u64; 43]) -> FreeMap
+    ensures { λ r. ⌜ r ≡ mapIn w ⌝ }
+{
+    let mut words = [0u64; 32];
+    put_words(&mut words, 0, &w[11..43]);
+    FreeMap {
+        fit: w[10] != 0,
+        words,
+    }
+}
+
+pub fn store_in(w: [u64; 43], crcs: [u32; 24]) -> Store
     ensures { λ r. ⌜ r ≡ storeOf w crcs ⌝ }
 {
     let head = Header {
@@ -65,17 +91,31 @@ pub fn store_in(w: [u64; 10], crcs: [u32; 24]) -> Store
         crcs,
     };
     let writer = writer_in(w[7], w[8], w[9]);
+    let free = map_in(w);
     Store {
         copy: w[0],
         head,
         writer,
+        free,
     }
 }
 
-pub fn store_words(s: Store) -> [u64; 10]
-    ensures { λ r. ⌜ r ≡ storeWords s ⌝ }
+pub fn flag(b: bool) -> u64
+    ensures { λ r. ⌜ r ≡ flagOf b ⌝ }
+{
+    if b {
+        return 1;
+    }
+    0
+}
+
+// The numbers before the words of the map.
+fn row(s: Store) -> [u64; 11]
+    ensures { λ r. ⌜ r ≡ rowWords s [] ⌝ }
 {
     let h = s.head;
+    let map = s.free;
+    let fit = flag(map.fit);
     let writer = s.writer;
     match writer {
         Writer::Nobody => [
@@ -89,6 +129,7 @@ pub fn store_words(s: Store) -> [u64; 10]
             0,
             0,
             0,
+            fit,
         ],
         Writer::Open { token, id } => [
             s.copy,
@@ -101,12 +142,25 @@ pub fn store_words(s: Store) -> [u64; 10]
             1,
             token as u64,
             id as u64,
+            fit,
         ],
     }
 }
 
+pub fn store_words(s: Store) -> [u64; 43]
+    ensures { λ r. ⌜ r ≡ storeWords s ⌝ }
+{
+    let first = row(s);
+    let map = s.free;
+    let words = map.words;
+    let mut w = [0u64; 43];
+    put_words(&mut w, 0, &first);
+    put_words(&mut w, 11, &words);
+    w
+}
+
 // A store over the row and the checksums that were lent for it.
-pub fn put_store(s: Store, store: &mut [u64; 10], crcs: &mut [u32; 24])
+pub fn put_store(s: Store, store: &mut [u64; 43], crcs: &mut [u32; 24])
     ensures { λ _. ⌜ (now (store .exit) ≡ storeWords s) × (now (crcs .exit) ≡ s .head .crcs) ⌝ }
 {
     let h = s.head;
@@ -122,6 +176,25 @@ pub fn code(o: Outcome) -> u32
     match o {
         Outcome::Done => 0,
         Outcome::No(e) => medium::number(e),
+    }
+}
+
+// 0, or the number of a refusal of `free_count`.
+pub fn count_code(n: FreeCount) -> u32
+    ensures { λ r. ⌜ r ≡ codeOf (countAnswer n) ⌝ }
+{
+    match n {
+        FreeCount::Refused(e) => medium::number(e),
+        FreeCount::Is(_) => 0,
+    }
+}
+
+pub fn count_words(n: FreeCount) -> [u64; 3]
+    ensures { λ r. ⌜ r ≡ numberWords (countAnswer n) ⌝ }
+{
+    match n {
+        FreeCount::Refused(_) => [0, 0, 0],
+        FreeCount::Is(x) => [x as u64, 0, 0],
     }
 }
 

@@ -6,8 +6,8 @@ use Rattle.reader.specs.declared.Upto.{Upto}
 use Rattle.reader.specs.Upto.{UptoCall, belowCall}
 use Rattle.points.specs.Set.{SetCall, setCall}
 use Rattle.points.specs.Reading.{PointCall, pointCall}
-use Rattle.bridge.specs.Numbers.{codeOf, narrowOf, mediumOf, mediumWords, storeOf, storeWords, readerOf, readerWords, itemWords}
-use Rattle.bridge_write.specs.Writing.{flagOf, appenderWords}
+use Rattle.bridge.specs.Numbers.{codeOf, narrowOf, mediumOf, mediumWords, storeOf, flagOf, storeWords, readerOf, readerWords, itemWords}
+use Rattle.bridge_write.specs.Writing.{appenderWords}
 
 -- ---- a point set: its number, and whether MARKS was opened, in one row
 

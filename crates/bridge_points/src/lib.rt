@@ -13,7 +13,7 @@ ghost use Rattle.bridge_points.specs.Points.{setAt, pointAt, belowAt};
 pub extern "C" fn port_set_point(
     volume: &mut [u8],
     medium: &mut [u64; 4],
-    store: &mut [u64; 10],
+    store: &mut [u64; 43],
     crcs: &mut [u32; 24],
     point: &[u8],
     name: &[u8],
@@ -48,7 +48,7 @@ pub extern "C" fn port_set_point(
     numbers::put_store(r.store, store, crcs);
     *medium = numbers::medium_words(r.medium);
     appenders::put_appender(r.appender, appender, buffer, over);
-    let opened = appenders::flag(r.opened);
+    let opened = numbers::flag(r.opened);
     *answer = [r.number as u64, opened, 0];
     let o = r.outcome;
     numbers::code(o)
@@ -59,7 +59,7 @@ pub extern "C" fn port_set_point(
 pub extern "C" fn port_read_point(
     volume: &[u8],
     medium: &mut [u64; 4],
-    store: &[u64; 10],
+    store: &[u64; 43],
     crcs: &[u32; 24],
     point: &[u8],
     reader: &mut [u64; 10],
@@ -88,7 +88,7 @@ pub extern "C" fn port_read_point(
 pub extern "C" fn port_upto_next(
     volume: &[u8],
     medium: &mut [u64; 4],
-    store: &[u64; 10],
+    store: &[u64; 43],
     crcs: &[u32; 24],
     reader: &mut [u64; 10],
     limit: &mut [u64; 1],

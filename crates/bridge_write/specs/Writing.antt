@@ -1,6 +1,6 @@
 -- The calls that write, in numbers: the volume, then as in bridge/Calls. Assumes nothing.
 use Prim.Native.Nat.{ℕ}
-use mathlib.Core.Bool.{Bool, true, false, not}
+use mathlib.Core.Bool.{not}
 use mathlib.Core.List.{List, [], _∷_}
 use lib.Dec.{eqb}
 use lib.ListN.{getD, length}
@@ -13,7 +13,7 @@ use Rattle.append.specs.declared.Tail.the-variants.{At, Reopened, Closed}
 use Rattle.append.specs.Calls.{AppTold, AppCall, appendCall, syncCall, roomCall}
 use Rattle.store.specs.Opening.{createCall, openCall}
 use Rattle.store.specs.Writing.{WriteCall, formatCall, deleteCall, Went, none, went, OldestCall, oldestCall}
-use Rattle.bridge.specs.Numbers.{codeOf, narrowOf, mediumOf, mediumWords, storeOf, storeWords, numberWords}
+use Rattle.bridge.specs.Numbers.{codeOf, narrowOf, mediumOf, mediumWords, storeOf, flagOf, storeWords, numberWords}
 
 -- ---- the appender
 
@@ -44,10 +44,6 @@ abbrev pub tailCount : Tail → ℕ
 tailCount (At n) = n
 tailCount (Reopened n) = n
 tailCount Closed = 0
-
-abbrev pub flagOf : Bool → ℕ
-flagOf true = 1
-flagOf false = 0
 
 unfoldable pub appenderWords : Appender → List ℕ
 appenderWords a =

@@ -3,6 +3,7 @@ use append::Appender;
 use append::Dir;
 use append::Room;
 use append::Tail;
+use bridge::numbers::flag;
 use bridge::numbers::narrow;
 use medium::Outcome;
 use remove::Gone;
@@ -13,7 +14,7 @@ ghost use Rattle.le.specs.Part.{part, over};
 ghost use Rattle.append.specs.Calls.{roomAnswer};
 ghost use Rattle.store.specs.Writing.{goneAnswer};
 ghost use Rattle.bridge.specs.Numbers.{codeOf, numberWords};
-ghost use Rattle.bridge_write.specs.Writing.{tailAt, appenderOf, tailKind, tailCount, flagOf, appenderWords, wentName, wentWords};
+ghost use Rattle.bridge_write.specs.Writing.{tailAt, appenderOf, tailKind, tailCount, appenderWords, wentName, wentWords};
 
 fn tail_in(kind: u64, count: u64) -> Tail
     ensures { λ r. ⌜ r ≡ tailAt kind count ⌝ }
@@ -68,15 +69,6 @@ fn tail_count(tail: Tail) -> u64
         Tail::Reopened(n) => n as u64,
         Tail::Closed => 0,
     }
-}
-
-pub fn flag(b: bool) -> u64
-    ensures { λ r. ⌜ r ≡ flagOf b ⌝ }
-{
-    if b {
-        return 1;
-    }
-    0
 }
 
 pub fn appender_words(a: Appender) -> [u64; 10]

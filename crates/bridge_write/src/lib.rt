@@ -15,7 +15,7 @@ pub extern "C" fn port_format(
     medium: &mut [u64; 4],
     size: u32,
     seed: u64,
-    store: &mut [u64; 10],
+    store: &mut [u64; 43],
     crcs: &mut [u32; 24],
 ) -> u32
     ensures { λ r. ⌜ (now (volume .exit), r, now (store .exit), now (crcs .exit), now (medium .exit))
@@ -33,7 +33,7 @@ pub extern "C" fn port_format(
 pub extern "C" fn port_delete(
     volume: &mut [u8],
     medium: &mut [u64; 4],
-    store: &mut [u64; 10],
+    store: &mut [u64; 43],
     crcs: &mut [u32; 24],
     name: &[u8],
 ) -> u32
@@ -55,7 +55,7 @@ pub extern "C" fn port_delete(
 pub extern "C" fn port_delete_oldest(
     volume: &mut [u8],
     medium: &mut [u64; 4],
-    store: &mut [u64; 10],
+    store: &mut [u64; 43],
     crcs: &mut [u32; 24],
     dir: &[u8],
     answer: &mut [u64; 3],
@@ -80,7 +80,7 @@ pub extern "C" fn port_delete_oldest(
 pub extern "C" fn port_append(
     volume: &mut [u8],
     medium: &mut [u64; 4],
-    store: &mut [u64; 10],
+    store: &mut [u64; 43],
     crcs: &mut [u32; 24],
     appender: &mut [u64; 10],
     buffer: &mut [u8; 486],
@@ -115,7 +115,7 @@ pub extern "C" fn port_append(
 pub extern "C" fn port_sync(
     volume: &mut [u8],
     medium: &mut [u64; 4],
-    store: &mut [u64; 10],
+    store: &mut [u64; 43],
     crcs: &mut [u32; 24],
     appender: &mut [u64; 10],
     buffer: &mut [u8; 486],

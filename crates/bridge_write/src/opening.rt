@@ -9,7 +9,7 @@ ghost use Rattle.bridge_write.specs.Writing.{createAt, openAt};
 pub extern "C" fn port_create(
     volume: &mut [u8],
     medium: &mut [u64; 4],
-    store: &mut [u64; 10],
+    store: &mut [u64; 43],
     crcs: &mut [u32; 24],
     name: &[u8],
     rolls: u32,
@@ -44,7 +44,7 @@ pub extern "C" fn port_create(
 pub extern "C" fn port_open_append(
     volume: &[u8],
     medium: &mut [u64; 4],
-    store: &mut [u64; 10],
+    store: &mut [u64; 43],
     crcs: &mut [u32; 24],
     name: &[u8],
     rolls: u32,

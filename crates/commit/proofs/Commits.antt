@@ -16,6 +16,7 @@ use Rattle.medium.specs.declared.Outcome.the-variants.{Done, No}
 use Rattle.medium.specs.declared.Written.{Written}
 use Rattle.medium.specs.Refusal.{onDone}
 use Rattle.medium.specs.Sector.{sectorsOf, writeOf}
+use Rattle.freemap.specs.declared.FreeMap.{FreeMap}
 use Rattle.handles.specs.declared.Header.{Header}
 use Rattle.handles.specs.declared.Store.{Store}
 use Rattle.handles.specs.Handles.{bodyOf, baseOf, storeOk}
@@ -25,7 +26,7 @@ use Rattle.header.specs.Copies.{currentOf}
 use Rattle.plan.specs.declared.Committed.{Committed}
 use Rattle.plan.specs.declared.Edit.{Edit}
 use Rattle.plan.specs.declared.BodyWritten.{BodyWritten}
-use Rattle.plan.specs.Copy.{skippedFrom, Plan, BodyOut, bodySectorOf, bodyFrom, Out, lastOf, copyOut}
+use Rattle.plan.specs.Copy.{skippedFrom, Plan, BodyOut, bodySectorOf, bodyFrom, Out, freeAfter, lastOf, copyOut}
 use Rattle.plan.proofs.Keeps.{Ready, body-stays}
 use Rattle.commit.specs.Commit.{isCurrent, commitPlan, commitOf}
 use Rattle.commit.proofs.Steps.{Gives, GivesW}
@@ -85,7 +86,7 @@ module _ (p : Plan) (vol : List ℕ) (m : Medium) {at : ℕ} {vz : List ℕ} {z 
     body-refused d = rw (← ha, ← (gz .0), ← (gz .1), dz, ← (gb .0), ← (gb .1), d) (refl, refl)
 
     module _ (db : b .outcome ≡ Done) {vw : List ℕ} {w : Written} (gw : GivesW vw w (writeOf vb (b .medium) (baseOf (p .copy)) (encodeOf (b .head)))) where
-      last : copyOut p vol m ≡ lastOf p (skippedFrom p vol m (bodyOf (p .head .chunks)) 0) vb (b .medium) (b .head)
+      last : copyOut p vol m ≡ lastOf p (freeAfter p vol) (skippedFrom p vol m (bodyOf (p .head .chunks)) 0) vb (b .medium) (b .head)
       unfolding copyOut onDone
       last = rw (← ha, ← (gz .0), ← (gz .1), dz, ← (gb .0), ← (gb .1), db)
 
@@ -93,10 +94,10 @@ module _ (p : Plan) (vol : List ℕ) (m : Medium) {at : ℕ} {vz : List ℕ} {z 
       unfolding lastOf onDone
       last-refused d = rw (last, ← (gw .0), ← (gw .1), d) (refl, refl)
 
-      pub made : w .outcome ≡ Done
-          → GivesC vw (record { outcome = Done; medium = w .medium; store = record { copy = p .copy; head = b .head; writer = p .store .writer } }) (copyOut p vol m)
+      pub made : {f : FreeMap} → f ≡ freeAfter p vol → w .outcome ≡ Done
+          → GivesC vw (record { outcome = Done; medium = w .medium; store = record { copy = p .copy; head = b .head; writer = p .store .writer; free = f } }) (copyOut p vol m)
       unfolding lastOf onDone
-      made d = rw (last, ← (gw .0), ← (gw .1), d) (refl, refl)
+      made e d = rw (e, last, ← (gw .0), ← (gw .1), d) (refl, refl)
 
 -- ---- before the first write
 

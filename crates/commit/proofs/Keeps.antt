@@ -21,14 +21,15 @@ use Rattle.medium.proofs.Frame.{restOf, kept-rest, spends-none}
 use Rattle.handles.specs.declared.Header.{Header}
 use Rattle.handles.specs.declared.Store.{Store}
 use Rattle.handles.specs.Handles.{saneOf, storeOk}
-use Rattle.handles.proofs.Laws.{base-most, Sane, Held, store-facts}
+use Rattle.handles.proofs.Laws.{base-most, Sane, Held, store-facts, store-ok}
 use Rattle.header.specs.declared.answers.Current.{Current}
 use Rattle.header.specs.Copies.{currentOf}
 use Rattle.header.specs.Header.{withCrcs}
 use Rattle.plan.specs.declared.Edit.{Edit}
 use Rattle.plan.specs.declared.Edit.the-variants.{Format, Create, Extend, Remove}
 use Rattle.plan.specs.Edit.{nextAfter, cursorAfter, headAfter}
-use Rattle.plan.specs.Copy.{Out}
+use Rattle.plan.specs.Copy.{Out, mapAfter}
+use Rattle.plan.proofs.Maps.{map-after-ok}
 use Rattle.plan.proofs.Whole.{Copied, copy-copied}
 use Rattle.commit.specs.Commit.{isCurrent, commitPlan, commitOf}
 
@@ -78,10 +79,6 @@ sane-after e h sectors crcs s =
       room = s .room;
     })
 
-ok-from : (st : Store) (sectors : ℕ) → st .copy < 2 → saneOf (st .head) sectors ≡ true → storeOk st sectors ≡ true
-unfolding storeOk
-ok-from st sectors c s = rw (lt-ltb _ _ c) s
-
 -- ---- what a commit keeps
 
 pub record Kept (edit : Edit) (vol : List ℕ) (m : Medium) (st : Store) (o : Out) : Type 0 where
@@ -96,6 +93,7 @@ pub record Kept (edit : Edit) (vol : List ℕ) (m : Medium) (st : Store) (o : Ou
   pub count : length (o .ans .store .head .crcs) ≡ 24
   pub writer : o .ans .store .writer ≡ st .writer
   pub refused : (e : Error) → o .ans .outcome ≡ No e → o .ans .store ≡ st
+  pub free : o .ans .outcome ≡ Done → o .ans .store .free ≡ mapAfter edit vol st (st .head .chunks)
   pub accepted : o .ans .outcome ≡ Done → (o .ans .store .copy ≡ 1 - st .copy) × (o .ans .store .head ≡ withCrcs (headAfter edit (st .head)) (o .ans .store .head .crcs))
 
 module _ (edit : Edit) (name vol : List ℕ) (m : Medium) (st : Store) (ok : storeOk st (sectorsOf vol) ≡ true) (count : length (st .head .crcs) ≡ 24) where
@@ -114,6 +112,7 @@ module _ (edit : Edit) (name vol : List ℕ) (m : Medium) (st : Store) (ok : sto
         count = rw s count;
         writer = rw s refl;
         refused = λ _ _. s;
+        free = λ d. not-done (sym q ∙ d);
         accepted = λ d. not-done (sym q ∙ d);
       }
 
@@ -135,7 +134,7 @@ module _ (edit : Edit) (name vol : List ℕ) (m : Medium) (st : Store) (ok : sto
             size = k .frame .size;
             rest = past;
             medium = k .medium;
-            ok = rw (k .frame .size) (ok-from (o .ans .store) (sectorsOf vol) p s);
+            ok = rw (k .frame .size) (store-ok (o .ans .store) (sectorsOf vol) p s (rw (k .free q, n) (map-after-ok edit vol st (f .map))));
             copy = p;
             id = ap (λ (x : Header). x .id) n;
             chunks = ap (λ (x : Header). x .chunks) n;
@@ -143,6 +142,7 @@ module _ (edit : Edit) (name vol : List ℕ) (m : Medium) (st : Store) (ok : sto
             count = k .count q;
             writer = k .writer;
             refused = k .refused;
+            free = k .free;
             accepted = λ _. (k .copy q, n);
           }
 

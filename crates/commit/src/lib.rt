@@ -1,4 +1,5 @@
 // The metadata written anew into the other copy: the Rust's `Store::commit`, whose closure is a named edit here.
+use freemap::FreeMap;
 use handles::Header;
 use handles::Store;
 use header::Current;
@@ -115,6 +116,23 @@ fn refused(e: Error, medium: Medium, store: Store) -> Committed
     }
 }
 
+// The store of the copy that was written, with the map after the edit.
+fn finished(medium: Medium, store: Store, copy: u64, head: Header, free: FreeMap) -> Committed
+    ensures { λ r. ⌜ r ≡ record { outcome = Done; medium = medium; store = record { copy = copy; head = head; writer = store .writer; free = free } } ⌝ }
+{
+    let writer = store.writer;
+    Committed {
+        outcome: Outcome::Done,
+        medium,
+        store: Store {
+            copy,
+            head,
+            writer,
+            free,
+        },
+    }
+}
+
 // One body sector: left unread, or read, checked, edited, and written to the other copy unless its header lists the checksum.
 fn write_body_sector(
     volume: &mut [u8],
@@ -207,6 +225,7 @@ fn rewrite(
     ensures { λ r. ⌜ (now (volume .exit) ≡ copyOut (commitPlan found edit (now (name .entry)) store) (now (volume .entry)) medium .vol)
         × (r ≡ copyOut (commitPlan found edit (now (name .entry)) store) (now (volume .entry)) medium .ans) ⌝ }
 {
+    let free = plan::map_after(&volume[..], store, edit);
     let copy = 1 - store.copy;
     let z = medium::zero_sector(&mut *volume, medium, handles::base(copy));
     let zo = z.outcome;
@@ -227,12 +246,7 @@ fn rewrite(
     if let Outcome::No(e) = wo {
         return refused(e, wm, store);
     }
-    let writer = store.writer;
-    Committed {
-        outcome: Outcome::Done,
-        medium: wm,
-        store: Store { copy, head, writer },
-    }
+    finished(wm, store, copy, head, free)
 }
 
 // Makes the edit in the metadata, where the store value is the current one.

@@ -20,8 +20,8 @@ use Rattle.handles.proofs.Laws.{store-facts}
 use Rattle.directory.specs.Scan.{lookOf}
 use Rattle.directory.proofs.Ranges.{look-free}
 use Rattle.directory.proofs.Decides.{onLooked-keeps}
-use Rattle.table.specs.Table.{freeOf}
-use Rattle.table.proofs.Nearest.{free-range}
+use Rattle.table.specs.Free.{freeOf}
+use Rattle.table.proofs.Mapped.{free-range}
 use Rattle.table.proofs.Decides.{onPick-keeps}
 use Rattle.plan.specs.declared.Edit.the-variants.{Create}
 use Rattle.plan.specs.Copy.{Out}
@@ -82,7 +82,7 @@ module _ (vol₀ : List ℕ) (m₀ : Medium) (st₀ : Store) (rollover : Rollove
           (λ s q. pick-keeps Out-holds (s .exists) _ _ (p .no vol m st Exists k)
           (pick-keeps-by Out-holds (s .free) _ _
           (λ u. onPick-keeps Out-holds (freeOf vol m st) _ _ _ (λ e. p .no vol m st e k) over-holds
-          (λ c w. make-holds (s .slot) c (look-free vol m st name q u .below) (free-range vol m st w)))
+          (λ c w. make-holds (s .slot) c (look-free vol m st name q u .below) (free-range vol m st (store-facts _ _ (k .good .ok) .map) w)))
           (λ _. over-holds)))
 
   pub from-holds : (n : ℕ) (vol : List ℕ) (m : Medium) (st : Store) → Stands vol₀ m₀ st₀ vol m st → Out-holds (createFrom n name rollover vol m st)

@@ -18,7 +18,8 @@ use Rattle.directory.specs.declared.Seen.{Seen}
 use Rattle.directory.specs.Scan.{lookOf, onLooked}
 use Rattle.table.specs.declared.Pick.{Pick}
 use Rattle.table.specs.declared.Pick.the-variants as free
-use Rattle.table.specs.Table.{freeOf, onPick}
+use Rattle.table.specs.Table.{onPick}
+use Rattle.table.specs.Free.{freeOf}
 use Rattle.plan.specs.declared.Committed.{Committed}
 use Rattle.plan.specs.declared.Edit.the-variants.{Create}
 use Rattle.plan.specs.Copy.{Skipped}

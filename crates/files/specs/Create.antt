@@ -10,7 +10,8 @@ use Rattle.medium.specs.declared.Medium.{Medium}
 use Rattle.medium.specs.Refusal.{onDone}
 use Rattle.handles.specs.declared.Store.{Store}
 use Rattle.directory.specs.Scan.{lookOf, onLooked}
-use Rattle.table.specs.Table.{freeOf, onPick}
+use Rattle.table.specs.Table.{onPick}
+use Rattle.table.specs.Free.{freeOf}
 use Rattle.plan.specs.declared.Edit.the-variants.{Create}
 use Rattle.plan.specs.Copy.{created, Skipped, Out, stepsOf}
 use Rattle.commit.specs.Commit.{commitOf}

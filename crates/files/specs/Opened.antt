@@ -25,7 +25,7 @@ withToken m = record { left = m .left; unreadable = m .unreadable; entropy = m .
 
 -- the store, written by the appender of that token
 abbrev pub writtenBy : ℕ → ℕ → Store → Store
-writtenBy token id st = record { copy = st .copy; head = st .head; writer = Open token id }
+writtenBy token id st = record { copy = st .copy; head = st .head; writer = Open token id; free = st .free }
 
 -- a new appender of a file, with nothing unwritten
 abbrev pub newAppender : ℕ → ℕ → ℕ → ℕ → ℕ → Tail → Rollover → Appender

@@ -58,10 +58,12 @@ fn written_by(token: u32, id: u32, store: Store) -> Store
     ensures { λ r. ⌜ r ≡ writtenBy token id store ⌝ }
 {
     let head = store.head;
+    let free = store.free;
     Store {
         copy: store.copy,
         head,
         writer: Writer::Open { token, id },
+        free,
     }
 }
 

@@ -17,6 +17,9 @@ use Rattle.store.specs.Writing.{WriteCall}
 use Rattle.writes.specs.More.{more}
 use Rattle.writes.proofs.Ample.{format-enough, delete-enough}
 use Rattle.firmware.specs.Calls.{mediumOf, chunksTold, deleteTold, formatHost, deleteHost}
+use Rattle.table.specs.Free.{mapAt}
+use Rattle.table.specs.Link.{linkAt}
+use Rattle.handles.specs.Body.{checkOf, dueOf}
 
 module _ (vol : List ℕ) where
   format-more : (d : ℕ) (m : Medium) (size seed : ℕ) → 26 ≤ m .left → formatHost vol (more d m) size seed ≡ formatHost vol m size seed
@@ -24,7 +27,7 @@ module _ (vol : List ℕ) where
   format-more d m size seed h = ap (λ (w : WriteCall). (chunksTold (w .call), w .vol)) (format-enough vol m d size seed h)
 
   delete-more : (d : ℕ) (m : Medium) (name : List ℕ) → 26 ≤ m .left → deleteHost vol (more d m) name ≡ deleteHost vol m name
-  unfolding deleteHost mountCall mountOf currentOf headersOf readOf
+  unfolding deleteHost mountCall mountOf currentOf headersOf mapAt linkAt dueOf checkOf readOf
   delete-more d m name h =
       ap (λ (w : WriteCall). pick (nameOk name) (onOk (mountCall vol m .answer) (λ _. deleteTold w) (λ n. (n, vol))) (numberOf no.Name, vol))
       (delete-enough vol m d (mountCall vol m .store) name h)

@@ -11,7 +11,7 @@ use Rattle.medium.proofs.Laws.{done-told}
 use Rattle.handles.specs.declared.Store.{Store}
 use Rattle.handles.proofs.Laws.{store-facts}
 use Rattle.header.specs.Copies.{mountOf}
-use Rattle.header.proofs.Accepted.{mount-ok}
+use Rattle.store.proofs.Mounts.{mounted-ok}
 use Rattle.format.specs.Format.{formatOf}
 use Rattle.format.proofs.Accepted.{format-ok}
 use Rattle.store.specs.declared.StoreAnswer.{StoreAnswer}
@@ -26,7 +26,7 @@ module _ (vol : List ℕ) (m : Medium) {r : StoreAnswer} where
   unfolding mountCall
   mount-few e d =
       let o : mountOf vol m .outcome ≡ Done = done-told _ (sym (ap (λ (c : StoreCall). c .answer) e) ∙ ap outcomeOf d) in
-      rw (ap (λ (c : StoreCall). c .store) e) (store-facts (mountOf vol m .store) (sectorsOf vol) (mount-ok vol m o) .head .chunks-most)
+      rw (ap (λ (c : StoreCall). c .store) e) (store-facts (mountCall vol m .store) (sectorsOf vol) (mounted-ok vol m o) .head .chunks-most)
 
   pub format-few : (size seed : ℕ) → storeAnswer r ≡ formatCall vol m size seed .call → r .outcome ≡ Done → r .store .head .chunks ≤ 2048
   unfolding formatCall

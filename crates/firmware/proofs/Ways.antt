@@ -14,7 +14,7 @@ use Rattle.medium.specs.declared.Medium.{Medium}
 use Rattle.medium.specs.declared.Outcome.the-variants.{Done, No}
 use Rattle.medium.specs.Refusal.{numberOf, onOk, outcomeOf}
 use Rattle.header.specs.Copies.{mountOf}
-use Rattle.header.proofs.Accepted.{mount-ok}
+use Rattle.store.proofs.Mounts.{mounted-ok}
 use Rattle.store.specs.Asked.{askedOf}
 use Rattle.store.specs.declared.StoreAnswer.{StoreAnswer}
 use Rattle.store.specs.declared.ListAnswer.{ListAnswer}
@@ -76,5 +76,5 @@ module _ (vol : List ℕ) (m : Medium) (dir rows : List ℕ) where
 
 -- the store of an accepted mount is never refused with 3: of the tests of the input, a name that passes leaves nothing to refuse
 pub mounted-asked : (vol : List ℕ) (m : Medium) → mountOf vol m .outcome ≡ Done → askedOf vol (mountCall vol m .store) true ≡ Done
-unfolding mountCall askedOf pick
-mounted-asked vol m o = rw (mount-ok vol m o)
+unfolding askedOf pick
+mounted-asked vol m o = rw (mounted-ok vol m o)

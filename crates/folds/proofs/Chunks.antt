@@ -20,6 +20,7 @@ use Rattle.medium.specs.declared.Medium.{Medium}
 use Rattle.medium.specs.declared.Outcome.the-variants.{Done}
 use Rattle.medium.proofs.Laws.{onDone-keeps}
 use Rattle.handles.specs.declared.Store.{Store}
+use Rattle.handles.proofs.Laws.{Held}
 use Rattle.table.specs.declared.Link.{Link}
 use Rattle.table.specs.declared.LinkAt.{LinkAt}
 use Rattle.table.specs.declared.LinkAt.the-variants as link
@@ -28,8 +29,11 @@ use Rattle.table.specs.declared.Pick.the-variants as free
 use Rattle.table.specs.declared.Place.{Place}
 use Rattle.table.specs.declared.Place.the-variants as place
 use Rattle.table.specs.Link.{linkAt}
-use Rattle.table.specs.Table.{linksOf, sought, locateStep, locateV, locateOf, freeStep, freeV, freeOf, Counted, countV, countOf}
-use Rattle.table.proofs.Nearest.{Nearest, free-nearest, free-range}
+use Rattle.table.specs.Table.{linksOf, sought, locateStep, locateV, locateOf, freeStep, freeV, walkFreeOf, Counted, countV, countOf}
+use Rattle.table.specs.Free.{freeOf}
+use Rattle.table.proofs.Nearest.{Nearest, free-nearest, walk-range}
+use Rattle.table.proofs.Tells.{Mapped}
+use Rattle.table.proofs.Mapped.{mapped-free}
 use Rattle.layout.specs.Views.{diskOf, linkView}
 use Rattle.layout.specs.Segments.{Segment, segmentAt, linkFor, isOf, Good}
 use Rattle.layout.proofs.Facts.{case, same-link, free≢linked, link-slot, link-position, is-of, not-of, free-of, true≢false}
@@ -110,8 +114,16 @@ module _ (vol : List ℕ) (m : Medium) (st : Store) where
       onDone-keeps (λ (x : LinkAt). x ≡ link.Free → linkView vol st c ≡ link.Free) _ _ _ (λ _ q. q)
       (λ e _ q. absurd (let z : _≡_ {A = ℕ} 0 1 = cc in omega arith))
 
-  pub free-chunk : {c : ℕ} → freeOf vol m st ≡ free.At c → (c < st .head .chunks) × (linkView vol st c ≡ link.Free)
-  free-chunk {c} e = (free-range vol m st e, free-reads c (subst (Nearest vol m st (linksOf (st .head .chunks))) e (free-nearest vol m st) .0))
+  walked-chunk : {c : ℕ} → walkFreeOf vol m st ≡ free.At c → (c < st .head .chunks) × (linkView vol st c ≡ link.Free)
+  walked-chunk {c} e = (walk-range vol m st e, free-reads c (subst (Nearest vol m st (linksOf (st .head .chunks))) e (free-nearest vol m st) .0))
+
+  -- S-3: by the map it is the walk's, where the map tells the table
+  module _ {n : ℕ} (held : Held st n) (mapped : Mapped vol st) where
+    walks : freeOf vol m st ≡ walkFreeOf vol m st
+    walks = mapped-free vol m st (held .head .cursor) (held .head .chunks-most) (held .map) mapped
+
+    pub free-chunk : {c : ℕ} → freeOf vol m st ≡ free.At c → (c < st .head .chunks) × (linkView vol st c ≡ link.Free)
+    free-chunk e = walked-chunk (sym walks ∙ e)
 
 module _ (vol : List ℕ) (m : Medium) (st : Store) (ok : Checked vol m st) (G : ℕ → List Segment) (good : Good (diskOf vol st) G) where
   -- ---- the free chunk, or that there is none
@@ -136,12 +148,15 @@ module _ (vol : List ℕ) (m : Medium) (st : Store) (ok : Checked vol m st) (G :
   free-more n free.Nothing q p = (omega arith, q)
   free-more n (free.At b) q p = pick-keeps (Free (n + 1)) _ _ _ (omega arith, q) (omega (arith, p .0), p .1)
 
-  pub free-found : Free (st .head .chunks) (freeOf vol m st)
-  unfolding freeOf
-  free-found =
+  walk-found : Free (st .head .chunks) (walkFreeOf vol m st)
+  unfolding walkFreeOf
+  walk-found =
       let r = table-views vol m st ok G good (freeV (st .head .cursor) (st .head .chunks)) Free (λ c t h p q. free-more c t q p)
       (λ c l t h p q. used-more c t (λ f. free≢linked f q) p) free.Nothing (below-none _) in
       subst (Free (st .head .chunks)) (sym (r .1)) (r .2)
+
+  pub free-found : {n : ℕ} → Held st n → Mapped vol st → Free (st .head .chunks) (freeOf vol m st)
+  free-found held mapped = subst (Free (st .head .chunks)) (sym (walks vol m st held mapped)) walk-found
 
   -- ---- the chunk at a position of a file
 

@@ -12,16 +12,19 @@ use Rattle.medium.specs.declared.Medium.{Medium}
 use Rattle.medium.specs.declared.Outcome.the-variants.{Done}
 use Rattle.medium.specs.Sector.{sectorsOf, WriteOut, writeOf}
 use Rattle.medium.proofs.Laws.{onDone-keeps, not-done}
+use Rattle.le.specs.Choice.{pick}
+use Rattle.freemap.specs.Map.{fullOf}
+use Rattle.freemap.proofs.Rule.{full-ok}
 use Rattle.handles.specs.declared.Header.{Header}
 use Rattle.handles.specs.declared.Store.{Store}
 use Rattle.handles.specs.declared.Writer.the-variants.{Nobody}
 use Rattle.handles.specs.Handles.{bodyOf, baseOf, storeOk, noStore}
-use Rattle.handles.proofs.Laws.{next-fits}
+use Rattle.handles.proofs.Laws.{next-fits, store-ok}
 use Rattle.header.specs.declared.answers.Copies.{Copies}
 use Rattle.header.specs.Copies.{headersOf}
 use Rattle.header.specs.Header.{encodeOf, unmarkedOf, Bytes, InRange}
 use Rattle.header.proofs.Accepted.{Both, headers-both}
-use Rattle.plan.specs.Copy.{BodyOut, Out, lastOf, copyOut}
+use Rattle.plan.specs.Copy.{BodyOut, Out, isFormat, markAfter, mapAfter, lastOf, copyOut}
 use Rattle.format.specs.Format.{chunksOf, copyFor, newestOf, formatHead, Zeroed, formatPlan, madeOf, formatOver, formatOf}
 use Rattle.format.proofs.Crcs.{head-zeroed}
 use Rattle.format.proofs.Numbers.{copy-lt, head-sane, head-range, newest-lt}
@@ -30,22 +33,25 @@ use Rattle.format.proofs.Writes.{zeroedFrom, zero-head}
 -- ---- the store is the one that was written
 
 abbrev pub storeFor : ℕ → Header → Store
-storeFor copy h = record { copy = copy; head = h; writer = Nobody }
+storeFor copy h = record { copy = copy; head = h; writer = Nobody; free = fullOf (h .chunks) }
 
 pub made-store : (copy : ℕ) (h : Header) → Zeroed h → (vol : List ℕ) (m : Medium) → madeOf copy h vol m .ans .outcome ≡ Done → madeOf copy h vol m .ans .store ≡ storeFor copy h
-unfolding copyOut lastOf formatPlan noStore
+unfolding copyOut lastOf mapAfter markAfter isFormat pick formatPlan noStore
 made-store copy h sums vol m =
     let z : WriteOut = writeOf vol m (baseOf copy) (unmarkedOf h) in
     let b : BodyOut = zeroedFrom copy h (bodyOf (h .chunks)) 0 (z .vol) (z .ans .medium) in
     let e : b .ans .head ≡ h = zero-head copy h sums (bodyOf (h .chunks)) 0 (z .vol) (z .ans .medium) (omega arith) in
     onDone-keeps Right (z .ans .outcome) _ _
     (λ _. onDone-keeps Right (b .ans .outcome) _ _
-    (λ _. onDone-keeps Right (writeOf (b .vol) (b .ans .medium) (baseOf copy) (encodeOf (b .ans .head)) .ans .outcome) _ _ (λ _ _. ap (storeFor copy) e) (λ e _. not-done))
+    (λ _. onDone-keeps Right (writeOf (b .vol) (b .ans .medium) (baseOf copy) (encodeOf (b .ans .head)) .ans .outcome) _ _ (λ _ _. ap with-map e) (λ e _. not-done))
     (λ e _. not-done))
     (λ e _. not-done)
   where
     Right : Out → Type 0
     Right o = o .ans .outcome ≡ Done → o .ans .store ≡ storeFor copy h
+
+    with-map : Header → Store
+    with-map x = record { copy = copy; head = x; writer = Nobody; free = fullOf (h .chunks) }
 
 -- what the tests on the way say
 pub record Made (size seed : ℕ) (vol : List ℕ) (m : Medium) (st : Store) : Type 0 where
@@ -99,10 +105,9 @@ module _ (size seed : ℕ) (vol : List ℕ) (m : Medium) (accepted : formatOf si
   format-fresh = rw (facts .store) (copy-lt (headersOf vol m), refl, refl, refl)
 
   pub format-ok : storeOk (storeAfter size seed vol m) (sectorsOf vol) ≡ true
-  unfolding storeOk
   format-ok =
-      rw (facts .store, lt-ltb (copyFor (headersOf vol m)) 2 (copy-lt (headersOf vol m)))
-      (head-sane (headersOf vol m) m (sectorsOf vol) size seed (facts .size-most) (both .enough) (facts .size-least) (facts .some))
+      let sane = head-sane (headersOf vol m) m (sectorsOf vol) size seed (facts .size-most) (both .enough) (facts .size-least) (facts .some) in
+      rw (facts .store) (store-ok _ (sectorsOf vol) (copy-lt (headersOf vol m)) sane (full-ok _))
 
   pub format-range : Bytes vol → InRange (storeAfter size seed vol m .head)
   format-range small =

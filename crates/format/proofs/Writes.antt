@@ -16,13 +16,15 @@ use Rattle.medium.specs.declared.Written.{Written}
 use Rattle.medium.specs.Refusal.{onDone}
 use Rattle.medium.specs.Sector.{WriteOut, writeOf}
 use Rattle.medium.proofs.Laws.{onDone-keeps}
+use Rattle.freemap.specs.declared.FreeMap.{FreeMap}
+use Rattle.freemap.specs.Map.{fullOf}
 use Rattle.handles.specs.declared.Header.{Header}
 use Rattle.handles.specs.declared.Writer.the-variants.{Nobody}
 use Rattle.handles.specs.Handles.{bodyOf, baseOf, noStore}
 use Rattle.header.specs.Header.{encodeOf, unmarkedOf}
 use Rattle.plan.specs.declared.Committed.{Committed}
 use Rattle.plan.specs.declared.BodyWritten.{BodyWritten}
-use Rattle.plan.specs.Copy.{BodyOut, isFormat, moveOf, withCrc, actOf, bodySectorOf, bodyFrom, refusedOut, lastOf, copyOut}
+use Rattle.plan.specs.Copy.{BodyOut, isFormat, moveOf, withCrc, actOf, bodySectorOf, bodyFrom, refusedOut, markAfter, mapAfter, lastOf, copyOut}
 use Rattle.format.specs.Format.{Zeroed, formatPlan, madeOf}
 
 -- n body sectors from k on
@@ -110,7 +112,7 @@ module _ (copy : ℕ) (h : Header) (vol : List ℕ) (m : Medium) {v : List ℕ} 
       unfolding copyOut lastOf formatPlan onDone
       last-refused q er = rw (← ez, ← ev, qz, ← eb, qb, ← ev₁, kept, ← ew, q) (ev₂, er)
 
-      pub made : w .outcome ≡ Done
-          → (v₂ ≡ madeOf copy h vol m .vol) × (record { outcome = Done; medium = w .medium; store = record { copy = copy; head = h; writer = Nobody } } ≡ madeOf copy h vol m .ans)
-      unfolding copyOut lastOf formatPlan noStore onDone
-      made q = rw (← ez, ← ev, qz, ← eb, qb, ← ev₁, kept, ← ew, q) (ev₂, refl)
+      pub made : {f : FreeMap} → f ≡ fullOf (h .chunks) → w .outcome ≡ Done
+          → (v₂ ≡ madeOf copy h vol m .vol) × (record { outcome = Done; medium = w .medium; store = record { copy = copy; head = h; writer = Nobody; free = f } } ≡ madeOf copy h vol m .ans)
+      unfolding copyOut lastOf mapAfter markAfter formatPlan noStore isFormat pick onDone
+      made e q = rw (e, ← ez, ← ev, qz, ← eb, qb, ← ev₁, kept, ← ew, q) (ev₂, refl)

@@ -192,10 +192,12 @@ fn make(volume: &mut [u8], medium: Medium, copy: u64, head: Header) -> Committed
     if let Outcome::No(e) = last {
         return refused(w.medium, e);
     }
+    let free = freemap::full(head.chunks);
     let store = Store {
         copy,
         head,
         writer: Writer::Nobody,
+        free,
     };
     let after = w.medium;
     Committed {

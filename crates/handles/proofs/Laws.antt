@@ -5,10 +5,11 @@ use mathlib.Core.List.{List}
 use Prim.Native.Nat.{ℕ, _+_, _-_, _*_, _^_, _≤_, _<_}
 use native.Mathlib.Nat.{mul-le-mul}
 use native.Mathlib.Omega.{arith}
-use borrow.Author.Tests.{ltb-true, leb-true, eqb-false, not-true}
+use borrow.Author.Tests.{ltb-true, leb-true, eqb-false, not-true, lt-ltb}
 use lib.Dec.{eqb, lit≤}
 use Rattle.le.proofs.Choices.{pick-keeps}
 use Rattle.le.proofs.Bools.{and-true}
+use Rattle.freemap.specs.Map.{mapOk}
 use Rattle.medium.specs.declared.Medium.{Medium}
 use Rattle.medium.specs.declared.Outcome.{Outcome}
 use Rattle.medium.specs.declared.Outcome.the-variants.{Done}
@@ -72,13 +73,20 @@ pub record Held (st : Store) (sectors : ℕ) : Type 0 where
   pub copy : st .copy < 2
   pub head : Sane (st .head) sectors
   pub enough : 64 ≤ sectors
+  pub map : mapOk (st .free) (st .head .chunks) ≡ true
 
 pub store-facts : (st : Store) (sectors : ℕ) → storeOk st sectors ≡ true → Held st sectors
 unfolding storeOk
 store-facts st sectors e =
     let a = and-true _ _ e in
-    let s : Sane (st .head) sectors = sane-facts (st .head) sectors (a .1) in
-    record { copy = ltb-true _ _ (a .0); head = s; enough = omega (arith, s .room) }
+    let b = and-true _ _ (a .1) in
+    let s : Sane (st .head) sectors = sane-facts (st .head) sectors (b .0) in
+    record { copy = ltb-true _ _ (a .0); head = s; enough = omega (arith, s .room); map = b .1 }
+
+-- and what makes one pass
+pub store-ok : (st : Store) (sectors : ℕ) → st .copy < 2 → saneOf (st .head) sectors ≡ true → mapOk (st .free) (st .head .chunks) ≡ true → storeOk st sectors ≡ true
+unfolding storeOk
+store-ok st sectors c s m = rw (lt-ltb (st .copy) 2 c, s, m)
 
 -- a sector that passes its check passes where a walk enters it and where it does not
 pub due-done : (vol : List ℕ) (m : Medium) (st : Store) (enters : Bool) (k : ℕ) → checkOf vol m st k ≡ Done → dueOf vol m st enters k ≡ Done

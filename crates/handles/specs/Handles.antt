@@ -1,9 +1,11 @@
--- 01, "Header" and refusals 3 and 10: the numbers of a header, which store values no call accepts, and the open file. Assumes nothing.
+-- 01, "Header" and refusals 3 and 10: the numbers of a header, which store values no call accepts, and the open file. 02, S-3: the rule for the map.
+-- Assumes nothing.
 use Prim.Native.Nat.{ℕ, _+_, _*_, _/_}
 use mathlib.Core.Bool.{Bool, true, false, not, _&&_}
 use lib.Dec.{ltb, leb, eqb}
 use Rattle.le.specs.Choice.{pick}
 use Rattle.le.specs.Part.{zeros}
+use Rattle.freemap.specs.Map.{unfitOf, mapOk}
 use Rattle.handles.specs.declared.Header.{Header}
 use Rattle.handles.specs.declared.Store.{Store}
 use Rattle.handles.specs.declared.Writer.{Writer}
@@ -29,9 +31,9 @@ saneOf h sectors =
     && ((leb 1 (h .chunks) && leb (h .chunks) 2048)
     && ((leb 1 (h .chunk) && leb (h .chunk) 512) && leb (64 + h .chunks * h .chunk) sectors))))
 
--- a store value that passes refusal 3
+-- a store value that passes refusal 3; by S-3 its map too
 unfoldable pub storeOk : Store → ℕ → Bool
-storeOk st sectors = ltb (st .copy) 2 && saneOf (st .head) sectors
+storeOk st sectors = ltb (st .copy) 2 && (saneOf (st .head) sectors && mapOk (st .free) (st .head .chunks))
 
 -- the open file is that of the open appender: whether there is one, and its id
 abbrev pub isOpen : Writer → Bool
@@ -47,4 +49,4 @@ unfoldable pub blankOf : Header
 blankOf = record { id = 0; generation = 0; «next_id» = 0; cursor = 0; chunks = 0; chunk = 0; crcs = zeros 24 }
 
 unfoldable pub noStore : Store
-noStore = record { copy = 0; head = blankOf; writer = Nobody }
+noStore = record { copy = 0; head = blankOf; writer = Nobody; free = unfitOf }

@@ -1,4 +1,5 @@
 // The store value that a caller holds between calls, the tests of 01's refusal 3 on it, and the check of a body sector.
+use freemap::FreeMap;
 use medium::Error;
 use medium::Medium;
 use medium::Outcome;
@@ -25,11 +26,12 @@ pub enum Writer {
     Open { token: u32, id: u32 },
 }
 
-// The mounted metadata: the current copy, its header and the open appender.
+// The mounted metadata: the current copy, its header, the open appender and the map of free chunks.
 pub struct Store {
     pub copy: u64,
     pub head: Header,
     pub writer: Writer,
+    pub free: FreeMap,
 }
 
 // A header of zeros, where there is none.
@@ -52,10 +54,12 @@ pub fn no_store() -> Store
     ensures { λ r. ⌜ r ≡ noStore ⌝ }
 {
     let head = blank();
+    let free = freemap::unfit();
     Store {
         copy: 0,
         head,
         writer: Writer::Nobody,
+        free,
     }
 }
 
@@ -147,7 +151,8 @@ impl Store {
         ensures { λ r. ⌜ r ≡ storeOk self sectors ⌝ }
     {
         let h = self.head;
-        (self.copy < 2) & sane(h, sectors)
+        let map = self.free;
+        (self.copy < 2) & (sane(h, sectors) & freemap::fits(map, h.chunks))
     }
 }
 

@@ -359,7 +359,7 @@ kept-mind w b pins k =
       reads = λ p fit m reads. rw (← same) (
         reads-as-set (w .vol) m (w .store) (r .keeps .layout) (r .fine) whole reads pins (r .points) (k .differ) p fit,
         rw (mount-gives (w .vol) m (w .store) (whole .inv) reads)
-            (reads-as-set (w .vol) m (asMounted (w .store)) (r .keeps .layout) (r .fine) (whole-mounted whole) reads pins (r .points) (k .differ) p fit),
+            (reads-as-set (w .vol) m (asMounted (w .vol) m (w .store)) (r .keeps .layout) (r .fine) (whole-mounted m whole) reads pins (r .points) (k .differ) p fit),
       );
       gave = λ left point name a. set-gave (lent left w) b pins (kept-alike {w = w} {v = lent left w} refl k) point name a;
     }

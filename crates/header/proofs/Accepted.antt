@@ -12,8 +12,10 @@ use Rattle.medium.specs.declared.Medium.{Medium}
 use Rattle.medium.specs.declared.Outcome.the-variants.{Done}
 use Rattle.medium.specs.Sector.{sectorsOf, sectorAt}
 use Rattle.medium.proofs.Laws.{onDone-keeps, length-sector, not-done}
+use Rattle.freemap.proofs.Rule.{ok-unfit}
 use Rattle.handles.specs.declared.Header.{Header}
 use Rattle.handles.specs.Handles.{baseOf, saneOf, storeOk}
+use Rattle.handles.proofs.Laws.{store-ok}
 use Rattle.header.specs.declared.answers.Copies.{Copies}
 use Rattle.header.specs.declared.answers.Current.{Current}
 use Rattle.header.specs.declared.answers.Mounted.{Mounted}
@@ -114,5 +116,4 @@ module _ (vol : List ℕ) (m : Medium) (accepted : mountOf vol m .outcome ≡ Do
   head-sane = copy-sane vol (baseOf (currentOf vol m .copy)) (currentOf vol m .head) (taken .found)
 
   pub mount-ok : storeOk (mountOf vol m .store) (sectorsOf vol) ≡ true
-  unfolding storeOk
-  mount-ok = rw (same, lt-ltb (currentOf vol m .copy) 2 (taken .copy)) head-sane
+  mount-ok = rw same (store-ok _ (sectorsOf vol) (taken .copy) head-sane (ok-unfit (currentOf vol m .head .chunks)))

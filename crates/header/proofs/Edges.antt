@@ -13,6 +13,7 @@ use Rattle.medium.specs.declared.Medium.{Medium}
 use Rattle.medium.specs.declared.Outcome.the-variants.{Done}
 use Rattle.medium.specs.Refusal.{onDone, refused, outcomeOf}
 use Rattle.medium.specs.Sector.{sectorsOf, sectorAt, readOf}
+use Rattle.freemap.specs.Map.{unfitOf}
 use Rattle.handles.specs.declared.Header.{Header}
 use Rattle.handles.specs.declared.Writer.the-variants.{Nobody}
 use Rattle.header.specs.declared.codec.Replica.the-variants.{Absent}
@@ -28,7 +29,7 @@ module _ (vol : List ℕ) (m : Medium) (enough : 64 ≤ sectorsOf vol) (a : read
 
   -- of two valid copies of one generation, A is taken
   pub equal-takes-a : (x y : Header) → copyOf vol 0 ≡ ours x → copyOf vol 32 ≡ ours y → x .generation ≡ y .generation
-      → mountOf vol m ≡ record { outcome = Done; store = record { copy = 0; head = x; writer = Nobody } }
+      → mountOf vol m ≡ record { outcome = Done; store = record { copy = 0; head = x; writer = Nobody; free = unfitOf } }
   unfolding mountOf currentOf choiceOf takesB takenOf pick onDone
   equal-takes-a x y p q e =
       let t = headers-read (rw p refl) (rw q refl) in

@@ -14,6 +14,7 @@ use Rattle.medium.specs.declared.Medium.{Medium}
 use Rattle.medium.specs.declared.Outcome.the-variants.{Done, No}
 use Rattle.medium.specs.Refusal.{onDone}
 use Rattle.medium.specs.Sector.{sectorsOf, sectorAt, readOf}
+use Rattle.freemap.specs.Map.{unfitOf}
 use Rattle.handles.specs.declared.Header.{Header}
 use Rattle.handles.specs.declared.Writer.the-variants.{Nobody}
 use Rattle.handles.specs.Handles.{blankOf, noStore}
@@ -101,7 +102,7 @@ currentOf vol m = onDone (headersOf vol m .outcome) (choiceOf (headersOf vol m))
 
 -- the store of the copy taken; nothing has it open
 abbrev pub mounted : Current → Mounted
-mounted c = record { outcome = Done; store = record { copy = c .copy; head = c .head; writer = Nobody } }
+mounted c = record { outcome = Done; store = record { copy = c .copy; head = c .head; writer = Nobody; free = unfitOf } }
 
 abbrev pub notMounted : Error → Mounted
 notMounted e = record { outcome = No e; store = noStore }

@@ -205,10 +205,12 @@ pub fn mount(volume: &[u8], medium: Medium) -> Mounted
         };
     }
     let head = c.head;
+    let free = freemap::unfit();
     let store = Store {
         copy: c.copy,
         head,
         writer: Writer::Nobody,
+        free,
     };
     Mounted {
         outcome: Outcome::Done,

@@ -13,6 +13,7 @@ use Rattle.medium.specs.Sector.{sectorsOf, sectorAt, WriteOut}
 use Rattle.medium.proofs.Laws.{onDone-keeps, not-done}
 use Rattle.medium.proofs.Frame.{write-none, write-there, write-kept}
 use Rattle.handles.specs.declared.Header.{Header}
+use Rattle.freemap.specs.declared.FreeMap.{FreeMap}
 use Rattle.handles.specs.Handles.{bodyOf, baseOf}
 use Rattle.plan.specs.Copy.{Skipped, Plan, bodyFrom, Out, lastOf, firstOf, copyOut}
 use Rattle.handles.proofs.Laws.{base-most}
@@ -39,9 +40,9 @@ module _ (p : Plan) (vol : List ℕ) (m : Medium) (r : Ready p vol) (most : p .h
   first-ready = ready-still p vol (firstOf p vol m .vol) (write-kept vol m (baseOf (p .copy)) (p .first) size inside .size) r
 
   -- the last one, on a volume where the first image is still there
-  last-stopped : (skipped : List Skipped) (v : List ℕ) (u : Medium) (h : Header) → sectorAt v (baseOf (p .copy)) ≡ p .first → Stopped p vol (lastOf p skipped v u h)
+  last-stopped : (free : FreeMap) (skipped : List Skipped) (v : List ℕ) (u : Medium) (h : Header) → sectorAt v (baseOf (p .copy)) ≡ p .first → Stopped p vol (lastOf p free skipped v u h)
   unfolding lastOf
-  last-stopped skipped v u h there =
+  last-stopped free skipped v u h there =
       onDone-keeps (Stopped p vol) _ _ _ (λ _ e q. not-done (sym q))
       (λ e d _ _. inr (ap (λ (w : List ℕ). sectorAt w (baseOf (p .copy))) (write-none v u _ _ d) ∙ there))
 
@@ -52,5 +53,5 @@ module _ (p : Plan) (vol : List ℕ) (m : Medium) (r : Ready p vol) (most : p .h
       let body : sectorAt (bodyFrom p (bodyOf (p .head .chunks)) 0 (z .vol) (z .ans .medium) (p .head) .vol) (baseOf (p .copy)) ≡ sectorAt (z .vol) (baseOf (p .copy)) =
       body-stays p (bodyOf (p .head .chunks)) 0 (z .vol) (z .ans .medium) (p .head) first-ready (omega arith) .frame .same (baseOf (p .copy)) (inl (omega arith)) in
       onDone-keeps (Stopped p vol) (z .ans .outcome) _ _
-      (λ d. onDone-keeps (Stopped p vol) _ _ _ (λ _. last-stopped _ _ _ _ (body ∙ first-there d)) (λ e _ _ _. inr (body ∙ first-there d)))
+      (λ d. onDone-keeps (Stopped p vol) _ _ _ (λ _. last-stopped _ _ _ _ _ (body ∙ first-there d)) (λ e _ _ _. inr (body ∙ first-there d)))
       (λ e d _ _. inl (first-none d))

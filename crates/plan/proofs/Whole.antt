@@ -17,7 +17,7 @@ use Rattle.handles.specs.Handles.{bodyOf, baseOf}
 use Rattle.handles.proofs.Laws.{base-most}
 use Rattle.header.specs.Header.{encodeOf, withCrcs}
 use Rattle.header.proofs.Fill.{length-encode}
-use Rattle.plan.specs.Copy.{Skipped, refusedOut, Plan, bodyFrom, Out, lastOf, firstOf, copyOut, BodyOut}
+use Rattle.plan.specs.Copy.{Skipped, refusedOut, Plan, bodyFrom, Out, freeAfter, lastOf, firstOf, copyOut, BodyOut}
 use Rattle.plan.proofs.Keeps.{Ready, ready-still, Stays, body-stays}
 
 pub record Copied (p : Plan) (vol : List ℕ) (m : Medium) (o : Out) : Type 0 where
@@ -27,6 +27,7 @@ pub record Copied (p : Plan) (vol : List ℕ) (m : Medium) (o : Out) : Type 0 wh
   pub refused : (e : Error) → o .ans .outcome ≡ No e → o .ans .store ≡ p .store
   pub copy : o .ans .outcome ≡ Done → o .ans .store .copy ≡ p .copy
   pub numbers : o .ans .outcome ≡ Done → o .ans .store .head ≡ withCrcs (p .head) (o .ans .store .head .crcs)
+  pub free : o .ans .outcome ≡ Done → o .ans .store .free ≡ freeAfter p vol
   pub count : o .ans .outcome ≡ Done → length (o .ans .store .head .crcs) ≡ 24
 
 module _ (p : Plan) (vol : List ℕ) (m : Medium) where
@@ -34,7 +35,7 @@ module _ (p : Plan) (vol : List ℕ) (m : Medium) where
   Frame v = Kept (baseOf (p .copy)) 25 vol v
 
   refusal : {v : List ℕ} {n : Medium} {e : Error} → Frame v → Spends m n → Copied p vol m (refusedOut (p .store) v n e)
-  refusal f t = record { frame = f; medium = t; writer = refl; refused = λ _ _. refl; copy = not-done; numbers = not-done; count = not-done }
+  refusal f t = record { frame = f; medium = t; writer = refl; refused = λ _ _. refl; copy = not-done; numbers = not-done; free = not-done; count = not-done }
 
   module _ (r : Ready p vol) (most : p .head .chunks ≤ 2048) (listed : length (p .head .crcs) ≡ 24) where
     -- a write of the header sector
@@ -44,7 +45,7 @@ module _ (p : Plan) (vol : List ℕ) (m : Medium) where
         kept-more f (kept-wide (omega arith) (omega arith) (write-kept v u (baseOf (p .copy)) bytes size inside))
 
     last-copied : (skipped : List Skipped) (b : BodyOut) → Frame (b .vol) → Spends m (b .ans .medium) → b .ans .head ≡ withCrcs (p .head) (b .ans .head .crcs)
-        → length (b .ans .head .crcs) ≡ 24 → Copied p vol m (lastOf p skipped (b .vol) (b .ans .medium) (b .ans .head))
+        → length (b .ans .head .crcs) ≡ 24 → Copied p vol m (lastOf p (freeAfter p vol) skipped (b .vol) (b .ans .medium) (b .ans .head))
     unfolding lastOf
     last-copied skipped b f s numbers n =
         let h : Header = b .ans .head in
@@ -52,7 +53,7 @@ module _ (p : Plan) (vol : List ℕ) (m : Medium) where
         let w : Frame (writeOf (b .vol) (b .ans .medium) (baseOf (p .copy)) (encodeOf h) .vol) = head-write (b .ans .medium) (encodeOf h) (length-encode h n (rw c most)) f in
         let t : Spends m (writeOf (b .vol) (b .ans .medium) (baseOf (p .copy)) (encodeOf h) .ans .medium) = spends-more s (write-spends _ _ (baseOf (p .copy)) (encodeOf h)) in
         onDone-keeps (Copied p vol m) _ _ _
-        (λ _. record { frame = w; medium = t; writer = refl; refused = λ _ q. not-done (sym q); copy = λ _. refl; numbers = λ _. numbers; count = λ _. n })
+        (λ _. record { frame = w; medium = t; writer = refl; refused = λ _ q. not-done (sym q); copy = λ _. refl; numbers = λ _. numbers; free = λ _. refl; count = λ _. n })
         (λ _ _. refusal w t)
 
     pub copy-copied : length (p .first) ≡ 512 → Copied p vol m (copyOut p vol m)

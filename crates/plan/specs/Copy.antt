@@ -2,9 +2,9 @@
 -- each body sector. Writes left falls inside, so this settles the volume after every stop. Assumes nothing.
 use Prim.Native.Nat.{ℕ, zero, suc, _+_}
 use mathlib.Core.Path.{_≡_}
-use mathlib.Core.Bool.{Bool, true, false, not, _&&_}
+use mathlib.Core.Bool.{Bool, true, false, not, _&&_, _||_}
 use mathlib.Core.List.{List, [], _∷_}
-use lib.Dec.{eqb}
+use lib.Dec.{eqb, ltb}
 use lib.ListN.{getD, set}
 use Rattle.le.specs.Choice.{pick}
 use Rattle.le.specs.Part.{zeros}
@@ -14,11 +14,14 @@ use Rattle.medium.specs.declared.Medium.{Medium}
 use Rattle.medium.specs.declared.Outcome.the-variants.{Done, No}
 use Rattle.medium.specs.Refusal.{onDone}
 use Rattle.medium.specs.Sector.{sectorAt, WriteOut, writeOf}
+use Rattle.freemap.specs.declared.FreeMap.{FreeMap}
+use Rattle.freemap.specs.Map.{marks, mapOf}
 use Rattle.handles.specs.declared.Header.{Header}
 use Rattle.handles.specs.declared.Store.{Store}
 use Rattle.handles.specs.Body.{bodyAt, checkOf}
 use Rattle.handles.specs.Handles.{bodyOf, baseOf}
 use Rattle.header.specs.Header.{encodeOf, withCrcs}
+use Rattle.table.specs.Link.{linkPart, ownedBy}
 use Rattle.plan.specs.declared.Committed.{Committed}
 use Rattle.plan.specs.declared.Edit.{Edit}
 use Rattle.plan.specs.declared.Edit.the-variants.{Format, Create, Extend, Remove}
@@ -158,14 +161,30 @@ skippedFrom p vol m zero k = []
 skippedFrom p vol m (suc n) k =
     pick (skips p vol m k) (skippedAt p vol k ∷ skippedFrom p vol m n (k + 1)) (skippedFrom p vol m n (k + 1))
 
+-- 02, S-3: bit c of the map after an edit of a store with so many chunks. A chunk whose link the edit writes is not free, one whose link it zeroes is;
+-- every other bit stays. A format frees every chunk
+unfoldable pub markAfter : Edit → List ℕ → Store → ℕ → ℕ → Bool
+markAfter Format vol st chunks c = ltb c chunks
+markAfter (Create slot id chunk) vol st chunks c = marks (st .free .words) c && not (eqb c chunk)
+markAfter (Extend slot position next last partial records) vol st chunks c = marks (st .free .words) c && not (eqb c next || (partial && eqb c last))
+markAfter (Remove slot) vol st chunks c = marks (st .free .words) c || (ltb c chunks && ownedBy slot (linkPart vol st c))
+
+-- the map after it: but for a format an unfit one stays as it is
+unfoldable pub mapAfter : Edit → List ℕ → Store → ℕ → FreeMap
+mapAfter e vol st chunks = pick (isFormat e || st .free .fit) (mapOf (markAfter e vol st chunks)) (st .free)
+
+-- of a plan: a question to the volume before the commit, too
+abbrev pub freeAfter : Plan → List ℕ → FreeMap
+freeAfter p vol = mapAfter (p .edit) vol (p .store) (p .head .chunks)
+
 -- the last write makes the copy current: the store is the new one
-unfoldable pub lastOf : Plan → List Skipped → List ℕ → Medium → Header → Out
-lastOf p skipped vol m h =
+unfoldable pub lastOf : Plan → FreeMap → List Skipped → List ℕ → Medium → Header → Out
+lastOf p free skipped vol m h =
     let w : WriteOut = writeOf vol m (baseOf (p .copy)) (encodeOf h) in
     onDone (w .ans .outcome)
     (record {
       vol = w .vol;
-      ans = record { outcome = Done; medium = w .ans .medium; store = record { copy = p .copy; head = h; writer = p .store .writer } };
+      ans = record { outcome = Done; medium = w .ans .medium; store = record { copy = p .copy; head = h; writer = p .store .writer; free = free } };
       skipped = skipped;
     })
     (refusedOut (p .store) (w .vol) (w .ans .medium))
@@ -181,6 +200,6 @@ copyOut p vol m =
     let b : BodyOut = bodyFrom p (bodyOf (p .head .chunks)) 0 (z .vol) (z .ans .medium) (p .head) in
     onDone (z .ans .outcome)
     (onDone (b .ans .outcome)
-    (lastOf p (skippedFrom p vol m (bodyOf (p .head .chunks)) 0) (b .vol) (b .ans .medium) (b .ans .head))
+    (lastOf p (freeAfter p vol) (skippedFrom p vol m (bodyOf (p .head .chunks)) 0) (b .vol) (b .ans .medium) (b .ans .head))
     (refusedOut (p .store) (b .vol) (b .ans .medium)))
     (refusedOut (p .store) (z .vol) (z .ans .medium))

@@ -1,6 +1,9 @@
 // What a commit is to do: the edits, which the Rust passes as closures, and the answers of writing a copy anew.
+mod map;
+
 use handles::Header;
 use handles::Store;
+pub use map::map_after;
 use medium::Medium;
 use medium::Outcome;
 use table::Link;

@@ -154,7 +154,7 @@ kept-keeps {t} {b} o k room closes =
 
 -- ---- refusals 3 and 11
 
-may-live : (vol : List ℕ) (st : Store) (a : Appender) → mayWrite vol st a ≡ Done → live st a ≡ true
+pub may-live : (vol : List ℕ) (st : Store) (a : Appender) → mayWrite vol st a ≡ Done → live st a ≡ true
 unfolding mayWrite
 may-live vol st a d = go (storeOk st (sectorsOf vol) && appenderOk a st) refl (live st a) refl
   where
@@ -217,6 +217,7 @@ module _ (w : World) (b : Fine) (k : Keeps w b) (left : ℕ) (c : Fine) (rest : 
   whole-more =
       record {
         inv = k .whole .inv;
+        map = k .whole .map;
         good = k .whole .good;
         ties = rw (more .files) (k .whole .ties);
         parts = rw (more .parts) (k .whole .parts);

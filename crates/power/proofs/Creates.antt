@@ -20,7 +20,8 @@ use Rattle.directory.specs.declared.Seen.{Seen}
 use Rattle.directory.specs.Scan.{onLooked}
 use Rattle.table.specs.declared.Pick.{Pick}
 use Rattle.table.specs.declared.Pick.the-variants as free
-use Rattle.table.specs.Table.{freeOf, onPick}
+use Rattle.table.specs.Table.{onPick}
+use Rattle.table.specs.Free.{freeOf}
 use Rattle.plan.specs.declared.Edit.the-variants.{Create}
 use Rattle.plan.specs.Copy.{Kind, created, rolledOver, Skipped, Out, stepsOf, EachSkipped, Distinct}
 use Rattle.commit.specs.Commit.{commitOf}
@@ -50,6 +51,7 @@ use Rattle.power.proofs.Steps.{kindsOf}
 use Rattle.power.proofs.Asks.{Directed, directed-set, Opens, asked-opens}
 use Rattle.power.proofs.Rules.{admits-asked, create-by}
 use Rattle.power.proofs.Making.{make-stopped, make-done, made-keeps}
+use Rattle.safe.proofs.Invs.{inv-held}
 
 pub steps-done : (kind : Kind) (o : Out) → o .ans .outcome ≡ Done → stepsOf kind o ≡ (record { kind = kind; skipped = o .skipped }) ∷ []
 unfolding stepsOf onDone
@@ -101,7 +103,7 @@ module _ (t : Terms) (over : Rollover) (spares : t .spared ≡ none) (directed :
         → Ends t w b (makeOut (t .name) over (w .vol) (w .medium) (w .store) (seen .slot) c)
     unfolding makeOut
     make-ends seen l fresh room c q =
-        let f = free-chunk (w .vol) (w .medium) (w .store) q in
+        let f = free-chunk (w .vol) (w .medium) (w .store) (inv-held (k .whole .inv)) (k .whole .map) q in
         pick-keeps-by (Ends t w b) (eqb (w .store .head .«next_id») (2 ^ 32 - 1)) _ _
         (λ e. refused-ends t w b _ k)
         (λ e.

@@ -13,7 +13,7 @@ use Rattle.medium.specs.declared.Outcome.the-variants.{Done}
 use Rattle.medium.proofs.Laws.{onDone-keeps}
 use Rattle.handles.specs.declared.Store.{Store}
 use Rattle.handles.specs.Handles.{isOpen, openId}
-use Rattle.table.specs.Table.{freeOf}
+use Rattle.table.specs.Free.{freeOf}
 use Rattle.table.proofs.Decides.{onPick-keeps}
 use Rattle.plan.specs.declared.Edit.the-variants.{Extend}
 use Rattle.plan.specs.Copy.{Out}

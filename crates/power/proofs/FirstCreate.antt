@@ -28,7 +28,10 @@ use Rattle.directory.specs.declared.Seen.{Seen}
 use Rattle.directory.specs.Scan.{freeSeen, looking, lookOf, onLooked}
 use Rattle.table.specs.declared.Pick.{Pick}
 use Rattle.table.specs.declared.Pick.the-variants as free
-use Rattle.table.specs.Table.{freeStep, freeV, freeOf, onPick, distanceOf}
+use Rattle.table.specs.Table.{freeStep, freeV, onPick, distanceOf, walkFreeOf}
+use Rattle.table.specs.Free.{freeOf}
+use Rattle.table.proofs.Tells.{Mapped}
+use Rattle.table.proofs.Mapped.{mapped-free}
 use Rattle.plan.specs.declared.Edit.{Edit}
 use Rattle.plan.specs.declared.Edit.the-variants.{Create}
 use Rattle.plan.specs.Copy.{isFormat, created, Skipped, Distinct, EachSkipped, Step, Out, stepsOf}
@@ -65,7 +68,7 @@ pub record Opened (id : ℕ) (name vol : List ℕ) (m : Medium) (st : Store) (ov
   pub made : CommitMade (Create 0 id 0) name vol m st out
   pub is : c ≡ callOf (after ((record { kind = created; skipped = [] }) ∷ []) (openedOut (out .vol) (out .ans .medium) (out .ans .store) 0 id 0 0 (At 0) over))
 
-module _ (vol : List ℕ) (m : Medium) (st : Store) (inv : Inv vol st) (r : Readable vol m) (fresh : Fresh (diskOf vol st)) (start : st .head .cursor ≡ 0) where
+module _ (vol : List ℕ) (m : Medium) (st : Store) (inv : Inv vol st) (map : Mapped vol st) (r : Readable vol m) (fresh : Fresh (diskOf vol st)) (start : st .head .cursor ≡ 0) where
   -- ---- the first slot and the first chunk are free
 
   abbrev Roomy : ℕ → Seen → Type 0
@@ -110,13 +113,16 @@ module _ (vol : List ℕ) (m : Medium) (st : Store) (inv : Inv vol st) (r : Read
   some-picked k free.Nothing h p = absurd (omega arith)
   some-picked k (free.At c) h p = ap free.At p
 
-  free-fresh : freeOf vol m st ≡ free.At 0
-  unfolding freeOf
-  free-fresh =
+  walk-fresh : walkFreeOf vol m st ≡ free.At 0
+  unfolding walkFreeOf
+  walk-fresh =
       let x = table-views vol m st (inv-checked m inv r) (λ s. []) (fresh-good fresh) (freeV (st .head .cursor) (st .head .chunks)) Picked
       (λ c t h p e. picked-free c t p)
       (λ c l t h p e. absurd (free≢linked (fresh .links c h) e)) free.Nothing refl in
       x .1 ∙ some-picked (st .head .chunks) (x .0) (inv-held inv .head .chunks-least) (x .2)
+
+  free-fresh : freeOf vol m st ≡ free.At 0
+  free-fresh = let h = inv-held inv in mapped-free vol m st (h .head .cursor) (h .head .chunks-most) (h .map) map ∙ walk-fresh
 
   -- ---- create
 

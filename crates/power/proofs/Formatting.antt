@@ -19,6 +19,7 @@ use Rattle.layout.specs.Views.{diskOf}
 use Rattle.layout.specs.Changes.{Unchanged}
 use Rattle.layout.proofs.Unchanged.{fresh-good}
 use Rattle.views.proofs.Commits.{format-unchanged, format-fresh}
+use Rattle.views.proofs.Maps.{mapped-kept, zeroed-mapped}
 use Rattle.store.specs.Writing.{formatCall}
 use Rattle.power.specs.Calls.{format}
 use Rattle.power.specs.History.{World, isOk, ifOk, ran, fedBy, Clean, Given}
@@ -35,7 +36,16 @@ pub fresh-whole : {size : ℕ} {vol : List ℕ} {m : Medium} {o : Out} (b : Fine
     → Whole (o .vol) (o .ans .store) (λ s. []) b
 fresh-whole b n f i z made clean =
     let fresh = format-fresh made clean in
-    record { inv = made .inv; good = fresh-good fresh; ties = rw f (ties-fresh fresh); parts = parted-fresh (b .parts) fresh; next = n ∙ sym (made .next); ids = i ∙ sym (made .next); size = z ∙ sym (made .chunk-is) }
+    record {
+      inv = made .inv;
+      map = zeroed-mapped _ _ (made .body) (made .chunks-range .1) (made .free);
+      good = fresh-good fresh;
+      ties = rw f (ties-fresh fresh);
+      parts = parted-fresh (b .parts) fresh;
+      next = n ∙ sym (made .next);
+      ids = i ∙ sym (made .next);
+      size = z ∙ sym (made .chunk-is);
+    }
 
 module _ (m : Medium) (size seed : ℕ) (w : World) (b : Fine) where
   abbrev out : Out
@@ -85,7 +95,7 @@ module _ (m : Medium) (size seed : ℕ) (w : World) (b : Fine) where
       rw (refused-world q, refused-book q)
       (record {
         layout = k .layout;
-        whole = whole-same (k .whole) (f .inv (w .store) (k .whole .inv)) u;
+        whole = whole-same (k .whole) (f .inv (w .store) (k .whole .inv)) (mapped-kept (u .shape .chunks) (u .links) refl (k .whole .map)) u;
         owns = owns-same u refl (k .owns);
         readable = readable-still (w .vol) (out .vol) (f .used) (f .size) (g .0);
       })

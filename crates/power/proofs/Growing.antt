@@ -18,7 +18,8 @@ use Rattle.handles.specs.declared.Store.{Store}
 use Rattle.handles.specs.declared.Writer.the-variants.{Open}
 use Rattle.handles.specs.Handles.{isOpen, openId, tableOf}
 use Rattle.table.specs.declared.Pick.the-variants as free
-use Rattle.table.specs.Table.{freeOf, onPick}
+use Rattle.table.specs.Table.{onPick}
+use Rattle.table.specs.Free.{freeOf}
 use Rattle.plan.specs.declared.Edit.{Edit}
 use Rattle.plan.specs.declared.Edit.the-variants.{Extend}
 use Rattle.plan.specs.Edit.{headAfter}

@@ -59,3 +59,9 @@ pub mod Near
 pub mod Staged
 pub mod Rolled
 pub mod Dots
+pub mod Lasts
+pub mod Adds
+pub mod Hands
+pub mod Kept
+pub mod Fitted
+pub mod MapHolds

@@ -2,7 +2,7 @@
 use Prim.Native.Nat.{ℕ, _+_, _≤_, _<_}
 use mathlib.Core.Path.{_≡_, refl, sym, ap, _∙_, subst}
 use mathlib.Core.Logic.{_≢_}
-use mathlib.Core.Bool.{Bool, true, false}
+use mathlib.Core.Bool.{Bool, true, false, false≢true}
 use mathlib.Core.List.{List, [], _∷_}
 use native.Mathlib.Omega.{arith}
 use lib.Dec.{lit≤}
@@ -17,7 +17,8 @@ use Rattle.handles.specs.declared.Store.{Store}
 use Rattle.table.specs.declared.Link.{Link}
 use Rattle.table.specs.declared.LinkAt.the-variants as link
 use Rattle.table.specs.declared.Pick.the-variants as free
-use Rattle.table.specs.Table.{freeOf}
+use Rattle.table.specs.Free.{freeOf}
+use Rattle.table.proofs.Tells.{Mapped}
 use Rattle.plan.specs.declared.Edit.{Edit}
 use Rattle.plan.specs.declared.Edit.the-variants.{Extend}
 use Rattle.plan.specs.Edit.{Fits, plainLink}
@@ -26,7 +27,7 @@ use Rattle.commit.specs.Commit.{commitOf}
 use Rattle.append.specs.declared.Appender.{Appender}
 use Rattle.append.specs.Flush.{AppOut, done, stopped, after, movedTo, linkOut}
 use Rattle.safe.specs.Inv.{CommitMade}
-use Rattle.safe.proofs.Invs.{readable-still}
+use Rattle.safe.proofs.Invs.{readable-still, inv-held}
 use Rattle.safe.proofs.Commit.{commit-stopped, commit-made}
 use Rattle.safe.proofs.Unwritten.{commit-distinct}
 use Rattle.layout.specs.Views.{diskOf, linkView}
@@ -38,6 +39,7 @@ use Rattle.folds.proofs.Chunks.{free-chunk}
 use Rattle.views.specs.Edited.{Edited}
 use Rattle.views.proofs.Makes.{extended-partial, extended-full}
 use Rattle.views.proofs.Commits.{commit-edited}
+use Rattle.views.proofs.Maps.{edited-mapped}
 use Rattle.power.specs.Book as book
 use Rattle.power.specs.Book.{Terms}
 use Rattle.power.specs.History.{EachStep}
@@ -93,7 +95,7 @@ module _ {t : Terms} {vol : List ℕ} {m : Medium} {st : Store} {a : Appender} {
   mark = linkFor (st .head .chunk) (a .slot) (withSegment (G (a .slot)) c) (a .position)
 
   unused : (c < st .head .chunks) × (linkView vol st c ≡ link.Free)
-  unused = free-chunk vol m st found
+  unused = free-chunk vol m st (inv-held (l .whole .inv)) (l .whole .map) found
 
   last-link : linkView vol st (a .chunk) ≡ link.Linked (plainLink (a .slot) (a .position))
   last-link = rw (s .chunk) (last-linked (l .whole .good) (a .slot) (a .position) (s .below) (s .last))
@@ -114,12 +116,17 @@ module _ {t : Terms} {vol : List ℕ} {m : Medium} {st : Store} {a : Appender} {
   refused-live : {e : Error} → o .ans .outcome ≡ No e → Live t (o .vol) (o .ans .medium) (o .ans .store) a G b
   refused-live q = unmade-live l (commit-unmade (l .whole) (commit-stopped edit [] vol m st (l .whole .inv) (lit≤ tt) q))
 
+  -- a chunk that is marked was not full
+  fewer : (p : Bool) → p ≡ partial → Marks p records (length (segmentAt (G (a .slot)) (a .position) .payloads)) (st .head .chunk) → partial ≡ true → records < st .head .chunk
+  fewer true q k _ = let f : _ → ⊥ = k .1 in omega (arith, k .0, f, count-in (l .whole) s)
+  fewer false q k t = absurd (false≢true (q ∙ t))
+
   -- the change of the views
   change-by : {v : List ℕ} {u : Store} (p : Bool) → p ≡ partial → Marks p records (length (segmentAt (G (a .slot)) (a .position) .payloads)) (st .head .chunk)
       → Edited edit [] vol st v u
       → Extended (diskOf vol st) (diskOf v u) c (a .chunk) (plainLink (a .slot) (a .position + 1)) mark
   change-by true q k made =
-      let less : records < st .head .chunk = let f : _ → ⊥ = k .1 in omega (arith, k .0, f, count-in (l .whole) s) in
+      let less : records < st .head .chunk = fewer true q k (sym q) in
       rw (partial-mark (st .head .chunk) (a .slot) (G (a .slot)) c (a .position) (s .last) (k .1), ← k .0)
       (extended-partial (sane (l .whole) s) made (s .below) (fits .1) (unused .0) (chunk-in (l .whole) s) other (sym q) less)
   change-by false q k made =
@@ -136,12 +143,18 @@ module _ {t : Terms} {vol : List ℕ} {m : Medium} {st : Store} {a : Appender} {
     here : Extended (diskOf vol st) (diskOf (o .vol) (o .ans .store)) c (segmentAt (G (a .slot)) (a .position) .chunk) (plainLink (a .slot) (a .position + 1)) mark
     here = subst (λ (k : ℕ). Extended (diskOf vol st) (diskOf (o .vol) (o .ans .store)) c k (plainLink (a .slot) (a .position + 1)) mark) (s .chunk) change
 
+    linked-mapped : Mapped (o .vol) (o .ans .store)
+    linked-mapped =
+        edited-mapped [] vol st (o .vol) (o .ans .store) (sane (l .whole) s) edit (s .below, fits .1, unused .0, chunk-in (l .whole) s, fewer partial refl marks) (lit≤ tt)
+        (commit-edited made) (inv-held (l .whole .inv) .map) (l .whole .map)
+
     extended-live : Live t (o .vol) (o .ans .medium) (o .ans .store) (movedTo c a) H (entered t extended b)
     unfolding entered book.entered
     extended-live =
         record {
           whole = record {
             inv = made .inv;
+            map = linked-mapped;
             good = extend-good (a .slot) (a .position) (l .whole .good) (s .below) (s .entry) (s .last) (unused .0) (unused .1) refl here;
             ties = rw (s .file) (ties-extend (a .slot) (l .whole .good) (l .whole .ties) (s .below) (s .entry) change);
             parts = rw (s .file) (parted-extend (a .slot) (l .whole .good) (l .whole .parts) (s .below) (s .entry) change);

@@ -26,12 +26,13 @@ use Rattle.layout.proofs.Facts.{replaced-here}
 use Rattle.layout.proofs.Unchanged.{good-same}
 use Rattle.layout.proofs.Creates.{create-good}
 use Rattle.safe.specs.Inv.{CommitMade}
-use Rattle.safe.proofs.Invs.{inv-writer, readable-still}
+use Rattle.safe.proofs.Invs.{inv-writer, readable-still, inv-held}
 use Rattle.safe.proofs.Commit.{commit-stopped, commit-made}
 use Rattle.safe.proofs.Unwritten.{commit-distinct}
 use Rattle.views.proofs.Commits.{inv-sane, commit-edited}
 use Rattle.views.proofs.Makes
 use Rattle.views.proofs.Stays.{writer-unchanged}
+use Rattle.views.proofs.Maps.{edited-mapped, mapped-kept}
 use Rattle.power.specs.Book as book
 use Rattle.power.specs.Book.{Terms}
 use Rattle.power.specs.History.{World}
@@ -82,7 +83,7 @@ module _ (w : World) (b : Fine) (k : Keeps w b) (t : Terms) (slot chunk : ℕ) (
     with-new = openedFor (b .next + 1 - 1) (t .dir) (entered t created b)
 
     changes : Created (diskOf (w .vol) (w .store)) (diskOf (o .vol) (o .ans .store)) slot chunk (t .name)
-    changes = Makes.created (inv-sane (k .whole .inv)) (commit-edited c) hs hc ok refl small
+    changes = Makes.created (inv-sane (k .whole .inv)) (commit-edited c) hs hc (name-short (t .name) ok) ok refl small
 
     stays : Unchanged (diskOf (o .vol) (o .ans .store)) (diskOf (o .vol) st)
     stays = writer-unchanged (o .vol) (o .ans .store) st refl refl
@@ -91,7 +92,10 @@ module _ (w : World) (b : Fine) (k : Keeps w b) (t : Terms) (slot chunk : ℕ) (
     unfolding entered book.entered
     made-whole =
         record {
-          inv = inv-writer refl refl (c .inv);
+          inv = inv-writer refl refl refl (c .inv);
+          map = mapped-kept refl (stays .links) refl
+              (edited-mapped (t .name) (w .vol) (w .store) (o .vol) (o .ans .store) (inv-sane (k .whole .inv)) (Create slot id chunk) (hs, hc) (name-short (t .name) ok) (commit-edited c)
+              (inv-held (k .whole .inv) .map) (k .whole .map));
           good = good-same (create-good (k .whole .good) hs vac (λ s m i h e q. new s i h (rw q at e)) hc isFree changes) stays;
           ties = rw (k .whole .next) (ties-same (ties-create (k .whole .good) (k .whole .ties) hs vac changes) stays);
           parts = rw (k .whole .ids) (parted-same (parted-create (k .whole .good) (k .whole .parts) changes) stays);

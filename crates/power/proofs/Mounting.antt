@@ -16,11 +16,11 @@ unfolding written fedBy ran enteredAll beforeSteps book.beforeSteps afterSteps b
 mount-book m w b = pick-same _ b
 
 mount-world : (m : Medium) (w : World) (b : Fine) → Keeps w b → Readable (w .vol) m
-    → ran w (mount m) .world ≡ record { vol = w .vol; store = asMounted (w .store); appender = w .appender; medium = m }
+    → ran w (mount m) .world ≡ record { vol = w .vol; store = asMounted (w .vol) m (w .store); appender = w .appender; medium = m }
 unfolding ran
 mount-world m w b k r = rw (mount-gives (w .vol) m (w .store) (k .whole .inv) r)
 
 pub mount-keeps : (m : Medium) (w : World) (b : Fine) → Keeps w b → Readable (w .vol) m → Keeps (ran w (mount m) .world) (written (mount m) (fedBy w (mount m)) b)
 mount-keeps m w b k r =
     rw (mount-world m w b k r, mount-book m w b)
-    (record { layout = k .layout; whole = whole-mounted (k .whole); owns = owns-none refl; readable = r })
+    (record { layout = k .layout; whole = whole-mounted m (k .whole); owns = owns-none refl; readable = r })

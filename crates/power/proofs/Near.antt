@@ -33,8 +33,10 @@ use Rattle.directory.specs.Entry.{entryAt}
 use Rattle.directory.specs.Scan.{oldestOf}
 use Rattle.directory.proofs.Ranges.{oldest-file}
 use Rattle.table.specs.declared.Pick.the-variants as free
-use Rattle.table.specs.Table.{freeOf, onPick}
+use Rattle.table.specs.Table.{onPick}
+use Rattle.table.specs.Free.{freeOf}
 use Rattle.table.proofs.Decides.{onPick-keeps}
+use Rattle.table.proofs.Tells.{Mapped}
 use Rattle.record.specs.Record.{numberAt, dataAt, recordOf, writeRecordOf}
 use Rattle.record.proofs.Laws.{data-inside}
 use Rattle.record.proofs.RoundTrip.{length-record}
@@ -59,6 +61,8 @@ use Rattle.safe.proofs.Frame.{clash}
 use Rattle.layout.specs.Views.{named, entryView, diskOf}
 use Rattle.views.proofs.Makes.{extended-entries, extended-more}
 use Rattle.views.proofs.Stays.{entries-stay, links-stay, writer-unchanged}
+use Rattle.views.proofs.Maps.{Fitting, edited-mapped, mapped-kept}
+use Rattle.views.specs.Edited.{Edited}
 use Rattle.folds.proofs.Chunks.{free-chunk}
 use Rattle.power.specs.History.{EachStep, Honest}
 use Rattle.power.specs.Near.{StaysNear}
@@ -68,7 +72,7 @@ use Rattle.power.proofs.Positions.{Carries, honest, distinct, Near, lin
 
 module _ {P : Skipped → Type 0} {Fine : List ℕ → Store → Type 0} (rules : Carries P Fine) where
   abbrev Going : List ℕ → Store → Appender → Type 0
-  Going vol st a = Fine vol st × Near (diskOf vol st) (a .slot) (a .position)
+  Going vol st a = (Fine vol st × Mapped vol st) × Near (diskOf vol st) (a .slot) (a .position)
 
   -- of what a part of the call gives
   abbrev Kept : AppOut → Type 0
@@ -96,6 +100,11 @@ module _ {P : Skipped → Type 0} {Fine : List ℕ → Store → Type 0} (rules 
     few : a .position ≤ 6143
     few = near-few (diskOf vol st) (a .slot) (a .position) (sane .chunks-most) (going .1)
 
+    -- S-3: the map still tells the table
+    after-edit : (e : Edit) → Fitting st e → Edited e [] vol st (commitOf e [] vol m st .vol) (commitOf e [] vol m st .ans .store)
+        → Mapped (commitOf e [] vol m st .vol) (commitOf e [] vol m st .ans .store)
+    after-edit e f done = edited-mapped [] vol st _ _ sane e f (lit≤ tt) done (store-facts st (sectorsOf vol) (good .ok) .map) (going .0 .1)
+
     no : (v : List ℕ) (u : Medium) (s : Store) (e : Error) → KeptIf (stopped v u s a e)
     no v u s e _ = (few, λ d. clash refl d)
 
@@ -114,10 +123,10 @@ module _ {P : Skipped → Type 0} {Fine : List ℕ → Store → Type 0} (rules 
 
         linked-near : o .ans .outcome ≡ Done → EachSkipped P (o .skipped) → Going (o .vol) (o .ans .store) (movedTo c a)
         linked-near q each =
-            let unused = free-chunk vol m st found in
+            let unused = free-chunk vol m st (store-facts st (sectorsOf vol) (good .ok)) (going .0 .1) found in
             let hp : a .position + 1 < 32768 = omega (arith, few) in
-            let r = rules .commit edit vol m st good (fit .slot, hp, unused .0, fit .chunk, small) (going .0) q each in (
-              r .1,
+            let r = rules .commit edit vol m st good (fit .slot, hp, unused .0, fit .chunk, small) (going .0 .0) q each in (
+              (r .1, after-edit edit (fit .slot, hp, unused .0, fit .chunk, fewer) (r .0)),
               near-on (diskOf vol st) (diskOf (o .vol) (o .ans .store)) (a .slot) (a .position) (a .position + 1) 1 chunks
                   (λ e. extended-entries sane (r .0) (fit .slot) hp (unused .0) (fit .chunk) (a .slot) (fit .slot) ∙ e)
                   (extended-more sane (r .0) (fit .slot) hp (unused .0) (fit .chunk) fewer (unused .1)) (le-refl (a .position + 1)) (going .1),
@@ -148,10 +157,10 @@ module _ {P : Skipped → Type 0} {Fine : List ℕ → Store → Type 0} (rules 
         onDone-keeps (λ (x : Out). x .ans .outcome ≡ Done → EachSkipped P (x .skipped) → Going (x .vol) (x .ans .store) a) (made slot .ans .outcome) _ _
         (λ d _ each.
         let t : Store = made slot .ans .store in
-        let r = rules .commit (Remove slot) vol m st good below (going .0) d each in
+        let r = rules .commit (Remove slot) vol m st good below (going .0 .0) d each in
         let k = commit-stands (Remove slot) [] vol m st good (lit≤ tt) .chunks in
         let u = writer-unchanged (made slot .vol) t (closedFor id t) refl refl in (
-          rules .writer (made slot .vol) t (closedFor id t) refl refl (r .1),
+          (rules .writer (made slot .vol) t (closedFor id t) refl refl refl (r .1), mapped-kept refl (u .links) refl (after-edit (Remove slot) below (r .0))),
           near-same (diskOf (made slot .vol) t) (diskOf (made slot .vol) (closedFor id t)) (a .slot) (a .position) (fit .slot) refl (u .entries) (u .links)
               (near-gone vol st sane slot below was (made slot .vol) t k (r .0) (a .slot) (a .position) (fit .slot) (going .1)),
         ))
@@ -235,7 +244,7 @@ module _ {P : Skipped → Type 0} {Fine : List ℕ → Store → Type 0} (rules 
       let body : (k : ℕ) → k < bodyOf (st .head .chunks) → sectorAt (w .vol) (bodyAt st k) ≡ sectorAt vol (bodyAt st k)
       = λ k l. same (bodyAt st k) (omega (arith, base-most (st .copy), fine .chunks-most)) in
       let on : Going (w .vol) st a = (
-        rules .beyond vol (w .vol) st (kept .size) same (going .0),
+        (rules .beyond vol (w .vol) st (kept .size) same (going .0 .0), mapped-kept {st = st} {t = st} refl (links-stay vol st (w .vol) st refl refl body) refl (going .0 .1)),
         near-same (diskOf vol st) (diskOf (w .vol) st) (a .slot) (a .position) (fit .slot) refl (entries-stay vol st (w .vol) st body)
             (links-stay vol st (w .vol) st refl refl body) (going .1),
       ) in
@@ -294,7 +303,7 @@ module _ {P : Skipped → Type 0} {Fine : List ℕ → Store → Type 0} (rules 
 
   -- an appender that passes number 3, a call, and where its appender stands after it
   module _ (vol : List ℕ) (m : Medium) (st : Store) (a : Appender) (full : length (a .buffer) ≡ 486) (count : length (st .head .crcs) ≡ 24)
-      (ok : appenderOk a st ≡ true) (fine : Fine vol st) where
+      (ok : appenderOk a st ≡ true) (map : Mapped vol st) (fine : Fine vol st) where
     call-near : (o : AppOut) → (May vol st a → Good vol st → Going vol st a → KeptIf o)
         → StaysNear P (offered vol m st a o)
     unfolding offered
@@ -303,7 +312,7 @@ module _ {P : Skipped → Type 0} {Fine : List ℕ → Store → Type 0} (rules 
         onDone-keeps (StaysNear P) (mayWrite vol st a) (callOf o) _
         (λ q each.
         let y : May vol st a = may-facts vol st a full q in
-        work y (record { ok = y .ok; count = count }) (fine, linked (omega arith)) each .0)
+        work y (record { ok = y .ok; count = count }) ((fine, map), linked (omega arith)) each .0)
         (λ e _ _. omega arith)
 
     append-low : (bytes : List ℕ) → StaysNear P (appendCall vol m st a bytes)
@@ -317,17 +326,17 @@ module _ {P : Skipped → Type 0} {Fine : List ℕ → Store → Type 0} (rules 
 -- ---- the laws
 
 module _ (vol : List ℕ) (m : Medium) (st : Store) (a : Appender) (full : length (a .buffer) ≡ 486) (count : length (st .head .crcs) ≡ 24)
-    (ok : appenderOk a st ≡ true) where
+    (ok : appenderOk a st ≡ true) (map : Mapped vol st) where
   -- on any volume: each body sector that the call left unwritten held the bytes due there
   pub append-near : (bytes : List ℕ) → StaysNear Honest (appendCall vol m st a bytes)
-  append-near = append-low honest vol m st a full count ok tt
+  append-near = append-low honest vol m st a full count ok map tt
 
   pub sync-near : StaysNear Honest (syncCall vol m st a)
-  sync-near = sync-low honest vol m st a full count ok tt
+  sync-near = sync-low honest vol m st a full count ok map tt
 
   -- between the calls: none of them had the checksum of the bytes due, and other bytes
   pub append-near-weaker : Inv vol st → (bytes : List ℕ) → StaysNear Distinct (appendCall vol m st a bytes)
-  append-near-weaker inv = append-low distinct vol m st a full count ok inv
+  append-near-weaker inv = append-low distinct vol m st a full count ok map inv
 
   pub sync-near-weaker : Inv vol st → StaysNear Distinct (syncCall vol m st a)
-  sync-near-weaker inv = sync-low distinct vol m st a full count ok inv
+  sync-near-weaker inv = sync-low distinct vol m st a full count ok map inv

@@ -1,5 +1,5 @@
 -- 02, S-7: after a format, refused or accepted, a mount gives the old store or the new. Assumes nothing.
-use mathlib.Core.Path.{_≡_, refl, sym, _∙_, subst}
+use mathlib.Core.Path.{_≡_, refl, sym, _∙_, subst, ap}
 use mathlib.Core.Bool.{Bool, true, false, _||_}
 use mathlib.Core.List.{List}
 use Prim.Native.Nat.{ℕ, _+_, _<_, _≤_}
@@ -9,9 +9,9 @@ use Rattle.le.proofs.Choices.{pick-keeps-by}
 use Rattle.medium.specs.declared.Medium.{Medium}
 use Rattle.medium.specs.declared.Outcome.{Outcome}
 use Rattle.medium.specs.declared.Outcome.the-variants.{Done, No}
-use Rattle.medium.specs.Refusal.{onDone}
+use Rattle.medium.specs.Refusal.{onDone, ok}
 use Rattle.medium.specs.Sector.{sectorsOf, sectorAt}
-use Rattle.medium.proofs.Laws.{done-told, not-done}
+use Rattle.medium.proofs.Laws.{done-told, not-done, onDone-done}
 use Rattle.handles.specs.declared.Store.{Store}
 use Rattle.handles.specs.declared.Writer.the-variants.{Nobody}
 use Rattle.handles.specs.Body.{bodyAt}
@@ -33,18 +33,22 @@ use Rattle.safe.proofs.Bodies.{copy-most}
 use Rattle.safe.proofs.Current.{stands-mount, current-stands}
 use Rattle.safe.proofs.Format.{format-stopped, format-bytes}
 use Rattle.reader.proofs.Frame.{next-frame, seek-frame}
-use Rattle.store.specs.Reading.{mountCall}
+use Rattle.store.specs.Reading.{mountCall, filledOf}
 use Rattle.store.specs.Writing.{formatCall}
 use Rattle.store.proofs.Frame.{find-frame, list-frame, reader-frame}
+use Rattle.store.proofs.Mounts.{map-again}
 use Rattle.power.specs.OldOrNew.{MountGives, SameReadings, OldOrNew, AfterFormat, ValidMounts}
+use Rattle.freemap.specs.declared.FreeMap.{FreeMap}
 
 -- mount gives the store whose copy stands
 stands-gives : (vol : List ℕ) (st : Store) → st .writer ≡ Nobody → Stands vol (st .copy) (st .head) → MountGives vol st
-unfolding mountCall
-stands-gives vol st w s u r = rw (stands-mount vol (st .head) u (r .0) (r .1) (st .copy) s, sym w)
+unfolding mountCall onDone
+stands-gives vol st w s u r =
+    rw (stands-mount vol (st .head) u (r .0) (r .1) (st .copy) s, sym w)
+    (ap (λ (x : FreeMap). record { answer = ok tt; store = record { copy = st .copy; head = st .head; writer = st .writer; free = x }; medium = u }) (map-again vol u st _ refl refl))
 
 -- and the store of an accepted mount is one
-mount-stands : (vol : List ℕ) (u : Medium) → mountOf vol u .outcome ≡ Done → (mountOf vol u .store .writer ≡ Nobody) × Stands vol (mountOf vol u .store .copy) (mountOf vol u .store .head)
+pub mount-stands : (vol : List ℕ) (u : Medium) → mountOf vol u .outcome ≡ Done → (mountOf vol u .store .writer ≡ Nobody) × Stands vol (mountOf vol u .store .copy) (mountOf vol u .store .head)
 mount-stands vol u q =
     let t = mount-current vol u q in
     subst (λ (r : Mounted). (r .store .writer ≡ Nobody) × Stands vol (r .store .copy) (r .store .head)) (sym (t .1)) (refl, current-stands vol u (t .0))
@@ -91,8 +95,10 @@ module _ (vol : List ℕ) (m : Medium) (size seed : ℕ) (st : Store) (w : st .w
 pub old-or-new : AfterFormat
 unfolding mountCall
 old-or-new vol u m size seed bytes a =
-    let t = mount-stands vol u (done-told (mountOf vol u .outcome) a) in
-    by-outcome vol m size seed (mountOf vol u .store) (t .0) (t .1) bytes (formatOf size seed vol m .ans .outcome) refl
+    let d = done-told (mountOf vol u .outcome) a in
+    let t = mount-stands vol u d in
+    rw (onDone-done (filledOf vol u (mountOf vol u .store)) (λ e. mountOf vol u .store) d)
+    (by-outcome vol m size seed (filledOf vol u (mountOf vol u .store)) (t .0) (t .1) bytes (formatOf size seed vol m .ans .outcome) refl)
 
 -- ---- 02's words for such a volume
 

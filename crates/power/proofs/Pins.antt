@@ -109,5 +109,5 @@ reads-as-set w b k cs p z f mem u r n to g i e m q =
     rw is (
       reads-so w b′ (k .keeps) cs z f mem′ (after w cs .store) (h .layout) (h .whole) g i′ e m q,
       rw (mount-gives (after w cs .vol) m (after w cs .store) (h .whole .inv) q)
-          (reads-so w b′ (k .keeps) cs z f mem′ (asMounted (after w cs .store)) (h .layout) (whole-mounted (h .whole)) g i′ e m q),
+          (reads-so w b′ (k .keeps) cs z f mem′ (asMounted (after w cs .vol) m (after w cs .store)) (h .layout) (whole-mounted m (h .whole)) g i′ e m q),
     )

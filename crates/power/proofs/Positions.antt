@@ -40,7 +40,7 @@ pub record Carries (P : Skipped → Type 0) (Fine : List ℕ → Store → Type 
       → Edited edit [] vol st (commitOf edit [] vol m st .vol) (commitOf edit [] vol m st .ans .store)
       × Fine (commitOf edit [] vol m st .vol) (commitOf edit [] vol m st .ans .store)
   pub beyond : (vol v : List ℕ) (st : Store) → length v ≡ length vol → ((j : ℕ) → j < 64 → sectorAt v j ≡ sectorAt vol j) → Fine vol st → Fine v st
-  pub writer : (vol : List ℕ) (st su : Store) → su .copy ≡ st .copy → su .head ≡ st .head → Fine vol st → Fine vol su
+  pub writer : (vol : List ℕ) (st su : Store) → su .copy ≡ st .copy → su .head ≡ st .head → su .free ≡ st .free → Fine vol st → Fine vol su
 
 -- in the customer's words nothing is asked of the volume
 pub honest : Carries Honest (λ vol st. Unit)
@@ -48,7 +48,7 @@ honest =
     record {
       commit = λ edit vol m st good fits _ q each. (due-edited (commit-due edit [] vol m st q (good .ok) (good .count) (lit≤ tt) each), tt);
       beyond = λ vol v st size same _. tt;
-      writer = λ vol st su c h _. tt;
+      writer = λ vol st su c h f _. tt;
     }
 
 pub distinct : Carries Distinct Inv
@@ -58,7 +58,7 @@ distinct =
           let made = commit-made edit [] vol m st inv (lit≤ tt) fits (commit-distinct edit [] vol m st q each) q in
           (commit-edited made, made .inv);
       beyond = λ vol v st size same inv. inv-beyond vol v st inv size same;
-      writer = λ vol st su c h inv. inv-writer c h inv;
+      writer = λ vol st su c h f inv. inv-writer c h f inv;
     }
 
 -- ---- the bound: 2,047 and the chunks of the slot; once the slot was freed, and its entry with it, as many again as there are

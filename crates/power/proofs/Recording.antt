@@ -1,6 +1,6 @@
 -- A record written at the end of an appender's file: a payload more in its last segment, and in the book. Assumes nothing.
 use Prim.Native.Nat.{ℕ, _+_, _*_, _^_, _≤_, _<_}
-use mathlib.Core.Path.{_≡_, sym, ap, _∙_, subst}
+use mathlib.Core.Path.{_≡_, sym, ap, _∙_, subst, refl}
 use mathlib.Core.List.{List, [], _∷_, _++_, append-nil}
 use native.Mathlib.Omega.{arith}
 use lib.ListN.{length, take, drop, length-append, drop-of-length-le}
@@ -28,6 +28,7 @@ use Rattle.layout.specs.Changes.{replaced, Recorded}
 use Rattle.layout.proofs.Facts.{replaced-here, length-payload}
 use Rattle.layout.proofs.Records.{record-good}
 use Rattle.views.proofs.Stays.{write-recorded}
+use Rattle.views.proofs.Maps.{mapped-kept}
 use Rattle.power.specs.Book as book
 use Rattle.power.specs.Book.{Terms}
 use Rattle.power.proofs.Fine.{Fine, entered, enteredAll}
@@ -126,6 +127,7 @@ module _ {t : Terms} {vol : List ℕ} {m : Medium} {st : Store} {a : Appender} {
     recorded-whole =
         record {
           inv = inv-record vol m (dataAt st (a .chunk) i) bytes st (l .whole .inv) far inside whole-sector;
+          map = mapped-kept {st = st} {t = st} refl (change .links) refl (l .whole .map);
           good = record-good (a .slot) (a .position) (l .whole .good) (s .below) (s .entry) (s .last) at-end room change;
           ties = rw (s .file, s .unwritten, r .takes) (ties-record (a .slot) (a .position) (l .whole .good) (l .whole .ties) (s .below) (s .entry) (s .last) change);
           parts = rw (s .file, s .unwritten, r .takes) (parted-record (a .slot) (a .position) (l .whole .good) (l .whole .parts) (s .below) (s .entry) (s .last) change);

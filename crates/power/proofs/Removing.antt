@@ -6,7 +6,7 @@ use mathlib.Core.Logic.{_≢_}
 use mathlib.Core.List.{List, []}
 use native.Mathlib.Omega.{arith}
 use borrow.Author.Tests.{eqb-false}
-use lib.Dec.{eqb}
+use lib.Dec.{eqb, lit≤}
 use lib.ListN.{length}
 use Rattle.le.proofs.Choices.{pick-keeps-by}
 use Rattle.medium.specs.declared.Error.{Error}
@@ -31,12 +31,13 @@ use Rattle.layout.proofs.Unchanged.{good-same}
 use Rattle.layout.proofs.Removes.{remove-good}
 use Rattle.safe.specs.Inv.{CommitMade}
 use Rattle.safe.proofs.Frame.{clash}
-use Rattle.safe.proofs.Invs.{inv-writer, readable-still}
+use Rattle.safe.proofs.Invs.{inv-writer, readable-still, inv-held}
 use Rattle.safe.proofs.Commit.{commit-stopped, commit-made}
 use Rattle.safe.proofs.Unwritten.{commit-distinct}
 use Rattle.views.proofs.Commits.{inv-sane, commit-edited}
 use Rattle.views.proofs.Removes.{removed}
 use Rattle.views.proofs.Stays.{writer-unchanged}
+use Rattle.views.proofs.Maps.{edited-mapped, mapped-kept}
 use Rattle.power.specs.Book.{File, keep}
 use Rattle.medium.specs.Frame.{Spends}
 use Rattle.medium.specs.Sector.{Readable}
@@ -120,7 +121,9 @@ module _ (vol : List ℕ) (m : Medium) (st : Store) (G : ℕ → List Segment) (
         let n : Unchanged (diskOf (made .vol) t) (diskOf (made .vol) (closedFor id t)) = writer-unchanged (made .vol) t (closedFor id t) refl refl in
         record {
           whole = record {
-            inv = inv-writer refl refl (c .inv);
+            inv = inv-writer refl refl refl (c .inv);
+            map = mapped-kept refl (n .links) refl
+                (edited-mapped [] vol st (made .vol) t (inv-sane (w .inv)) (Remove s) hs (lit≤ tt) (commit-edited c) (inv-held (w .inv) .map) (w .map));
             good = good-same (remove-good (w .good) hs r) n;
             ties = ties-same (ties-remove (w .good) (w .ties) hs is r) n;
             parts = parted-same (parted-remove (w .parts) r) n;

@@ -45,6 +45,7 @@ use Rattle.layout.specs.Changes.{Unchanged}
 use Rattle.layout.proofs.Facts.{case, one-place, same-id}
 use Rattle.layout.proofs.Judged.{stored-judged, judged-other}
 use Rattle.views.proofs.Stays.{writer-unchanged}
+use Rattle.views.proofs.Maps.{mapped-kept}
 use Rattle.folds.proofs.Chains.{chain-view}
 use Rattle.folds.proofs.Named.{find-there, find-view}
 use Rattle.store.specs.Opening.{openFine, rolloverOf}
@@ -248,8 +249,8 @@ module _ (rules : Rules) (left : ℕ) (name : List ℕ) (rolls : Bool) (dir : Li
 
     opened-whole : Whole (w .vol) served (k .layout) begun
     opened-whole =
-        let x = whole-same (k .whole) (inv-writer refl refl (k .whole .inv)) same-views in
-        record { inv = x .inv; good = x .good; ties = x .ties; parts = x .parts; next = x .next; ids = x .ids; size = x .size }
+        let x = whole-same (k .whole) (inv-writer refl refl refl (k .whole .inv)) (mapped-kept refl (same-views .links) refl (k .whole .map)) same-views in
+        record { inv = x .inv; map = x .map; good = x .good; ties = x .ties; parts = x .parts; next = x .next; ids = x .ids; size = x .size }
 
     opened-keeps : Kept
     opened-keeps =

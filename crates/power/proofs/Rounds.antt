@@ -19,7 +19,8 @@ use Rattle.directory.specs.declared.Seen.{Seen}
 use Rattle.directory.specs.Scan.{onLooked}
 use Rattle.table.specs.declared.Pick.{Pick}
 use Rattle.table.specs.declared.Pick.the-variants as free
-use Rattle.table.specs.Table.{freeOf, onPick}
+use Rattle.table.specs.Table.{onPick}
+use Rattle.table.specs.Free.{freeOf}
 use Rattle.plan.specs.declared.Edit.the-variants.{Create}
 use Rattle.plan.specs.Copy.{created, Step, Out}
 use Rattle.commit.specs.Commit.{commitOf}
@@ -39,6 +40,7 @@ use Rattle.power.proofs.Whole.{Whole}
 use Rattle.power.proofs.Checks.{inv-checked}
 use Rattle.power.proofs.Creates.{steps-done}
 use Rattle.power.proofs.Counting.{vacancy, vacant-fewer, room, free-fewer}
+use Rattle.safe.proofs.Invs.{inv-held}
 
 -- ---- a file made
 
@@ -63,7 +65,7 @@ module _ (vol : List ℕ) (m : Medium) (st : Store) {G : ℕ → List Segment} {
   Picks = Free vol m st checked G (w .good) (st .head .chunks)
 
   pub found : chunksIn (b .files) < st .head .chunks → (c : ℕ) × (freeOf vol m st ≡ free.At c)
-  found few = go (freeOf vol m st) refl (free-found vol m st checked G (w .good))
+  found few = go (freeOf vol m st) refl (free-found vol m st checked G (w .good) (inv-held (w .inv)) (w .map))
     where
       go : (p : Pick) → freeOf vol m st ≡ p → Picks p → (c : ℕ) × (freeOf vol m st ≡ free.At c)
       go (free.Refused e) q f = absurd f
@@ -71,7 +73,7 @@ module _ (vol : List ℕ) (m : Medium) (st : Store) {G : ℕ → List Segment} {
       go (free.At c) q f = (c, q)
 
   pub none-found : chunksIn (b .files) ≡ st .head .chunks → freeOf vol m st ≡ free.Nothing
-  none-found all = go (freeOf vol m st) refl (free-found vol m st checked G (w .good))
+  none-found all = go (freeOf vol m st) refl (free-found vol m st checked G (w .good) (inv-held (w .inv)) (w .map))
     where
       go : (p : Pick) → freeOf vol m st ≡ p → Picks p → freeOf vol m st ≡ free.Nothing
       go (free.Refused e) q f = absurd f

@@ -123,7 +123,7 @@ module _ (n size seed : ℕ) (m : Medium) (ap₀ : Appender) (enough : 64 ≤ n 
         → (createBy rules (start .vol) (withLeft left (start .medium)) (start .store) name false [] .call .answer ≡ refused 4)
         × (createBy rules (start .vol) (withLeft left (start .medium)) (start .store) name false [] .steps ≡ [])
     stopped h =
-        create-stopped (start .vol) (withLeft left (start .medium)) (start .store) (start-keeps .keeps .whole .inv) (start-keeps .keeps .readable) start-fresh start-cursor name fine start-less
+        create-stopped (start .vol) (withLeft left (start .medium)) (start .store) (start-keeps .keeps .whole .inv) (start-keeps .keeps .whole .map) (start-keeps .keeps .readable) start-fresh start-cursor name fine start-less
         (λ e. let z : 1 ≡ 2 ^ 32 - 1 = sym start-next ∙ e in omega (arith, z)) start-alone rules false [] allows set (rw start-chunks h)
 
     stopped-run : left < needed → (ran start making .accepted ≡ false) × (ran start making .steps ≡ [])
@@ -148,7 +148,7 @@ module _ (n size seed : ℕ) (m : Medium) (ap₀ : Appender) (enough : 64 ≤ n 
       pub opened : Opened 1 name (start .vol) (withLeft left (start .medium)) (start .store) (rolloverOf false []) (createBy rules (start .vol) (withLeft left (start .medium)) (start .store) name false [])
       opened =
           subst (λ (id : ℕ). Opened id name (start .vol) (withLeft left (start .medium)) (start .store) (rolloverOf false []) (createBy rules (start .vol) (withLeft left (start .medium)) (start .store) name false [])) start-next
-          (create-made (start .vol) (withLeft left (start .medium)) (start .store) (start-keeps .keeps .whole .inv) (start-keeps .keeps .readable) start-fresh start-cursor name fine start-less
+          (create-made (start .vol) (withLeft left (start .medium)) (start .store) (start-keeps .keeps .whole .inv) (start-keeps .keeps .whole .map) (start-keeps .keeps .readable) start-fresh start-cursor name fine start-less
           (λ e. let z : 1 ≡ 2 ^ 32 - 1 = sym start-next ∙ e in omega (arith, z)) start-alone rules false [] allows set (rw start-chunks h))
 
       pub create-enough : createBy rules (start .vol) (withLeft left (start .medium)) (start .store) name false [] .call .answer ≡ ok tt

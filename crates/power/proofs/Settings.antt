@@ -16,7 +16,7 @@ use Rattle.medium.specs.declared.Outcome.the-variants.{Done, No}
 use Rattle.medium.specs.Refusal.{onDone}
 use Rattle.medium.proofs.Laws.{onDone-keeps}
 use Rattle.handles.specs.declared.Store.{Store}
-use Rattle.table.specs.Table.{freeOf}
+use Rattle.table.specs.Free.{freeOf}
 use Rattle.table.proofs.Decides.{onPick-keeps}
 use Rattle.plan.specs.Copy.{Kind, extended, recorded, Out, stepsOf}
 use Rattle.append.specs.declared.Appender.{Appender}

@@ -24,11 +24,14 @@ use Rattle.directory.specs.Scan.{onFound}
 use Rattle.table.specs.declared.ChainParts.{ChainParts}
 use Rattle.table.specs.declared.Chained.the-variants as chained
 use Rattle.table.specs.Table.{Counted, countOf, chainOf, onChain}
+use Rattle.table.specs.Free.{mapAt}
+use Rattle.table.specs.Link.{linkPart}
+use Rattle.table.proofs.Tells.{mount-fair}
 use Rattle.directory.specs.Entry.{entryAt}
 use Rattle.reader.specs.declared.Reader.{Reader}
 use Rattle.reader.specs.Reader.{startOf}
 use Rattle.safe.specs.Inv.{Inv}
-use Rattle.safe.proofs.Invs.{reads, inv-mount, inv-writer}
+use Rattle.safe.proofs.Invs.{reads, inv-held, inv-mount, inv-map}
 use Rattle.layout.specs.Views.{named, diskOf}
 use Rattle.layout.specs.Segments.{Segment, segmentAt, payloadsOf}
 use Rattle.layout.proofs.Facts.{case}
@@ -49,25 +52,33 @@ use Rattle.reading.proofs.Upto.{reads-below}
 use Rattle.store.specs.Asked.{askedOf}
 use Rattle.store.specs.Reading.{StoreCall, mountCall, ListCall, listAt, listCall, ReaderCall, readerAnswer, readerCall}
 use Rattle.store.proofs.Lists.{long-enough, rows-told}
+use Rattle.store.proofs.Mounts.{map-again}
 use Rattle.power.specs.Book.{File}
 use Rattle.power.specs.Claim.{Shows, Holds}
 use Rattle.power.proofs.Fine.{Fine, forget}
 use Rattle.power.proofs.Whole.{fileOf, Whole}
 use Rattle.power.proofs.Checks.{inv-checked}
 use Rattle.power.proofs.Unmade.{whole-same}
+use Rattle.freemap.specs.declared.FreeMap.{FreeMap}
 
 -- ---- mount
 
 -- the store value that mount gives: no one writes to it
-abbrev pub asMounted : Store → Store
-asMounted st = record { copy = st .copy; head = st .head; writer = Nobody }
+abbrev pub asMounted : List ℕ → Medium → Store → Store
+asMounted vol m st = record { copy = st .copy; head = st .head; writer = Nobody; free = mapAt vol m st }
 
-pub mount-gives : (vol : List ℕ) (m : Medium) (st : Store) → Inv vol st → Readable vol m → mountCall vol m ≡ record { answer = ok tt; store = asMounted st; medium = m }
-unfolding mountCall
-mount-gives vol m st inv r = rw (inv-mount vol m st inv r)
+pub mount-gives : (vol : List ℕ) (m : Medium) (st : Store) → Inv vol st → Readable vol m → mountCall vol m ≡ record { answer = ok tt; store = asMounted vol m st; medium = m }
+unfolding mountCall onDone
+mount-gives vol m st inv r =
+    rw (inv-mount vol m st inv r)
+    (ap (λ (x : FreeMap). record { answer = ok tt; store = record { copy = st .copy; head = st .head; writer = Nobody; free = x }; medium = m }) (map-again vol m st _ refl refl))
 
-pub whole-mounted : {vol : List ℕ} {st : Store} {G : ℕ → List Segment} {b : Fine} → Whole vol st G b → Whole vol (asMounted st) G b
-whole-mounted {vol} {st} w = whole-same w (inv-writer refl refl (w .inv)) (writer-unchanged vol st (asMounted st) refl refl)
+pub whole-mounted : {vol : List ℕ} {st : Store} {G : ℕ → List Segment} {b : Fine} (m : Medium) → Whole vol st G b → Whole vol (asMounted vol m st) G b
+unfolding linkPart
+whole-mounted {vol} {st} m w =
+    let f = mount-fair vol m st (inv-held (w .inv) .head .chunks-most) in
+    whole-same w (inv-map refl refl (f .ok) (w .inv)) (λ q. let t = f .tells q in record { sound = λ c h. t .sound c h; bits = λ c h. t .bits c h })
+    (writer-unchanged vol st (asMounted vol m st) refl refl)
 
 -- ---- the listing and the readers, by any store value on which the invariant holds
 
@@ -210,6 +221,6 @@ pub shown : (vol : List ℕ) (st : Store) (G : ℕ → List Segment) (b : Fine) 
 shown vol st G b w =
     record {
       mounted = λ m r. ap (λ (c : StoreCall). c .answer) (mount-gives vol m st (w .inv) r);
-      listed = λ m r counts rows c d. rw (mount-gives vol m st (w .inv) r) (lists vol m (asMounted st) G b (whole-mounted w) r counts rows c d);
-      reads = λ m r f mem. rw (mount-gives vol m st (w .inv) r) (each-reads vol m (asMounted st) G b (whole-mounted w) r f mem);
+      listed = λ m r counts rows c d. rw (mount-gives vol m st (w .inv) r) (lists vol m (asMounted vol m st) G b (whole-mounted m w) r counts rows c d);
+      reads = λ m r f mem. rw (mount-gives vol m st (w .inv) r) (each-reads vol m (asMounted vol m st) G b (whole-mounted m w) r f mem);
     }

@@ -84,9 +84,9 @@ lists-from p k c known sum = rw known (eq-eqb _ _ sum)
 
 module _ (vol₀ : List ℕ) (m₀ : Medium) (st₀ : Store) (inv₀ : Inv vol₀ st₀) (empty : (k : ℕ) → k < bodyOf (st₀ .head .chunks) → sectorAt vol₀ (bodyAt st₀ k) ≡ zeros 512)
     (name : List ℕ) (id : ℕ) (short : length name ≤ 40) (o : Out) (made : CommitMade (Create 0 id 0) name vol₀ m₀ st₀ o)
-    (m : Medium) (st : Store) (copy : st .copy ≡ o .ans .store .copy) (head : st .head ≡ o .ans .store .head) (r : Readable (o .vol) m) where
+    (m : Medium) (st : Store) (copy : st .copy ≡ o .ans .store .copy) (head : st .head ≡ o .ans .store .head) (free : st .free ≡ o .ans .store .free) (r : Readable (o .vol) m) where
   inv : Inv (o .vol) st
-  inv = inv-writer copy head (made .inv)
+  inv = inv-writer copy head free (made .inv)
 
   abbrev plan : Plan
   plan = planOf (Remove 0) [] (o .vol) m st

@@ -24,7 +24,7 @@ use Rattle.header.specs.Header.{encodeOf}
 use Rattle.header.proofs.Range.{no-way}
 use Rattle.safe.specs.Copy.{target, targetAt, bodyCount, Good}
 use Rattle.safe.proofs.Moves.{move-before, good-ready}
-use Rattle.plan.specs.Copy.{Plan, Move, unread, matched, put, bad, BodyOut, withCrc, Out, moveOf, actOf, bodySectorOf, bodyFrom, leaves, skips, skippedFrom, lastOf, firstOf, copyOut}
+use Rattle.plan.specs.Copy.{Plan, Move, unread, matched, put, bad, BodyOut, withCrc, Out, moveOf, actOf, bodySectorOf, bodyFrom, leaves, skips, skippedFrom, freeAfter, lastOf, firstOf, copyOut}
 use Rattle.plan.proofs.Keeps.{Fills, move-fills}
 use Rattle.layout.proofs.Facts.{case}
 
@@ -113,7 +113,7 @@ module _ (p : Plan) (vol : List ℕ) (m : Medium) (good : Good p vol) (puts : Al
       (write-spends vol m (target p) (p .first) .unreadable)
 
   abbrev lastPart : Out
-  lastPart = lastOf p (skippedFrom p vol m (bodyCount p) 0) (b .vol) (b .ans .medium) (b .ans .head)
+  lastPart = lastOf p (freeAfter p vol) (skippedFrom p vol m (bodyCount p) 0) (b .vol) (b .ans .medium) (b .ans .head)
 
   reaches : z .ans .outcome ≡ Done → b .ans .outcome ≡ Done → copyOut p vol m ≡ lastPart
   unfolding copyOut

@@ -123,7 +123,7 @@ module _ (seed : ℕ) (m : Medium) (ap₀ : Appender) (left : 11 ≤ m .left) (r
 
   entry : diskOf (w₁ .vol) (w₁ .store) .entry 0 ≡ named name 1
   entry =
-      let c = Makes.created (inv-sane (keeps₀ .keeps .whole .inv)) (commit-edited (first .made)) (lit< tt) (inv-held (keeps₀ .keeps .whole .inv) .head .chunks-least) fine (sym next₀) (lit< tt) in
+      let c = Makes.created (inv-sane (keeps₀ .keeps .whole .inv)) (commit-edited (first .made)) (lit< tt) (inv-held (keeps₀ .keeps .whole .inv) .head .chunks-least) (name-short name fine) fine (sym next₀) (lit< tt) in
       writer-unchanged (first .out .vol) (first .out .ans .store) (w₁ .store) refl refl .entries 0 (lit< tt) ∙ c .entry ∙ ap (named name) next₀
 
   named-at : findOf (w₁ .vol) u (w₁ .store) name ≡ found.At 0 1
@@ -149,7 +149,7 @@ module _ (seed : ℕ) (m : Medium) (ap₀ : Appender) (left : 11 ≤ m .left) (r
   is-gone : (gone .ans .outcome ≡ Done) × (gone .skipped ≡ skipped)
   unfolding removeOf
   is-gone =
-      let c = commit-two (w₀ .vol) (withLeft 11 (w₀ .medium)) (w₀ .store) (keeps₀ .keeps .whole .inv) empty name 1 (name-short name fine) (first .out) (first .made) u (w₁ .store) refl refl
+      let c = commit-two (w₀ .vol) (withLeft 11 (w₀ .medium)) (w₀ .store) (keeps₀ .keeps .whole .inv) empty name 1 (name-short name fine) (first .out) (first .made) u (w₁ .store) refl refl refl
       (keeps₁ .keeps .readable) (lit≤ tt) less in
       let x = onDone-done _ _ (c .0) in
       (ap (λ (o : Out). o .ans .outcome) x, ap (λ (o : Out). o .skipped) x ∙ c .1)
@@ -174,9 +174,9 @@ module _ (seed : ℕ) (m : Medium) (ap₀ : Appender) (left : 11 ≤ m .left) (r
         accepted = deletes .0;
         skipped = skipped;
         steps = deletes .1;
-        honest = all-honest (w₀ .vol) (withLeft 11 (w₀ .medium)) (w₀ .store) (keeps₀ .keeps .whole .inv) empty name 1 (name-short name fine) (first .out) (first .made) u (w₁ .store) refl refl
+        honest = all-honest (w₀ .vol) (withLeft 11 (w₀ .medium)) (w₀ .store) (keeps₀ .keeps .whole .inv) empty name 1 (name-short name fine) (first .out) (first .made) u (w₁ .store) refl refl refl
             (keeps₁ .keeps .readable);
-        nine = as-many (w₀ .vol) (withLeft 11 (w₀ .medium)) (w₀ .store) (keeps₀ .keeps .whole .inv) empty name 1 (name-short name fine) (first .out) (first .made) u (w₁ .store) refl refl
+        nine = as-many (w₀ .vol) (withLeft 11 (w₀ .medium)) (w₀ .store) (keeps₀ .keeps .whole .inv) empty name 1 (name-short name fine) (first .out) (first .made) u (w₁ .store) refl refl refl
             (keeps₁ .keeps .readable)
             ∙ ap bodyOf (sanity.start-chunks 65536 4 seed m ap₀ (lit≤ tt) reads (lit≤ tt) (lit≤ tt) sanity.some-128 needs);
       }

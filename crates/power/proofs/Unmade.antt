@@ -16,6 +16,7 @@ use Rattle.layout.proofs.Unchanged.{good-same}
 use Rattle.safe.specs.Inv.{Inv, CommitStopped}
 use Rattle.safe.proofs.Invs.{readable-still}
 use Rattle.views.proofs.Commits.{commit-unchanged}
+use Rattle.views.proofs.Maps.{mapped-kept}
 use Rattle.medium.specs.Frame.{Spends}
 use Rattle.medium.specs.Sector.{Readable}
 use Rattle.power.specs.History.{World}
@@ -23,12 +24,14 @@ use Rattle.power.proofs.Fine.{Fine}
 use Rattle.power.proofs.Whole.{Whole, Stands, Writes, Owns, Keeps}
 use Rattle.power.proofs.Ties.{ties-same}
 use Rattle.power.proofs.Parts.{parted-same}
+use Rattle.table.proofs.Tells.{Mapped}
 
 -- the views say the same: the files are the same
-pub whole-same : {vol v : List ℕ} {st t : Store} {G : ℕ → List Segment} {b : Fine} → Whole vol st G b → Inv v t → Unchanged (diskOf vol st) (diskOf v t) → Whole v t G b
-whole-same w inv same =
+pub whole-same : {vol v : List ℕ} {st t : Store} {G : ℕ → List Segment} {b : Fine} → Whole vol st G b → Inv v t → Mapped v t → Unchanged (diskOf vol st) (diskOf v t) → Whole v t G b
+whole-same w inv map same =
     record {
       inv = inv;
+      map = map;
       good = good-same (w .good) same;
       ties = ties-same (w .ties) same;
       parts = parted-same (w .parts) same;
@@ -74,7 +77,7 @@ pub commit-unmade : {vol : List ℕ} {m : Medium} {st : Store} {G : ℕ → List
     → Unmade vol m st G b (o .vol) (o .ans .medium) (o .ans .store)
 commit-unmade w c =
     let same = commit-unchanged (w .inv) c in
-    record { whole = whole-same w (rw (c .store) (c .inv)) same; store = c .store; size = c .frame .size; used = c .used; same = same }
+    record { whole = whole-same w (rw (c .store) (c .inv)) (mapped-kept (same .shape .chunks) (same .links) (cong (λ (s : Store). s .free) (c .store)) (w .map)) same; store = c .store; size = c .frame .size; used = c .used; same = same }
 
 module _ {vol : List ℕ} {m : Medium} {st : Store} {G : ℕ → List Segment} {b : Fine} {v : List ℕ} {u : Medium} {t : Store} (n : Unmade vol m st G b v u t) where
   pub unmade-stands : {ap : Appender} {rest : List ℕ} → Stands vol st ap G b rest → Stands v t ap G b rest

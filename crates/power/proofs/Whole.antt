@@ -25,6 +25,7 @@ use Rattle.power.specs.Book.{File, Book, ifSet}
 use Rattle.power.specs.History.{World}
 use Rattle.power.proofs.Fine.{Fine, forget}
 use Rattle.power.proofs.Parts.{Parted}
+use Rattle.table.proofs.Tells.{Mapped}
 
 -- ---- the files of the book and the directory
 
@@ -47,6 +48,7 @@ pub record Ties (D : Disk) (G : ℕ → List Segment) (files : List File) : Type
 -- all but the appender
 pub record Whole (vol : List ℕ) (st : Store) (G : ℕ → List Segment) (b : Fine) : Type 0 where
   pub inv : Inv vol st
+  pub map : Mapped vol st
   pub good : Good (diskOf vol st) G
   pub ties : Ties (diskOf vol st) G (b .files)
   pub parts : Parted (diskOf vol st) G (b .parts)

@@ -14,16 +14,16 @@ use Rattle.handles.specs.Body.{bodyAt}
 use Rattle.header.specs.Copies.{isOurs, isForeign, copyOf}
 use Rattle.reader.specs.declared.Reader.{Reader}
 use Rattle.reader.specs.Calls.{nextCall, seekCall}
-use Rattle.store.specs.Reading.{mountCall, findCall, listCall, readerCall}
+use Rattle.store.specs.Reading.{filledOf, mountCall, findCall, listCall, readerCall}
 use Rattle.store.specs.Writing.{WriteCall, formatCall}
 
 -- both header sectors read
 abbrev pub HeadersRead : Medium → Type 0
 HeadersRead u = (readOf u 0 ≡ Done) × (readOf u 32 ≡ Done)
 
--- mount gives this store, by every medium record with which both header sectors read
+-- mount gives this store, by every medium record with which both header sectors read; by S-3 with the map that its table then gives
 abbrev pub MountGives : List ℕ → Store → Type 0
-MountGives vol st = (u : Medium) → HeadersRead u → mountCall vol u ≡ record { answer = ok tt; store = st; medium = u }
+MountGives vol st = (u : Medium) → HeadersRead u → mountCall vol u ≡ record { answer = ok tt; store = filledOf vol u st; medium = u }
 
 -- demand 3's queries give on v what they gave on vol
 pub record SameReadings (vol v : List ℕ) (st : Store) : Type 0 where

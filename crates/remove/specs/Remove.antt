@@ -27,7 +27,7 @@ writerWithout id Nobody = Nobody
 writerWithout id (Open token held) = pick (eqb held id) Nobody (Open token held)
 
 abbrev pub closedFor : ℕ → Store → Store
-closedFor id st = record { copy = st .copy; head = st .head; writer = writerWithout id (st .writer) }
+closedFor id st = record { copy = st .copy; head = st .head; writer = writerWithout id (st .writer); free = st .free }
 
 -- the file of a slot: its entry and every link go in one commit, and it is open no more
 unfoldable pub removeOf : List ℕ → Medium → Store → ℕ → ℕ → Out

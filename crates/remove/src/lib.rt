@@ -47,10 +47,12 @@ fn closed_for(id: u32, store: Store) -> Store
     let held = store.writer;
     let head = store.head;
     let writer = writer_without(id, held);
+    let free = store.free;
     Store {
         copy: store.copy,
         head,
         writer,
+        free,
     }
 }
 

@@ -33,7 +33,7 @@ use Rattle.reopen.specs.Reopen.{recordsFrom, tailFor, onRecords, fileOut
 use Rattle.reopen.proofs.Counts.{count-most, tail-passes, tail-open}
 use Rattle.reopen.proofs.Ways.{last-placed}
 
-onRecords-keeps : {A : Type 0} (P : A → Type 0) (n : Records) (f : Error → A) (g : ℕ → A) → ((e : Error) → P (f e)) → ((k : ℕ) → n ≡ records.Are k → P (g k)) → P (onRecords n f g)
+pub onRecords-keeps : {A : Type 0} (P : A → Type 0) (n : Records) (f : Error → A) (g : ℕ → A) → ((e : Error) → P (f e)) → ((k : ℕ) → n ≡ records.Are k → P (g k)) → P (onRecords n f g)
 unfolding onRecords
 onRecords-keeps P (records.Refused e) f g p q = p e
 onRecords-keeps P (records.Are k) f g p q = q k refl

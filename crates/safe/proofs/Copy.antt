@@ -16,7 +16,7 @@ use Rattle.handles.specs.declared.Header.{Header}
 use Rattle.handles.proofs.Laws.{base-most}
 use Rattle.header.specs.Header.{encodeOf, withCrcs}
 use Rattle.header.proofs.Fill.{length-encode}
-use Rattle.plan.specs.Copy.{Skipped, Plan, Out, moveOf, bodyFrom, lastOf, copyOut, BodyOut}
+use Rattle.plan.specs.Copy.{Skipped, Plan, Out, moveOf, bodyFrom, freeAfter, lastOf, copyOut, BodyOut}
 use Rattle.plan.proofs.Order.{copy-order}
 use Rattle.safe.specs.Copy.{target, targetAt, bodyCount, Good, Made, Finished}
 use Rattle.safe.proofs.Frame.{clash}
@@ -59,7 +59,7 @@ module _ (p : Plan) (vol : List ℕ) (m : Medium) (good : Good p vol) where
   room kept = rw (kept-sectors kept) (omega (arith, base-most (p .copy), good .enough))
 
   -- the last write
-  last-finished : (skipped : List Skipped) (v : List ℕ) (u : Medium) (h : Header) → Kept (target p) 25 vol v → Ended p vol m v h → Right (lastOf p skipped v u h)
+  last-finished : (skipped : List Skipped) (v : List ℕ) (u : Medium) (h : Header) → Kept (target p) 25 vol v → Ended p vol m v h → Right (lastOf p (freeAfter p vol) skipped v u h)
   unfolding lastOf
   last-finished skipped v u h frame e =
       let most : h .chunks ≤ 2048 = rw (ap (λ (x : Header). x .chunks) (e .head)) (omega (arith, good .chunks)) in

@@ -1,20 +1,24 @@
 -- The copy that stands on a volume is the one that mount takes, and the other way round. Assumes nothing.
-use mathlib.Core.Path.{_≡_, refl, ap}
+use mathlib.Core.Path.{_≡_, refl, ap, subst}
 use mathlib.Core.Bool.{Bool, true, false, not, _&&_, _||_}
 use mathlib.Core.List.{List}
 use Prim.Native.Nat.{ℕ, zero, suc, _+_, _-_, _≤_}
 use native.Mathlib.Omega.{arith}
-use borrow.Author.Tests.{le-ltb, lt-ltb, ltb-true, ltb-false}
-use lib.Dec.{ltb, lit<}
+use borrow.Author.Tests.{le-ltb, lt-ltb, ltb-true, ltb-false, eqb-true}
+use lib.Dec.{eqb, ltb, lit<}
 use Rattle.le.specs.Choice.{pick}
 use Rattle.le.proofs.Choices.{pick-keeps, pick-keeps-by}
 use Rattle.le.proofs.Bools.{and-true}
+use Rattle.runs.specs.Run.{sameBytes}
+use Rattle.runs.proofs.Tests.{same-true}
 use Rattle.medium.specs.declared.Medium.{Medium}
 use Rattle.medium.specs.declared.Outcome.the-variants.{Done}
 use Rattle.medium.specs.Refusal.{onDone}
 use Rattle.medium.specs.Sector.{sectorsOf, readOf}
 use Rattle.medium.proofs.Laws.{onDone-keeps}
+use Rattle.freemap.specs.Map.{unfitOf}
 use Rattle.handles.specs.declared.Header.{Header}
+use Rattle.handles.specs.declared.Store.{Store}
 use Rattle.handles.specs.declared.Writer.the-variants.{Nobody}
 use Rattle.handles.specs.Handles.{baseOf}
 use Rattle.header.specs.declared.answers.Copies.{Copies}
@@ -23,6 +27,7 @@ use Rattle.header.specs.Header.{ours}
 use Rattle.header.specs.Copies.{isOurs, isForeign, isDamaged, copyOf, bothOf, headersOf, takesB, takenOf, noCurrent, choiceOf, currentOf, mountOf}
 use Rattle.header.proofs.Edges.{headers-read}
 use Rattle.header.proofs.Accepted.{headers-both, copy-valid}
+use Rattle.commit.specs.Commit.{sameHead, isCurrent}
 use Rattle.safe.specs.Mounts.{Stands}
 use Rattle.safe.proofs.Frame.{clash}
 
@@ -69,7 +74,7 @@ module _ (vol : List ℕ) (h : Header) where
     unfolding currentOf onDone
     stands-current c s = rw (stands-headers c s) (stands-choice c s)
 
-    pub stands-mount : (c : ℕ) → Stands vol c h → mountOf vol m ≡ record { outcome = Done; store = record { copy = c; head = h; writer = Nobody } }
+    pub stands-mount : (c : ℕ) → Stands vol c h → mountOf vol m ≡ record { outcome = Done; store = record { copy = c; head = h; writer = Nobody; free = unfitOf } }
     unfolding mountOf takenOf onDone
     stands-mount c s = rw (stands-current c s)
 
@@ -118,3 +123,31 @@ module _ (vol : List ℕ) where
         onDone-keeps Found (headersOf vol m .outcome) _ _
         (λ o. let b = headers-both vol m o in rw (b .same) (choice-stands (b .enough) (b .not-a) (b .not-b)))
         (λ e _. clash refl)
+
+-- ---- so does the store's own copy, where a commit finds it current
+
+head-same : (a b : Header) → sameHead a b ≡ true → a ≡ b
+unfolding sameHead
+head-same a b e =
+    let p = and-true (eqb (a .id) (b .id)) _ e in
+    let q = and-true (eqb (a .generation) (b .generation)) _ (p .1) in
+    let r = and-true (eqb (a .«next_id») (b .«next_id»)) _ (q .1) in
+    let s = and-true (eqb (a .cursor) (b .cursor)) _ (r .1) in
+    let t = and-true (eqb (a .chunks) (b .chunks)) _ (s .1) in
+    let u = and-true (eqb (a .chunk) (b .chunk)) (sameBytes (a .crcs) (b .crcs)) (t .1) in
+    rw (
+      eqb-true (a .id) (b .id) (p .0),
+      eqb-true (a .generation) (b .generation) (q .0),
+      eqb-true (a .«next_id») (b .«next_id») (r .0),
+      eqb-true (a .cursor) (b .cursor) (s .0),
+      eqb-true (a .chunks) (b .chunks) (t .0),
+      eqb-true (a .chunk) (b .chunk) (u .0),
+      same-true (a .crcs) (b .crcs) (u .1),
+    ) refl
+
+pub own-stands : (vol : List ℕ) (m : Medium) (st : Store) → currentOf vol m .outcome ≡ Done → isCurrent (currentOf vol m) st ≡ true → Stands vol (st .copy) (st .head)
+unfolding isCurrent
+own-stands vol m st d c =
+    let p = and-true (eqb (currentOf vol m .copy) (st .copy)) (sameHead (currentOf vol m .head) (st .head)) c in
+    subst (Stands vol (st .copy)) (head-same _ _ (p .1))
+    (subst (λ (k : ℕ). Stands vol k (currentOf vol m .head)) (eqb-true _ _ (p .0)) (current-stands vol m d))

@@ -17,6 +17,8 @@ use Rattle.medium.specs.declared.Outcome.the-variants.{Done, No}
 use Rattle.medium.specs.Sector.{sectorsOf}
 use Rattle.medium.proofs.Laws.{onDone-keeps}
 use Rattle.medium.proofs.Frame.{spends-none}
+use Rattle.freemap.specs.Map.{fullOf}
+use Rattle.freemap.proofs.Rule.{full-ok}
 use Rattle.handles.specs.declared.Header.{Header}
 use Rattle.handles.specs.declared.Store.{Store}
 use Rattle.handles.specs.Handles.{bodyOf, baseOf, saneOf, noStore}
@@ -27,7 +29,7 @@ use Rattle.header.specs.Copies.{isOurs, isForeign, copyOf, bothOf, headersOf, t
 use Rattle.header.proofs.Accepted.{Both, headers-both, copy-valid}
 use Rattle.header.proofs.Fill.{length-unmarked}
 use Rattle.header.proofs.Range.{no-way}
-use Rattle.plan.specs.Copy.{Plan, Out, isFormat, refusedOut, copyOut}
+use Rattle.plan.specs.Copy.{Plan, Out, isFormat, markAfter, mapAfter, refusedOut, copyOut}
 use Rattle.format.specs.Format.{chunksOf, copyFor, newestOf, formatHead, formatPlan, formatOver, formatOf}
 use Rattle.format.proofs.Crcs.{length-crcs}
 use Rattle.format.proofs.Absent.{format-first}
@@ -40,7 +42,8 @@ use Rattle.safe.proofs.Frame.{clash, body-beside}
 use Rattle.safe.proofs.Moves.{due-format}
 use Rattle.safe.proofs.Copy.{copy-frame, copy-used, copy-stopped, copy-finished}
 use Rattle.safe.proofs.Current.{not-b, yes-b}
-use Rattle.safe.proofs.Mounts.{stopped-stands}
+use Rattle.safe.proofs.Mounts.{stopped-target, stopped-stands}
+use Rattle.safe.proofs.Ranged.{ranged-stopped, ranged-finished}
 use Rattle.safe.proofs.Sums.{format-distinct, finished-body}
 use Rattle.safe.proofs.Bodies.{format-tied}
 use Rattle.safe.proofs.Invs.{inv-numbered, bytes-numbered, kept-records, stopped-inv, finished-inv}
@@ -182,7 +185,7 @@ module _ (size seed : ℕ) (vol : List ℕ) (m : Medium) where
   unfolding formatPlan
   format-stopped {e} =
       ways (λ (o : Out). o .ans .outcome ≡ No e → FormatStopped vol m o)
-      (λ x _. record { store = refl; size = refl; stands = λ st s. s; inv = λ st i. i; body = λ st s k l. refl; records = λ j l. refl; used = spends-none m })
+      (λ x _. record { store = refl; size = refl; stands = λ st s. s; inv = λ st i. i; ranged = λ r. r; body = λ st s k l. refl; records = λ j l. refl; used = spends-none m })
       (λ a q.
       let kept = copy-frame plan vol m (good a) in
       let first = format-first (copyFor (both vol)) head (sectorsOf vol) in
@@ -192,13 +195,14 @@ module _ (size seed : ℕ) (vol : List ℕ) (m : Medium) where
         size = kept .size;
         stands = λ st s. stopped-stands plan vol m (good a) first s (two st s) q;
         inv = λ st i. stopped-inv plan vol m (good a) first i (two st (i .sound .stands)) q;
+        ranged = ranged-stopped (copyFor (both vol)) (copy-lt (both vol)) kept (stopped-target plan vol m (good a) first q);
         body = λ st s. body-beside (st .copy) (copyFor (both vol)) (two st s) kept;
         records = kept-records (copyFor (both vol)) kept;
         used = copy-used plan vol m (good a);
       })
 
   pub format-made : Numbered vol → formatOf size seed vol m .ans .outcome ≡ Done → FormatMade size vol m (formatOf size seed vol m)
-  unfolding formatPlan formatHead isFormat noStore
+  unfolding formatPlan formatHead isFormat mapAfter markAfter pick noStore
   format-made small =
       ways (λ (o : Out). o .ans .outcome ≡ Done → FormatMade size vol m o)
       (λ x. clash refl)
@@ -210,9 +214,11 @@ module _ (size seed : ℕ) (vol : List ℕ) (m : Medium) where
       let i : st .head .id ≡ head .id = ap (λ (h : Header). h .id) (done .head) in
       let n : st .head .chunks ≡ head .chunks = ap (λ (h : Header). h .chunks) (done .head) in
       record {
-        inv = finished-inv plan vol m (good a) (newest a small) (tied a)
+        inv = finished-inv plan vol m (good a) (full-ok (head .chunks)) (newest a small) (tied a)
             (λ g e t. absurd (fresh a (1 - copyFor (both vol)) g e (sym (same-id head g t)))) q;
+        ranged = ranged-finished plan vol m (good a) (newest a small) q;
         writer = ap (λ (s : Store). s .writer) (done .store);
+        free = ap (λ (s : Store). s .free) (done .store) ∙ ap fullOf (sym n);
         next = ap (λ (h : Header). h .«next_id») (done .head);
         cursor = ap (λ (h : Header). h .cursor) (done .head);
         id = λ z. sane a .id (sym i ∙ z);
@@ -229,10 +235,7 @@ module _ (size seed : ℕ) (vol : List ℕ) (m : Medium) where
 
   -- accepted on any bytes at all, and beside a store
   pub format-bytes : Bytes vol → formatOf size seed vol m .ans .outcome ≡ Done → FormatMade size vol m (formatOf size seed vol m)
-  format-bytes small q = format-made (bytes-numbered vol small (enough q)) q
-    where
-      enough : formatOf size seed vol m .ans .outcome ≡ Done → 64 ≤ sectorsOf vol
-      enough = ways (λ (o : Out). o .ans .outcome ≡ Done → 64 ≤ sectorsOf vol) (λ x. clash refl) (λ a _. read a .enough)
+  format-bytes small = format-made (bytes-numbered vol small)
 
   pub format-again : {st : Store} → Inv vol st → formatOf size seed vol m .ans .outcome ≡ Done → FormatMade size vol m (formatOf size seed vol m)
   format-again inv = format-made (inv-numbered inv)

@@ -5,6 +5,7 @@ pub mod Copy
 pub mod Sums
 pub mod Current
 pub mod Mounts
+pub mod Ranged
 pub mod Bodies
 pub mod Invs
 pub mod Commit

@@ -2,17 +2,20 @@
 use mathlib.Core.Path.{_≡_, refl, sym, ap, _∙_}
 use mathlib.Core.List.{List}
 use mathlib.Core.Logic.{_⊎_, inl, inr, ⊎-elim}
-use Prim.Native.Nat.{ℕ, _+_, _-_}
+use Prim.Native.Nat.{ℕ, _+_, _-_, _<_}
 use native.Mathlib.Omega.{arith}
+use lib.ListN.{length}
 use Rattle.medium.specs.declared.Error.{Error}
 use Rattle.medium.specs.declared.Medium.{Medium}
 use Rattle.medium.specs.declared.Outcome.the-variants.{Done, No}
 use Rattle.medium.specs.Sector.{sectorsOf, sectorAt, readOf}
 use Rattle.medium.specs.Frame.{Kept}
 use Rattle.medium.proofs.Frame.{kept-sectors}
+use Rattle.freemap.specs.Map.{unfitOf}
 use Rattle.handles.specs.declared.Header.{Header}
 use Rattle.handles.specs.declared.Writer.the-variants.{Nobody}
 use Rattle.handles.specs.Handles.{baseOf}
+use Rattle.handles.proofs.Laws.{base-most}
 use Rattle.header.specs.declared.codec.Decoded.{Decoded}
 use Rattle.header.specs.declared.codec.Replica.the-variants.{Absent}
 use Rattle.header.specs.Header.{ours, bare, decodeOf}
@@ -42,6 +45,10 @@ copy-holds vol v bytes k n e = rw (n, e)
 pub beside : {vol v : List ℕ} (c b : ℕ) → c + b ≡ 1 → Kept (baseOf b) 25 vol v → copyOf v (baseOf c) ≡ copyOf vol (baseOf c)
 beside {vol} {v} c b e kept = copy-same vol v (baseOf c) (kept-sectors kept) (header-beside c b e kept)
 
+-- both copies, where the first 64 sectors are as they were
+pub copies-beyond : (vol v : List ℕ) → length v ≡ length vol → ((j : ℕ) → j < 64 → sectorAt v j ≡ sectorAt vol j) → (c : ℕ) → copyOf v (baseOf c) ≡ copyOf vol (baseOf c)
+copies-beyond vol v size same c = copy-same vol v (baseOf c) (rw size) (same (baseOf c) (omega (arith, base-most c)))
+
 pub gone : {A : Type 0} {g : Header} → bare Absent ≡ ours g → A
 gone q = no-way (ap (λ (d : Decoded). isOurs (d .kind)) q)
 
@@ -58,6 +65,17 @@ stands-beside {vol} {v} {c} {h} b s e kept o =
       older = rw f (⊎-elim (λ a g q. (rw f at (s .older)) g (sym a ∙ q)) (λ a g q. gone (sym a ∙ q)) o);
     }
 
+-- and while both copies are as they were
+pub stands-beyond : {vol v : List ℕ} {c : ℕ} {h : Header} → length v ≡ length vol → ((b : ℕ) → copyOf v (baseOf b) ≡ copyOf vol (baseOf b)) → Stands vol c h → Stands v c h
+stands-beyond {c = c} size same s =
+    record {
+      enough = rw size (s .enough);
+      number = s .number;
+      found = same c ∙ s .found;
+      known = rw (same (1 - c)) (s .known);
+      older = λ g e. s .older g (sym (same (1 - c)) ∙ e);
+    }
+
 -- ---- the laws
 
 module _ (p : Plan) (vol : List ℕ) (m : Medium) (good : Good p vol) where
@@ -69,12 +87,14 @@ module _ (p : Plan) (vol : List ℕ) (m : Medium) (good : Good p vol) where
       (λ a. inr (copy-holds vol _ (p .first) (target p) (kept-sectors (copy-frame p vol m good)) a ∙ none))
       (copy-stopped p vol m good q .1)
 
+  pub stopped-target : {e : Error} → decodeOf (p .first) (sectorsOf vol) ≡ bare Absent → copyOut p vol m .ans .outcome ≡ No e
+      → (copyOf (copyOut p vol m .vol) (target p) ≡ copyOf vol (target p)) ⊎ (copyOf (copyOut p vol m .vol) (target p) ≡ bare Absent)
+  stopped-target none q = ⊎-elim (λ a. inl (ap (λ (v : List ℕ). copyOf v (target p)) a)) inr (stopped-copy none q)
+
   -- so the copy that stood stands
   pub stopped-stands : {c : ℕ} {h : Header} {e : Error} → decodeOf (p .first) (sectorsOf vol) ≡ bare Absent → Stands vol c h → c + p .copy ≡ 1
       → copyOut p vol m .ans .outcome ≡ No e → Stands (copyOut p vol m .vol) c h
-  stopped-stands none s other q =
-      stands-beside (p .copy) s other (copy-frame p vol m good)
-      (⊎-elim (λ a. inl (ap (λ (v : List ℕ). copyOf v (target p)) a)) inr (stopped-copy none q))
+  stopped-stands none s other q = stands-beside (p .copy) s other (copy-frame p vol m good) (stopped-target none q)
 
   -- and mount gives what it gave before
   pub stopped-mount : {e : Error} (n u : Medium) → decodeOf (p .first) (sectorsOf vol) ≡ bare Absent → mountOf vol n .outcome ≡ Done
@@ -102,5 +122,5 @@ module _ (p : Plan) (vol : List ℕ) (m : Medium) (good : Good p vol) where
 
   -- so mount gives it
   pub finished-mount : (u : Medium) → Newest p vol → copyOut p vol m .ans .outcome ≡ Done → readOf u 0 ≡ Done → readOf u 32 ≡ Done
-      → mountOf (copyOut p vol m .vol) u ≡ record { outcome = Done; store = record { copy = p .copy; head = copyOut p vol m .ans .store .head; writer = Nobody } }
+      → mountOf (copyOut p vol m .vol) u ≡ record { outcome = Done; store = record { copy = p .copy; head = copyOut p vol m .ans .store .head; writer = Nobody; free = unfitOf } }
   finished-mount u new q a b = stands-mount _ _ u a b (p .copy) (finished-stands new q)

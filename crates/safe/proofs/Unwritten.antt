@@ -22,7 +22,7 @@ use Rattle.handles.specs.Handles.{bodyOf, baseOf, storeOk}
 use Rattle.header.specs.Copies.{currentOf}
 use Rattle.header.specs.Header.{withCrcs}
 use Rattle.plan.specs.declared.Edit.{Edit}
-use Rattle.plan.specs.Copy.{Plan, Skipped, Distinct, EachSkipped, Out, dueBytes, skips, skippedAt, skippedFrom, lastOf, copyOut}
+use Rattle.plan.specs.Copy.{Plan, Skipped, Distinct, EachSkipped, Out, dueBytes, skips, skippedAt, skippedFrom, mapAfter, lastOf, copyOut}
 use Rattle.plan.specs.Edit.{editedOf, headAfter}
 use Rattle.commit.specs.Commit.{isCurrent, commitPlan, commitOf}
 use Rattle.safe.specs.Copy.{bodyCount, Good}
@@ -80,6 +80,7 @@ Alike s = crc32Of (s .held) ≡ crc32Of (s .due)
 pub record CommitDue (edit : Edit) (name vol : List ℕ) (st : Store) (o : Out) : Type 0 where
   pub head : o .ans .store .head ≡ withCrcs (headAfter edit (st .head)) (o .ans .store .head .crcs)
   pub body : (k : ℕ) → k < bodyOf (st .head .chunks) → sectorAt (o .vol) (bodyAt (o .ans .store) k) ≡ editedOf edit name k (sectorAt vol (bodyAt st k))
+  pub free : o .ans .store .free ≡ mapAfter edit vol st (st .head .chunks)
   pub frame : Kept (baseOf (1 - st .copy)) 25 vol (o .vol)
 
 module _ (edit : Edit) (name vol : List ℕ) (m : Medium) (st : Store) (accepted : commitOf edit name vol m st .ans .outcome ≡ Done) where
@@ -129,6 +130,7 @@ module _ (edit : Edit) (name vol : List ℕ) (m : Medium) (st : Store) (accepted
       subst (CommitDue edit name vol st) (sym (commit-copies .2))
       (record {
         head = done .head;
+        free = ap (λ (s : Store). s .free) (done .store);
         body = λ k l. rw c (finished-due done (commit-each (λ s. s .held ≡ s .due) each) k l);
         frame = copy-frame plan vol m good;
       })

@@ -11,7 +11,7 @@ use Rattle.handles.specs.declared.Store.{Store}
 use Rattle.handles.specs.Body.{bodyAt}
 use Rattle.handles.specs.Handles.{bodyOf, baseOf}
 use Rattle.header.specs.Header.{encodeOf, withCrcs}
-use Rattle.plan.specs.Copy.{Plan, Move, unread, matched, put, bad, isFormat, moveOf, Distinct, skips, skippedAt}
+use Rattle.plan.specs.Copy.{Plan, Move, unread, matched, put, bad, isFormat, moveOf, Distinct, skips, skippedAt, freeAfter}
 
 -- the first sector of the copy that a plan writes, and body sector k of it
 abbrev pub target : Plan → ℕ
@@ -56,7 +56,7 @@ Made (bad e) s c s′ c′ = ⊥
 
 -- the copy is finished: v is the volume, st the store value of the answer
 pub record Finished (p : Plan) (vol : List ℕ) (m : Medium) (v : List ℕ) (st : Store) : Type 0 where
-  pub store : st ≡ record { copy = p .copy; head = st .head; writer = p .store .writer }
+  pub store : st ≡ record { copy = p .copy; head = st .head; writer = p .store .writer; free = freeAfter p vol }
   pub head : st .head ≡ withCrcs (p .head) (st .head .crcs)
   pub count : length (st .head .crcs) ≡ 24
   pub header : sectorAt v (target p) ≡ encodeOf (st .head)

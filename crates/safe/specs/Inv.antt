@@ -9,6 +9,7 @@ use Rattle.le.specs.Part.{zeros}
 use Rattle.medium.specs.declared.Medium.{Medium}
 use Rattle.medium.specs.Sector.{sectorsOf, sectorAt}
 use Rattle.medium.specs.Frame.{Kept, Spends}
+use Rattle.freemap.specs.Map.{fullOf}
 use Rattle.handles.specs.declared.Header.{Header}
 use Rattle.handles.specs.declared.Store.{Store}
 use Rattle.handles.specs.declared.Writer.the-variants.{Nobody}
@@ -17,7 +18,7 @@ use Rattle.handles.specs.Handles.{bodyOf, baseOf, storeOk, noStore}
 use Rattle.header.specs.Copies.{copyOf, currentOf}
 use Rattle.header.specs.Header.{withCrcs, ours, InRange}
 use Rattle.plan.specs.declared.Edit.{Edit}
-use Rattle.plan.specs.Copy.{Plan, Out}
+use Rattle.plan.specs.Copy.{Plan, Out, mapAfter}
 use Rattle.plan.specs.Edit.{editedOf, headAfter}
 use Rattle.commit.specs.Commit.{commitPlan}
 use Rattle.safe.specs.Copy.{PlanDistinct}
@@ -57,6 +58,7 @@ pub record CommitMade (edit : Edit) (name vol : List ℕ) (m : Medium) (st : Sto
   pub copy : o .ans .store .copy ≡ 1 - st .copy
   pub head : o .ans .store .head ≡ withCrcs (headAfter edit (st .head)) (o .ans .store .head .crcs)
   pub writer : o .ans .store .writer ≡ st .writer
+  pub free : o .ans .store .free ≡ mapAfter edit vol st (st .head .chunks)
   pub body : (k : ℕ) → k < bodyOf (st .head .chunks) → sectorAt (o .vol) (bodyAt (o .ans .store) k) ≡ editedOf edit name k (sectorAt vol (bodyAt st k))
   pub records : SameRecords vol (o .vol)
   pub frame : Kept (baseOf (1 - st .copy)) 25 vol (o .vol)
@@ -64,7 +66,11 @@ pub record CommitMade (edit : Edit) (name vol : List ℕ) (m : Medium) (st : Sto
 
 -- ---- format
 
--- the generations of the valid copies have their width: on a volume of bytes they have
+-- the header of each valid copy has its widths: on a volume of bytes it has
+abbrev pub Ranged : List ℕ → Type 0
+Ranged vol = (c : ℕ) (h : Header) → copyOf vol (baseOf c) ≡ ours h → InRange h
+
+-- its generation has
 abbrev pub Numbered : List ℕ → Type 0
 Numbered vol = (c : ℕ) (h : Header) → copyOf vol (baseOf c) ≡ ours h → h .generation < 2 ^ 64
 
@@ -74,6 +80,7 @@ pub record FormatStopped (vol : List ℕ) (m : Medium) (o : Out) : Type 0 where
   pub size : length (o .vol) ≡ length vol
   pub stands : (st : Store) → Stands vol (st .copy) (st .head) → Stands (o .vol) (st .copy) (st .head)
   pub inv : (st : Store) → Inv vol st → Inv (o .vol) st
+  pub ranged : Ranged vol → Ranged (o .vol)
   pub body : (st : Store) → Stands vol (st .copy) (st .head) → (k : ℕ) → k < 24 → sectorAt (o .vol) (bodyAt st k) ≡ sectorAt vol (bodyAt st k)
   pub records : SameRecords vol (o .vol)
   pub used : Spends m (o .ans .medium)
@@ -81,7 +88,9 @@ pub record FormatStopped (vol : List ℕ) (m : Medium) (o : Out) : Type 0 where
 -- accepted: an empty store with an id of its own
 pub record FormatMade (chunk : ℕ) (vol : List ℕ) (m : Medium) (o : Out) : Type 0 where
   pub inv : Inv (o .vol) (o .ans .store)
+  pub ranged : Ranged vol → Ranged (o .vol)
   pub writer : o .ans .store .writer ≡ Nobody
+  pub free : o .ans .store .free ≡ fullOf (o .ans .store .head .chunks)
   pub next : o .ans .store .head .«next_id» ≡ 1
   pub cursor : o .ans .store .head .cursor ≡ 0
   pub id : o .ans .store .head .id ≡ 0 → ⊥

@@ -12,3 +12,4 @@ pub mod Frame
 pub mod Stale
 pub mod Dots
 pub mod Widths
+pub mod Mounts

@@ -1,6 +1,6 @@
 -- Which calls never give 11: mount, format, list, and delete on the store of an accepted mount. Assumes nothing.
 use mathlib.Core.Path.{_≡_, refl}
-use mathlib.Core.Bool.{Bool, _||_}
+use mathlib.Core.Bool.{Bool, _||_, true}
 use mathlib.Core.List.{List}
 use Prim.Native.Nat.{ℕ}
 use lib.Dec.{ltb}
@@ -15,7 +15,7 @@ use Rattle.medium.specs.Refusal.{refused, outcomeOf}
 use Rattle.medium.proofs.Laws.{onDone-keeps}
 use Rattle.medium.proofs.Stale.{NotStale, no-stale, told-not-stale}
 use Rattle.handles.specs.declared.Store.{Store}
-use Rattle.header.specs.Copies.{mountOf}
+use Rattle.header.specs.Copies.{mountOf, currentOf}
 use Rattle.header.proofs.Stale.{mount-not-stale}
 use Rattle.directory.specs.Rows.{rowsOf}
 use Rattle.directory.specs.Scan.{findOf}
@@ -25,6 +25,7 @@ use Rattle.table.specs.Table.{Counted, countOf}
 use Rattle.table.proofs.Stale.{count-not-stale}
 use Rattle.plan.specs.Copy.{Out}
 use Rattle.commit.proofs.Current.{mounted-current}
+use Rattle.commit.specs.Commit.{isCurrent}
 use Rattle.format.specs.Format.{formatOf}
 use Rattle.format.proofs.Stale.{format-not-stale}
 use Rattle.remove.specs.Remove.{removeOf}
@@ -32,6 +33,7 @@ use Rattle.remove.proofs.Keeps.{remove-not-stale}
 use Rattle.store.specs.Asked.{askedOf}
 use Rattle.store.specs.Reading.{mountCall, ListCall, listFrom, listCall}
 use Rattle.store.specs.Writing.{formatCall, deleteCall}
+use Rattle.store.proofs.Mounts.{call-store}
 
 -- nor do the tests of the input
 asked-not-stale : (vol : List ℕ) (st : Store) (fine : Bool) → NotStale (askedOf vol st fine)
@@ -64,11 +66,16 @@ module _ (vol : List ℕ) (m : Medium) where
   abbrev Right : Out → Type 0
   Right o = outcomeOf (o .ans .outcome) ≡ refused 11 → ⊥
 
-  pub delete-never : mountOf vol m .outcome ≡ Done → (name : List ℕ) → deleteCall vol m (mountOf vol m .store) name .call .answer ≡ refused 11 → ⊥
+  -- S-3: the map is no part of what makes a store value current
+  current-called : mountOf vol m .outcome ≡ Done → isCurrent (currentOf vol m) (mountCall vol m .store) ≡ true
+  unfolding isCurrent
+  current-called d = rw (call-store vol m d) (mounted-current vol m d)
+
+  pub delete-never : mountOf vol m .outcome ≡ Done → (name : List ℕ) → deleteCall vol m (mountCall vol m .store) name .call .answer ≡ refused 11 → ⊥
   unfolding deleteCall
   delete-never d name =
-      let st : Store = mountOf vol m .store in
+      let st : Store = mountCall vol m .store in
       onDone-keeps Right (askedOf vol st (nameOk name)) _ _
       (λ _. onFound-keeps Right (findOf vol m st name) _ _ (λ e q. told-not-stale (No e) (find-not-stale vol m st name q))
-      (λ slot id w. told-not-stale (removeOf vol m st slot id .ans .outcome) (remove-not-stale vol m st slot id (mounted-current vol m d))))
+      (λ slot id w. told-not-stale (removeOf vol m st slot id .ans .outcome) (remove-not-stale vol m st slot id (current-called d))))
       (λ e q. told-not-stale (No e) (no-stale (asked-not-stale vol st (nameOk name)) q))

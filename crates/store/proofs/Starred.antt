@@ -10,6 +10,7 @@ use Rattle.medium.specs.declared.Medium.{Medium}
 use Rattle.medium.specs.declared.Outcome.the-variants.{Done, No}
 use Rattle.medium.specs.Refusal.{ok, refused, onDone, outcomeOf}
 use Rattle.medium.specs.Sector.{sectorsOf, readOf}
+use Rattle.freemap.specs.Map.{unfitOf}
 use Rattle.handles.specs.declared.Header.{Header}
 use Rattle.handles.specs.declared.Store.{Store}
 use Rattle.handles.specs.declared.Writer.the-variants.{Nobody}
@@ -26,7 +27,7 @@ use Rattle.append.specs.Flush.{AppOut}
 use Rattle.files.specs.Opened.{refusedAt}
 use Rattle.store.specs.Asked.{askedOf}
 use Rattle.store.specs.Edges.{NameRefused, DirRefused, Starred}
-use Rattle.store.specs.Reading.{mountCall, findCall, listCall, readerCall}
+use Rattle.store.specs.Reading.{filledOf, mountCall, findCall, listCall, readerCall}
 use Rattle.store.specs.Writing.{formatCall, deleteCall, oldestTold, oldestCall}
 use Rattle.store.specs.Opening.{openFine, admittedOf}
 use Rattle.store.proofs.Appends.{append-485, append-486, append-487}
@@ -70,8 +71,8 @@ module _ (vol : List ℕ) (m : Medium) (st : Store) (passes : storeOk st (sector
 
 module _ (vol : List ℕ) (m : Medium) (enough : 64 ≤ sectorsOf vol) (a : readOf m 0 ≡ Done) (b : readOf m 32 ≡ Done) where
   equal : (x y : Header) → copyOf vol 0 ≡ ours x → copyOf vol 32 ≡ ours y → x .generation ≡ y .generation
-      → mountCall vol m ≡ record { answer = ok tt; store = record { copy = 0; head = x; writer = Nobody }; medium = m }
-  unfolding mountCall
+      → mountCall vol m ≡ record { answer = ok tt; store = filledOf vol m (record { copy = 0; head = x; writer = Nobody; free = unfitOf }); medium = m }
+  unfolding mountCall onDone
   equal x y p q e = rw (equal-takes-a vol m enough a b x y p q e)
 
 pub starred : Starred

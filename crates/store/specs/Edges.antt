@@ -10,6 +10,7 @@ use Rattle.medium.specs.declared.Medium.{Medium}
 use Rattle.medium.specs.declared.Outcome.the-variants.{Done}
 use Rattle.medium.specs.Refusal.{ok, refused}
 use Rattle.medium.specs.Sector.{sectorsOf, readOf}
+use Rattle.freemap.specs.Map.{unfitOf}
 use Rattle.handles.specs.declared.Header.{Header}
 use Rattle.handles.specs.declared.Store.{Store}
 use Rattle.handles.specs.declared.Writer.the-variants.{Nobody}
@@ -22,7 +23,7 @@ use Rattle.format.specs.Format.{newestOf}
 use Rattle.append.specs.declared.Appender.{Appender}
 use Rattle.append.specs.declared.Tail.the-variants.{At}
 use Rattle.append.specs.Calls.{mayWrite, AppCall, appendCall, roomCall}
-use Rattle.store.specs.Reading.{mountCall, findCall, listCall, readerCall}
+use Rattle.store.specs.Reading.{filledOf, mountCall, findCall, listCall, readerCall}
 use Rattle.store.specs.Writing.{formatCall, deleteCall, oldestCall}
 use Rattle.store.specs.Opening.{createCall, openCall}
 
@@ -104,4 +105,4 @@ pub record Starred : Type 0 where
   -- equal generations: mount A
   pub equal : (vol : List ℕ) (m : Medium) → 64 ≤ sectorsOf vol → readOf m 0 ≡ Done → readOf m 32 ≡ Done → (x y : Header)
       → copyOf vol 0 ≡ ours x → copyOf vol 32 ≡ ours y → x .generation ≡ y .generation
-      → mountCall vol m ≡ record { answer = ok tt; store = record { copy = 0; head = x; writer = Nobody }; medium = m }
+      → mountCall vol m ≡ record { answer = ok tt; store = filledOf vol m (record { copy = 0; head = x; writer = Nobody; free = unfitOf }); medium = m }

@@ -14,16 +14,21 @@ use Rattle.medium.specs.declared.Outcome.{Outcome}
 use Rattle.medium.specs.declared.Outcome.the-variants.{Done, No}
 use Rattle.medium.specs.Refusal.{Answer, ok, refused, numberOf, onDone, outcomeOf}
 use Rattle.handles.specs.declared.Store.{Store}
+use Rattle.header.specs.declared.answers.Mounted.{Mounted}
 use Rattle.header.specs.Copies.{mountOf}
 use Rattle.directory.specs.declared.Found.{Found}
 use Rattle.directory.specs.declared.Found.the-variants as found
 use Rattle.directory.specs.Scan.{findOf, findIdOf, onFound}
 use Rattle.directory.specs.Rows.{RowsOut, rowsOf}
+use Rattle.table.specs.declared.FreeCount.{FreeCount}
+use Rattle.table.specs.declared.FreeCount.the-variants as count
 use Rattle.table.specs.Table.{Counted, countOf, chainOf, onChain}
+use Rattle.table.specs.Free.{freeCountOf, mapAt}
 use Rattle.reader.specs.declared.Reader.{Reader}
 use Rattle.reader.specs.Reader.{startOf, noReader}
 use Rattle.store.specs.Asked.{askedOf, askedName, askedDir}
 use Rattle.store.specs.declared.FindAnswer.{FindAnswer}
+use Rattle.store.specs.declared.FreeCountAnswer.{FreeCountAnswer}
 use Rattle.store.specs.declared.ListAnswer.{ListAnswer}
 use Rattle.store.specs.declared.StoreAnswer.{StoreAnswer}
 use Rattle.store.specs.declared.ReaderAnswer.{ReaderAnswer}
@@ -38,8 +43,31 @@ pub record StoreCall : Type 0 where
 abbrev pub storeAnswer : StoreAnswer → StoreCall
 storeAnswer r = record { answer = outcomeOf (r .outcome); store = r .store; medium = r .medium }
 
+-- S-3: the store value with the map of its table
+abbrev pub filledOf : List ℕ → Medium → Store → Store
+filledOf vol m st = record { copy = st .copy; head = st .head; writer = st .writer; free = mapAt vol m st }
+
 unfoldable pub mountCall : List ℕ → Medium → StoreCall
-mountCall vol m = record { answer = outcomeOf (mountOf vol m .outcome); store = mountOf vol m .store; medium = m }
+mountCall vol m =
+    let r : Mounted = mountOf vol m in
+    record { answer = outcomeOf (r .outcome); store = onDone (r .outcome) (filledOf vol m (r .store)) (λ e. r .store); medium = m }
+
+-- ---- S-3: the free count
+
+-- the answer as 01 has it
+abbrev pub countAnswer : FreeCount → Answer ℕ
+countAnswer (count.Refused e) = refused (numberOf e)
+countAnswer (count.Is n) = ok n
+
+pub record CountCall : Type 0 where
+  pub answer : Answer ℕ
+  pub medium : Medium
+
+abbrev pub freeCountAnswer : FreeCountAnswer → CountCall
+freeCountAnswer r = record { answer = countAnswer (r .count); medium = r .medium }
+
+unfoldable pub freeCountCall : List ℕ → Medium → Store → CountCall
+freeCountCall vol m st = record { answer = countAnswer (onDone (askedOf vol st true) (freeCountOf vol m st) count.Refused); medium = m }
 
 -- ---- find: slot and id
 

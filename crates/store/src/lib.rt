@@ -12,6 +12,7 @@ use plan::Committed;
 use reader::Reader;
 use remove::Gone;
 use table::Chained;
+use table::FreeCount;
 ghost use mathlib.Core.Path.{_≡_};
 ghost use mathlib.Core.List.{[]};
 ghost use Prim.Native.Nat.{_≤_};
@@ -21,7 +22,8 @@ ghost use Rattle.medium.specs.Sector.{sectorsOf};
 ghost use Rattle.plan.specs.Copy.{refusedOut};
 ghost use Rattle.store.specs.Asked.{askedOf};
 ghost use Rattle.store.specs.Writing.{formatCall, answerOf, deleteCall, goneAnswer, oldestCall};
-ghost use Rattle.store.specs.Reading.{storeAnswer, mountCall, findAnswer, findCall, listAnswer, notListed, listCall, readerAnswer};
+ghost use Rattle.store.specs.Reading.{storeAnswer, filledOf, mountCall, freeCountAnswer, freeCountCall, findAnswer, findCall};
+ghost use Rattle.store.specs.Reading.{listAnswer, notListed, listCall, readerAnswer};
 ghost use Rattle.store.specs.Reading.{noReaderAnswer, startedAt, readerCall, readerOfIdCall};
 
 // Refusals 3 and 1 of a call that takes a store value and a name or directory; `fine`: that one passes its rule.
@@ -57,18 +59,62 @@ fn committed(c: Committed) -> StoreAnswer
     }
 }
 
-// The current metadata of the store in the volume.
+// The store value with the map of its table, where its numbers pass.
+fn filled(volume: &[u8], medium: Medium, store: Store) -> Store
+    requires { ⌜ (64 ≤ sectorsOf (now volume)) × (store .head .chunks ≤ 2048) ⌝ }
+    ensures { λ r. ⌜ r ≡ filledOf (now (volume .entry)) medium store ⌝ }
+{
+    let head = store.head;
+    let writer = store.writer;
+    let free = table::map_of(volume, medium, store);
+    Store {
+        copy: store.copy,
+        head,
+        writer,
+        free,
+    }
+}
+
+// The current metadata of the store in the volume, and the map of its free chunks.
 pub fn mount(volume: &[u8], medium: Medium) -> StoreAnswer
     ensures { λ r. ⌜ storeAnswer r ≡ mountCall (now (volume .entry)) medium ⌝ }
 {
     let m = header::mount(volume, medium);
     let outcome = m.outcome;
-    let store = m.store;
+    let found = m.store;
+    if let Outcome::No(_) = outcome {
+        return StoreAnswer {
+            outcome,
+            store: found,
+            medium,
+        };
+    }
+    let store = filled(volume, medium, found);
     StoreAnswer {
         outcome,
         store,
         medium,
     }
+}
+
+pub struct FreeCountAnswer {
+    pub count: FreeCount,
+    pub medium: Medium,
+}
+
+// How many chunks are free.
+pub fn free_count(volume: &[u8], medium: Medium, store: Store) -> FreeCountAnswer
+    ensures { λ r. ⌜ freeCountAnswer r ≡ freeCountCall (now (volume .entry)) medium store ⌝ }
+{
+    let o = asked(volume, store, true);
+    if let Outcome::No(e) = o {
+        return FreeCountAnswer {
+            count: FreeCount::Refused(e),
+            medium,
+        };
+    }
+    let count = table::free_count(volume, medium, store);
+    FreeCountAnswer { count, medium }
 }
 
 // A new, empty store with chunks of `size` sectors, superseding any store there.

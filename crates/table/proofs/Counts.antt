@@ -73,6 +73,6 @@ module _ (vol : List ℕ) (m : Medium) (st : Store) where
   pub count-most : (l : List ℕ) → 64 ≤ length l → ((k : ℕ) → k < 64 → getD l k 0 ≡ 0) → (k : ℕ) → k < 64 → getD (countOf vol m st l .counts) k 0 ≤ st .head .chunks
   unfolding countOf
   count-most l room clear =
-      table-keeps countV vol m st Few (λ r. (k : ℕ) → k < 64 → getD (r .counts) k 0 ≤ st .head .chunks) (λ k t e p q. p .most) (λ k t p q. more k t p)
+      table-keeps countV vol m st Few (λ r. (k : ℕ) → k < 64 → getD (r .counts) k 0 ≤ st .head .chunks) (λ k t e h p q. p .most) (λ k t p q. more k t p)
       (λ k t p h q. more k t p) (λ k a t p h d q. linked k a t p h (d .slot)) (λ t p. p .most) l
       (record { room = room; passed = λ k h. omega (arith, clear k h); most = λ k h. omega (arith, clear k h) })

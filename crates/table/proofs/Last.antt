@@ -111,7 +111,7 @@ module _ (vol : List ℕ) (m : Medium) (st : Store) (slot : ℕ) where
   unfolding chainOf chainEnd
   last-ok =
       table-keeps (chainV slot) vol m st Largest LastOk
-      (λ k t e p q. tt)
+      (λ k t e h p q. tt)
       (λ k t p q. unchanged k link.Past q (λ l e o. let z : _≡_ {A = ℕ} 0 1 = cc in omega arith) t p)
       (λ k t p h q. unchanged k link.Free q (λ l e o. let z : _≡_ {A = ℕ} 0 1 = cc in omega arith) t p)
       (λ k l t p h d q. met-or-not k l t p q)

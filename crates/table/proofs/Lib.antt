@@ -7,3 +7,6 @@ pub mod Clears
 pub mod Edges
 pub mod Decides
 pub mod Stale
+pub mod Ways
+pub mod Tells
+pub mod Mapped

@@ -1,4 +1,4 @@
--- The chunk that `freeOf` picks is free, and no free chunk is nearer after the cursor. Assumes nothing.
+-- The chunk that `walkFreeOf` picks is free, and no free chunk is nearer after the cursor. Assumes nothing.
 use Prim.Native.Nat.{ℕ, _+_, _-_, _%_, _<_, _≤_}
 use mathlib.Core.Path.{_≡_, refl, sym, _∙_, ap, subst}
 use mathlib.Core.Bool.{Bool, true, false, _&&_}
@@ -16,18 +16,18 @@ use Rattle.table.specs.declared.Pick.the-variants as free
 use Rattle.table.specs.declared.LinkAt.{LinkAt}
 use Rattle.table.specs.declared.LinkAt.the-variants as link
 use Rattle.table.specs.Link.{linkAt}
-use Rattle.table.specs.Table.{linksOf, distanceOf, freeStep, freeV, freeOf, Before}
+use Rattle.table.specs.Table.{linksOf, distanceOf, freeStep, freeV, walkFreeOf, Before}
 use Rattle.table.proofs.Numbers.{found-free}
 use Rattle.table.proofs.Walks.{table-keeps}
 
 -- ---- of two chunks in order the later is nearer only where the cursor lies between them
 
 module _ (cursor chunks : ℕ) (inside : cursor < chunks) where
-  from-before : (i : ℕ) → i < cursor → distanceOf cursor chunks i ≡ i + (chunks - cursor)
+  pub from-before : (i : ℕ) → i < cursor → distanceOf cursor chunks i ≡ i + (chunks - cursor)
   unfolding distanceOf
   from-before i h = mod-eq-of-lt (omega arith)
 
-  from-after : (i : ℕ) → cursor ≤ i → i < chunks → distanceOf cursor chunks i ≡ i - cursor
+  pub from-after : (i : ℕ) → cursor ≤ i → i < chunks → distanceOf cursor chunks i ≡ i - cursor
   unfolding distanceOf
   from-after i h k =
       let a : chunks ≤ i + (chunks - cursor) = omega arith in
@@ -102,15 +102,15 @@ module _ (vol : List ℕ) (m : Medium) (st : Store) where
       (λ q. (h, below-more (λ (j : ℕ). linkAt vol m st j ≡ link.Free → dist k ≤ dist j) k (λ j l f. omega (arith, ltb-true (dist k) (dist b) q, p .1 j l f)) (λ f. le-refl _)))
       (λ q. (p .0, below-more (λ (j : ℕ). linkAt vol m st j ≡ link.Free → dist b ≤ dist j) k (p .1) (λ f. ltb-false (dist k) (dist b) q)))
 
-  pub free-nearest : Nearest (linksOf (st .head .chunks)) (freeOf vol m st)
-  unfolding freeOf
+  pub free-nearest : Nearest (linksOf (st .head .chunks)) (walkFreeOf vol m st)
+  unfolding walkFreeOf
   free-nearest =
       table-keeps (freeV (st .head .cursor) (st .head .chunks)) vol m st Nearest (Nearest (linksOf (st .head .chunks)))
-      (λ k t e p q. tt)
+      (λ k t e h p q. tt)
       (λ k t p q. other k t link.Past q (λ e. let z : _≡_ {A = ℕ} 0 1 = cc in omega arith) p)
       (λ k t p h q. met k t p q)
       (λ k l t p h d q. other k t (link.Linked l) q (λ e. let z : _≡_ {A = ℕ} 0 1 = cc in omega arith) p)
       (λ t p. p) free.Nothing (below-none _)
 
-  pub free-range : {c : ℕ} → freeOf vol m st ≡ free.At c → c < st .head .chunks
-  free-range {c} e = found-free vol m st c refl (subst (Nearest (linksOf (st .head .chunks))) e free-nearest .0)
+  pub walk-range : {c : ℕ} → walkFreeOf vol m st ≡ free.At c → c < st .head .chunks
+  walk-range {c} e = found-free vol m st c refl (subst (Nearest (linksOf (st .head .chunks))) e free-nearest .0)

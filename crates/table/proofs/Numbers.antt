@@ -28,7 +28,7 @@ use Rattle.handles.specs.Body.{bodyAt, dueOf}
 use Rattle.table.specs.declared.Link.{Link}
 use Rattle.table.specs.declared.LinkAt.{LinkAt}
 use Rattle.table.specs.declared.LinkAt.the-variants.{Refused, Past, Free, Linked}
-use Rattle.table.specs.Link.{ownerOf, placeOf, linkBytes, linkFits, linkOf, linkIn, linkPart, linkAt}
+use Rattle.table.specs.Link.{ownerOf, placeOf, linkBytes, linkFits, linkOf, linkIn, linkPart, linkAt, ownedBy}
 
 -- ---- what is found
 
@@ -199,6 +199,11 @@ link-field vol st c at o e h =
     let b : ℕ = 4 * (c % 128) in
     let f : at ≡ a + (b + o) = omega arith in
     ap leNumber (ap (λ (k : ℕ). part k 2 vol) f ∙ sym (part-part b 4 o 2 (part a 512 vol) h ∙ part-part a 512 (b + o) 2 vol (omega arith)))
+
+pub link-owned : (vol : List ℕ) (st : Store) (c slot : ℕ) {at owner : ℕ} → at ≡ 512 * (baseOf (st .copy) + 9) + 4 * c → owner ≡ getLe 2 at vol
+    → eqb (owner % 128) (slot + 1) ≡ ownedBy slot (linkPart vol st c)
+unfolding ownedBy
+link-owned vol st c slot {at} e f = ap (λ (x : ℕ). eqb (x % 128) (slot + 1)) (f ∙ link-field vol st c at 0 (omega arith) (omega arith))
 
 module _ (vol : List ℕ) (m : Medium) (st : Store) (c : ℕ) {o : Outcome} (asked : o ≡ dueOf vol m st (eqb (c % 128) 0) (8 + c / 128)) where
   pub link-refused : {e : Error} → o ≡ No e → Refused e ≡ linkAt vol m st c

@@ -34,5 +34,5 @@ module _ (vol : List ℕ) (m : Medium) (st : Store) where
   pub count-not-stale : (counts : List ℕ) → NotStale (countOf vol m st counts .outcome)
   unfolding countOf
   count-not-stale counts =
-      table-keeps countV vol m st (λ k t. Unit) (λ r. NotStale (r .outcome)) (λ k t e p q. subst Seen q (seen k)) (λ k t p q. tt) (λ k t p h q. tt)
+      table-keeps countV vol m st (λ k t. Unit) (λ r. NotStale (r .outcome)) (λ k t e h p q. subst Seen q (seen k)) (λ k t p q. tt) (λ k t p h q. tt)
       (λ k l t p h d q. tt) (λ t p. tt) counts tt

@@ -41,7 +41,7 @@ use Rattle.table.proofs.Numbers.{Sound, found-free, found-link}
 -- ---- a property that each chunk keeps
 
 module _ {S R : Type 0} (v : TableVisit S R) (vol : List ℕ) (m : Medium) (st : Store) (P : ℕ → S → Type 0) (Q : R → Type 0)
-    (refuses : (k : ℕ) (t : S) (e : Error) → P k t → linkAt vol m st k ≡ link.Refused e → Q (v .refuse e t))
+    (refuses : (k : ℕ) (t : S) (e : Error) → k < linksOf (st .head .chunks) → P k t → linkAt vol m st k ≡ link.Refused e → Q (v .refuse e t))
     (pasts : (k : ℕ) (t : S) → P k t → linkAt vol m st k ≡ link.Past → P (k + 1) t)
     (frees : (k : ℕ) (t : S) → P k t → k < st .head .chunks → linkAt vol m st k ≡ link.Free → P (k + 1) (v .free k t))
     (links : (k : ℕ) (l : Link) (t : S) → P k t → k < st .head .chunks → Sound l (st .head .chunk) → linkAt vol m st k ≡ link.Linked l → P (k + 1) (v .linked k l t))
@@ -55,17 +55,17 @@ module _ {S R : Type 0} (v : TableVisit S R) (vol : List ℕ) (m : Medium) (st :
       let f = found-link vol m st k (sym q) refl in
       subst (P (k + 1)) z (links k l t p (f .0) (f .1) q)
 
-  stops : (k : ℕ) (t : S) (r : R) (x : LinkAt) → linkAt vol m st k ≡ x → P k t → onLink v k t x ≡ stop r → Q r
-  stops k t r (link.Refused e) q p g = let z : v .refuse e t ≡ r = cc in subst Q z (refuses k t e p q)
-  stops k t r link.Past q p g = absurd (let z : _≡_ {A = ℕ} 0 1 = cc in omega arith)
-  stops k t r link.Free q p g = absurd (let z : _≡_ {A = ℕ} 0 1 = cc in omega arith)
-  stops k t r (link.Linked l) q p g = absurd (let z : _≡_ {A = ℕ} 0 1 = cc in omega arith)
+  stops : (k : ℕ) (t : S) (r : R) (x : LinkAt) → k < linksOf (st .head .chunks) → linkAt vol m st k ≡ x → P k t → onLink v k t x ≡ stop r → Q r
+  stops k t r (link.Refused e) h q p g = let z : v .refuse e t ≡ r = cc in subst Q z (refuses k t e h p q)
+  stops k t r link.Past h q p g = absurd (let z : _≡_ {A = ℕ} 0 1 = cc in omega arith)
+  stops k t r link.Free h q p g = absurd (let z : _≡_ {A = ℕ} 0 1 = cc in omega arith)
+  stops k t r (link.Linked l) h q p g = absurd (let z : _≡_ {A = ℕ} 0 1 = cc in omega arith)
 
   pub table-keeps : (s : S) → P 0 s → Q (overTable v vol m st s)
   unfolding visits
   table-keeps s p =
       walk-keeps _ _ (linksOf (st .head .chunks)) P Q (λ k t u h p g. goes k t u (linkAt vol m st k) refl p g)
-      (λ k t r h p g. stops k t r (linkAt vol m st k) refl p g) ends 0 s zero-le p
+      (λ k t r h p g. stops k t r (linkAt vol m st k) h refl p g) ends 0 s zero-le p
 
 -- ---- volumes whose table sectors agree
 
@@ -131,7 +131,7 @@ module _ (vol : List ℕ) (m : Medium) (st : Store) (slot position : ℕ) where
   unfolding locateOf
   locate-ok =
       table-keeps (locateV slot position) vol m st PlaceOk (PlaceOk (linksOf (st .head .chunks)))
-      (λ k t e p q. tt)
+      (λ k t e h p q. tt)
       (λ k t p q. unlinked k t link.Past q (λ l e. let z : _≡_ {A = ℕ} 0 1 = cc in omega arith) p)
       (λ k t p h q. unlinked k t link.Free q (λ l e. let z : _≡_ {A = ℕ} 0 1 = cc in omega arith) p)
       (λ k l t p h d q. met k l t p h d q)
@@ -237,7 +237,7 @@ module _ (vol : List ℕ) (m : Medium) (st : Store) (slot : ℕ) where
   unfolding chainOf chainEnd
   chain-ok =
       table-keeps (chainV slot) vol m st Seen ChainOk
-      (λ k t e p q. tt)
+      (λ k t e h p q. tt)
       (λ k t p q. unseen k t (unlinked vol m st slot 0 k (t .first) link.Past q (λ l e. let z : _≡_ {A = ℕ} 0 1 = cc in omega arith) (p .first)) p)
       (λ k t p h q. unseen k t (unlinked vol m st slot 0 k (t .first) link.Free q (λ l e. let z : _≡_ {A = ℕ} 0 1 = cc in omega arith) (p .first)) p)
       (λ k l t p h d q. seen-step k l t p h d q)

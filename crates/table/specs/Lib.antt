@@ -1,2 +1,3 @@
 pub mod Link
 pub mod Table
+pub mod Free

@@ -115,8 +115,8 @@ freeStep cursor chunks i (free.At b) = pick (ltb (distanceOf cursor chunks i) (d
 abbrev pub freeV : ℕ → ℕ → TableVisit Pick Pick
 freeV cursor chunks = record { refuse = λ e s. free.Refused e; free = freeStep cursor chunks; linked = λ i l s. s; done = λ s. s }
 
-unfoldable pub freeOf : List ℕ → Medium → Store → Pick
-freeOf vol m st = overTable (freeV (st .head .cursor) (st .head .chunks)) vol m st free.Nothing
+unfoldable pub walkFreeOf : List ℕ → Medium → Store → Pick
+walkFreeOf vol m st = overTable (freeV (st .head .cursor) (st .head .chunks)) vol m st free.Nothing
 
 -- a pick, if there is one, lies before chunk i
 abbrev pub Before : ℕ → Pick → Type 0

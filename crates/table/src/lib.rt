@@ -1,4 +1,9 @@
 // The links of the chunk table, and the walks over it: the free chunk, a file's chain, the chunk of a position, and the chunks of each slot.
+mod free;
+
+pub use free::free_chunk;
+pub use free::free_count;
+pub use free::map_of;
 use handles::Store;
 use medium::Error;
 use medium::Medium;
@@ -8,8 +13,8 @@ ghost use Prim.Native.Nat.{ℕ, _+_, _*_, _%_, _<_, _≤_};
 ghost use lib.ListN.{length, getD};
 ghost use Rattle.le.specs.Part.{over};
 ghost use Rattle.medium.specs.Sector.{sectorsOf};
-ghost use Rattle.table.specs.Link.{placeOf, linkBytes, linkOf, linkAt, clearLink, clearedOf};
-ghost use Rattle.table.specs.Table.{linksOf, Before, locateOf, firstStep, chainMore, chainEnd, chainOf, freeStep, freeOf, countOf};
+ghost use Rattle.table.specs.Link.{placeOf, linkBytes, linkOf, linkPart, linkAt, ownedBy, clearLink, clearedOf};
+ghost use Rattle.table.specs.Table.{linksOf, Before, locateOf, firstStep, chainMore, chainEnd, chainOf, freeStep, countOf};
 
 // What a chunk's link says: its file's slot, its place in the file, and the records of a chunk that the file left before it was full.
 pub struct Link {
@@ -118,6 +123,16 @@ pub fn link_at(volume: &[u8], medium: Medium, store: Store, chunk: u32) -> LinkA
     let owner = le::get_u16(volume, at);
     let place = le::get_u16(volume, at + 2);
     link_of(owner, place, chunk < h.chunks, h.chunk)
+}
+
+// Whether the link of `chunk` has `slot` as its owner; nothing else of the link is looked at.
+pub fn owned(volume: &[u8], store: Store, chunk: u32, slot: usize) -> bool
+    requires { ⌜ (64 ≤ sectorsOf (now volume)) × (chunk < 2048) × (slot < 64) ⌝ }
+    ensures { λ r. ⌜ r ≡ ownedBy slot (linkPart (now (volume .entry)) store chunk) ⌝ }
+{
+    let at = 512 * ((handles::base(store.copy) + 9) as usize) + 4 * (chunk as usize);
+    let owner = le::get_u16(volume, at);
+    ((owner % 128) as usize) == slot + 1
 }
 
 // Links in the table's sectors.
@@ -282,6 +297,12 @@ pub enum Pick {
     At(u32),
 }
 
+// How many chunks are free.
+pub enum FreeCount {
+    Refused(Error),
+    Is(u32),
+}
+
 // The nearer of the best free chunk so far and the free chunk `i` after it. Of two chunks in order the later is nearer only where the
 // cursor lies between them, so no distance is computed.
 fn free_step(cursor: u32, chunks: u32, i: u32, best: Pick) -> Pick
@@ -298,33 +319,6 @@ fn free_step(cursor: u32, chunks: u32, i: u32, best: Pick) -> Pick
             Pick::At(b)
         }
     }
-}
-
-// The first free chunk at or after the cursor, going round.
-pub fn free_chunk(volume: &[u8], medium: Medium, store: Store) -> Pick
-    requires { ⌜ (64 ≤ sectorsOf (now volume)) × (store .head .chunks ≤ 2048) × (store .head .cursor < store .head .chunks) ⌝ }
-    ensures { λ r. ⌜ r ≡ freeOf (now (volume .entry)) medium store ⌝ }
-{
-    let h = store.head;
-    let n = links(h.chunks);
-    let mut best = Pick::Nothing;
-    let mut next: u32 = 0;
-    while next < n {
-        let i = next;
-        let e = link_at(volume, medium, store, i);
-        next += 1;
-        match e {
-            LinkAt::Refused(c) => {
-                return Pick::Refused(c);
-            }
-            LinkAt::Past => {}
-            LinkAt::Free => {
-                best = free_step(h.cursor, h.chunks, i, best);
-            }
-            LinkAt::Linked(_) => {}
-        }
-    }
-    best
 }
 
 // Adds the chunks that are linked to each slot to the counts, which the caller cleared; a refusal keeps what was counted before it.

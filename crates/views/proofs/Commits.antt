@@ -36,11 +36,11 @@ format-unchanged {vol} {m} {st} {o} inv f = volume-unchanged vol (o .vol) st (λ
 
 -- accepted: an edited body, and an empty one
 pub commit-edited : {edit : Edit} {name vol : List ℕ} {m : Medium} {st : Store} {o : Out} → CommitMade edit name vol m st o → Edited edit name vol st (o .vol) (o .ans .store)
-commit-edited c = record { size = c .frame .size; head = c .head; body = c .body; rest = c .records }
+commit-edited c = record { size = c .frame .size; head = c .head; free = c .free; body = c .body; rest = c .records }
 
 -- on any volume, where each body sector left unwritten held the bytes due
 pub due-edited : {edit : Edit} {name vol : List ℕ} {st : Store} {o : Out} → CommitDue edit name vol st o → Edited edit name vol st (o .vol) (o .ans .store)
-due-edited {st = st} c = record { size = c .frame .size; head = c .head; body = c .body; rest = kept-records (1 - st .copy) (c .frame) }
+due-edited {st = st} c = record { size = c .frame .size; head = c .head; free = c .free; body = c .body; rest = kept-records (1 - st .copy) (c .frame) }
 
 -- no sector of the volume before it passes as a record of the new store
 pub format-fresh : {chunk : ℕ} {vol : List ℕ} {m : Medium} {o : Out} → FormatMade chunk vol m o

@@ -5,3 +5,4 @@ pub mod Edits
 pub mod Makes
 pub mod Removes
 pub mod Commits
+pub mod Maps

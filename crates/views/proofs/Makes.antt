@@ -37,7 +37,7 @@ use Rattle.views.proofs.Edits.{entry-apart, entry-size, link-there, lin
 -- ---- create
 
 module _ {slot id chunk : ℕ} {name vol : List ℕ} {st : Store} {v : List ℕ} {t : Store} (sane : Sane (st .head) (sectorsOf vol))
-    (done : Edited (Create slot id chunk) name vol st v t) (hs : slot < 64) (hc : chunk < st .head .chunks) (ok : nameOk name ≡ true) where
+    (done : Edited (Create slot id chunk) name vol st v t) (hs : slot < 64) (hc : chunk < st .head .chunks) (short : length name ≤ 40) where
   -- the sectors before it, the entry that is made, and a sector with it
   abbrev old : ℕ → List ℕ
   old k = sectorAt vol (bodyAt st k)
@@ -46,7 +46,7 @@ module _ {slot id chunk : ℕ} {name vol : List ℕ} {st : Store} {v : List ℕ}
   entered k = entryPut k slot (entryBytes name id) (old k)
 
   made : length (entryBytes name id) ≡ 64
-  made = length-entry name id (name-short name ok)
+  made = length-entry name id short
 
   entries-put : (s : ℕ) → s < 64 → entryAt v t s ≡ part (64 * (s % 8)) 64 (entered (s / 8))
   unfolding editOf
@@ -79,19 +79,23 @@ module _ {slot id chunk : ℕ} {name vol : List ℕ} {st : Store} {v : List ℕ}
       ∙ link-apart k (entered k) (entered-whole c h) chunk (plainLink slot 0) (4 * (c % 128)) 4 (λ e q. omega (arith, n))
       ∙ entry-apart k (old k) whole slot (entryBytes name id) made (4 * (c % 128)) 4 (λ e q. omega arith)
 
-  pub created : id ≡ st .head .«next_id» → id + 1 < 2 ^ 32 → Created (diskOf vol st) (diskOf v t) slot chunk name
+  pub created-link : linkView v t chunk ≡ link.Linked (plainLink slot 0)
+  created-link = linked-now sane done chunk (plainLink slot 0) (record { slot = hs; position = omega arith; records = sane .size-least; whole = λ q. refl }) hc link-made-there
+
+  pub created-links : (c : ℕ) → c < linksOf (st .head .chunks) → c ≢ chunk → linkView v t c ≡ linkView vol st c
+  created-links c h n = link-same sane done c (link-other c h n)
+
+  pub created : nameOk name ≡ true → id ≡ st .head .«next_id» → id + 1 < 2 ^ 32 → Created (diskOf vol st) (diskOf v t) slot chunk name
   unfolding nextAfter
-  created next small =
+  created ok next small =
       record {
         shape = same-shape sane done;
         next = next-edited sane done ∙ ap (λ (n : ℕ). n + 1) next;
         records = same-records sane done;
         entry = ap shownAs (entry-here sane done slot (entryBytes name id) made entries-put hs) ∙ rw (← next) (entry-shown name id ok (rw next (sane .next)) (omega arith));
         entries = λ s h n. entry-stays vol st v t s (entry-other sane done slot (entryBytes name id) made entries-put s h n);
-        added =
-            linked-now sane done chunk (plainLink slot 0)
-            (record { slot = hs; position = omega arith; records = sane .size-least; whole = λ q. refl }) hc link-made-there;
-        links = λ c h n. link-same sane done c (link-other c h n);
+        added = created-link;
+        links = created-links;
       }
 
 -- ---- extending: the new link is put first, and the mark after it
@@ -144,13 +148,13 @@ module _ {slot position next last : ℕ} {partial : Bool} {records : ℕ} {name 
   links-linked c h n = links-marked c h ∙ mark-apart (8 + c / 128) (4 * (c % 128)) 4 (omega arith) (λ q e r. let x : c ≢ last = n q in omega (arith, x))
 
   -- the new link, and the others but for the one that is marked
-  new-now : (partial ≡ true → next ≢ last) → linkView v t next ≡ link.Linked new
+  pub new-now : (partial ≡ true → next ≢ last) → linkView v t next ≡ link.Linked new
   new-now n =
       let k : ℕ = 8 + next / 128 in
       linked-now sane done next new (record { slot = hs; position = hp; records = sane .size-least; whole = λ q. refl }) hn
       (links-linked next (omega arith) n ∙ link-there k (body k) (body-whole k (omega arith)) next new refl)
 
-  links-same : (c : ℕ) → c < linksOf (st .head .chunks) → c ≢ next → (partial ≡ true → c ≢ last) → linkView v t c ≡ linkView vol st c
+  pub links-same : (c : ℕ) → c < linksOf (st .head .chunks) → c ≢ next → (partial ≡ true → c ≢ last) → linkView v t c ≡ linkView vol st c
   unfolding linkPart
   links-same c h n m =
       let k : ℕ = 8 + c / 128 in
@@ -158,7 +162,7 @@ module _ {slot position next last : ℕ} {partial : Bool} {records : ℕ} {name 
       (links-linked c h m ∙ link-apart k (body k) (body-whole k (omega arith)) next new (4 * (c % 128)) 4 (λ e q. omega (arith, n)))
 
   -- the mark on the last chunk before, where there is one
-  mark-now : partial ≡ true → records < st .head .chunk → linkView v t last ≡ link.Linked mark
+  pub mark-now : partial ≡ true → records < st .head .chunk → linkView v t last ≡ link.Linked mark
   mark-now q hr =
       let k : ℕ = 8 + last / 128 in
       linked-now sane done last mark (record { slot = hs; position = omega arith; records = hr; whole = λ f. absurd (true≢false f) }) hl

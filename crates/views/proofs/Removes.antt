@@ -46,7 +46,7 @@ module _ {slot : ℕ} {name vol : List ℕ} {st : Store} {v : List ℕ} {t : Sto
       entry-edited sane done s h ∙ ap (part (64 * (s % 8)) 64) (pick-false _ _ low)
 
   -- the links: each of the slot zeroed
-  links-cleared : (c : ℕ) → c < linksOf (st .head .chunks) → linkPart v t c ≡ pick (ownedBy slot (linkPart vol st c)) (zeros 4) (linkPart vol st c)
+  pub links-cleared : (c : ℕ) → c < linksOf (st .head .chunks) → linkPart v t c ≡ pick (ownedBy slot (linkPart vol st c)) (zeros 4) (linkPart vol st c)
   unfolding editOf slotCleared linkPart
   links-cleared c h =
       let k : ℕ = 8 + c / 128 in

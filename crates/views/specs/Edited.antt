@@ -12,12 +12,14 @@ use Rattle.handles.specs.Handles.{bodyOf}
 use Rattle.header.specs.Header.{withCrcs}
 use Rattle.plan.specs.declared.Edit.{Edit}
 use Rattle.plan.specs.Edit.{changesOf, editOf, headAfter}
+use Rattle.plan.specs.Copy.{mapAfter}
 
--- v and t are vol and st after a finished commit of the edit: each body sector edited where it changes, each data sector as it was, and the header
--- the edit's but for its checksums
+-- v and t are vol and st after a finished commit of the edit: each body sector edited where it changes, each data sector as it was, the header
+-- the edit's but for its checksums, and the map the edit's
 pub record Edited (edit : Edit) (name : List ℕ) (vol : List ℕ) (st : Store) (v : List ℕ) (t : Store) : Type 0 where
   pub size : length v ≡ length vol
   pub head : t .head ≡ withCrcs (headAfter edit (st .head)) (t .head .crcs)
+  pub free : t .free ≡ mapAfter edit vol st (st .head .chunks)
   pub body : (k : ℕ) → k < bodyOf (st .head .chunks)
       → sectorAt v (bodyAt t k) ≡ pick (changesOf edit k) (editOf edit name k (sectorAt vol (bodyAt st k))) (sectorAt vol (bodyAt st k))
   pub rest : (j : ℕ) → 64 ≤ j → sectorAt v j ≡ sectorAt vol j

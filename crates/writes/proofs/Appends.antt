@@ -24,7 +24,7 @@ use Rattle.medium.proofs.Frame.{kept-sectors, write-kept}
 use Rattle.handles.specs.declared.Store.{Store}
 use Rattle.handles.specs.Handles.{isOpen, openId, tableOf, baseOf}
 use Rattle.handles.proofs.Laws.{Held, store-facts, base-most}
-use Rattle.table.specs.Table.{freeOf}
+use Rattle.table.specs.Free.{freeOf}
 use Rattle.table.proofs.Decides.{onPick-keeps}
 use Rattle.record.specs.Record.{dataAt, recordOf, numberAt, writeRecordOf}
 use Rattle.record.proofs.Laws.{data-inside}

@@ -12,8 +12,6 @@ use Rattle.le.specs.Tally.{tally}
 use Rattle.le.proofs.Choices.{pick-keeps, pick-keeps-by, pick-true, pick-false}
 use Rattle.le.proofs.Bools.{and-true, or-false, or-right}
 use Rattle.le.proofs.Tallies.{tally-le, tally-none}
-use Rattle.runs.specs.Run.{sameBytes}
-use Rattle.runs.proofs.Tests.{same-true}
 use Rattle.checksum.specs.Crc.{crc32Of}
 use Rattle.medium.specs.declared.Medium.{Medium}
 use Rattle.medium.specs.declared.Outcome.{Outcome}
@@ -31,14 +29,13 @@ use Rattle.plan.specs.declared.Edit.{Edit}
 use Rattle.plan.specs.declared.Edit.the-variants.{Format, Create, Extend, Remove}
 use Rattle.plan.specs.Edit.{slotSector, linkSector, changesOf, editedOf, headAfter}
 use Rattle.plan.specs.Copy.{Plan, Move, Out, isFormat, lists, dueBytes, dueMove, moveOf, copyOut}
-use Rattle.commit.specs.Commit.{sameHead, isCurrent, commitPlan, commitOf}
+use Rattle.commit.specs.Commit.{isCurrent, commitPlan, commitOf}
 use Rattle.remove.proofs.Keeps as remove
 use Rattle.safe.specs.Copy.{Good, Made, Finished}
 use Rattle.safe.specs.Inv.{planOf}
-use Rattle.safe.specs.Mounts.{Stands}
 use Rattle.safe.proofs.Frame.{clash}
 use Rattle.safe.proofs.Copy.{copy-frame, copy-finished}
-use Rattle.safe.proofs.Current.{stands-choice, current-choice, current-stands}
+use Rattle.safe.proofs.Current.{stands-choice, current-choice, own-stands}
 use Rattle.safe.proofs.Mounts.{beside}
 use Rattle.safe.proofs.Commit.{plan-good}
 use Rattle.safe.proofs.Unwritten.{commit-copies}
@@ -48,35 +45,9 @@ use Rattle.writes.proofs.Copies.{Leaves, commit-counted}
 
 -- ---- the store's own copy, where it is current
 
-head-same : (a b : Header) → sameHead a b ≡ true → a ≡ b
-unfolding sameHead
-head-same a b e =
-    let p = and-true (eqb (a .id) (b .id)) _ e in
-    let q = and-true (eqb (a .generation) (b .generation)) _ (p .1) in
-    let r = and-true (eqb (a .«next_id») (b .«next_id»)) _ (q .1) in
-    let s = and-true (eqb (a .cursor) (b .cursor)) _ (r .1) in
-    let t = and-true (eqb (a .chunks) (b .chunks)) _ (s .1) in
-    let u = and-true (eqb (a .chunk) (b .chunk)) (sameBytes (a .crcs) (b .crcs)) (t .1) in
-    rw (
-      eqb-true (a .id) (b .id) (p .0),
-      eqb-true (a .generation) (b .generation) (q .0),
-      eqb-true (a .«next_id») (b .«next_id») (r .0),
-      eqb-true (a .cursor) (b .cursor) (s .0),
-      eqb-true (a .chunks) (b .chunks) (t .0),
-      eqb-true (a .chunk) (b .chunk) (u .0),
-      same-true (a .crcs) (b .crcs) (u .1),
-    ) refl
-
 module _ (vol : List ℕ) (m : Medium) (st : Store) (d : currentOf vol m .outcome ≡ Done) (c : isCurrent (currentOf vol m) st ≡ true) where
-  own-stands : Stands vol (st .copy) (st .head)
-  unfolding isCurrent
-  own-stands =
-      let p = and-true (eqb (currentOf vol m .copy) (st .copy)) (sameHead (currentOf vol m .head) (st .head)) c in
-      subst (Stands vol (st .copy)) (head-same _ _ (p .1))
-      (subst (λ (k : ℕ). Stands vol k (currentOf vol m .head)) (eqb-true _ _ (p .0)) (current-stands vol m d))
-
   current-is : currentOf vol m ≡ takenOf (st .copy) (st .head) (copyOf vol (baseOf (1 - st .copy)) .head) (isOurs (copyOf vol (baseOf (1 - st .copy)) .kind))
-  current-is = current-choice vol m d ∙ stands-choice vol (st .head) (st .copy) own-stands
+  current-is = current-choice vol m d ∙ stands-choice vol (st .head) (st .copy) (own-stands vol m st d c)
 
 -- ---- the copy beside it
 

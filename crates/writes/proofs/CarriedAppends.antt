@@ -21,7 +21,8 @@ use Rattle.directory.specs.Scan.{lookOf, onLooked}
 use Rattle.table.specs.declared.Pick.{Pick}
 use Rattle.table.specs.declared.Pick.the-variants as free
 use Rattle.table.specs.Link.{linkAt}
-use Rattle.table.specs.Table.{freeOf, onPick}
+use Rattle.table.specs.Table.{onPick, walkFreeOf}
+use Rattle.table.specs.Free.{checkedOf, freeOf}
 use Rattle.record.specs.Record.{dataAt, recordOf, numberAt}
 use Rattle.plan.specs.declared.Edit.the-variants.{Create, Extend}
 use Rattle.plan.specs.Copy.{Step, extended, recorded, created, stepsOf}
@@ -81,7 +82,7 @@ module _ {d : ℕ} where
   free-carries : (vol : List ℕ) (st : Store) {f : Medium → Error → AppOut} {n : Medium → AppOut} {g : Medium → ℕ → AppOut}
       → ((e : Error) → Carries d alone handed (λ m. f m e)) → Carries d alone handed n → ((c : ℕ) → Carries d alone handed (λ m. g m c))
       → Carries d alone handed (λ m. onPick (freeOf vol m st) (f m) (n m) (g m))
-  unfolding freeOf linkAt dueOf checkOf readOf onPick
+  unfolding freeOf walkFreeOf checkedOf linkAt dueOf checkOf readOf onPick
   free-carries vol st {f} {n} {g} p q r = given (λ m. freeOf vol m st) (λ x m. onPick x (f m) (n m) (g m)) (λ m. refl) go
     where
       go : (x : Pick) → Carries d alone handed (λ m. onPick x (f m) (n m) (g m))

@@ -16,6 +16,7 @@ use Rattle.medium.specs.declared.Written.{Written}
 use Rattle.medium.specs.Refusal.{onDone}
 use Rattle.medium.specs.Sector.{readOf, spendOf, WriteOut, writeAt, writeOf}
 use Rattle.medium.proofs.Frame.{write-spends}
+use Rattle.freemap.specs.declared.FreeMap.{FreeMap}
 use Rattle.handles.specs.declared.Header.{Header}
 use Rattle.handles.specs.declared.Store.{Store}
 use Rattle.handles.specs.Body.{checkOf, dueOf}
@@ -28,7 +29,7 @@ use Rattle.directory.specs.Entry.{entryAt, slotAt}
 use Rattle.directory.specs.Scan.{oldestOf}
 use Rattle.plan.specs.declared.Edit.{Edit}
 use Rattle.plan.specs.declared.Edit.the-variants.{Remove}
-use Rattle.plan.specs.Copy.{Plan, Move, unread, matched, put, bad, BodyOut, Skipped, Out, moveOf, actOf, bodySectorOf, bodyFrom, skips, skippedFrom, withCrc, lastOf, firstOf, copyOut, refusedOut}
+use Rattle.plan.specs.Copy.{Plan, Move, unread, matched, put, bad, BodyOut, Skipped, Out, moveOf, actOf, bodySectorOf, bodyFrom, skips, skippedFrom, withCrc, freeAfter, lastOf, firstOf, copyOut, refusedOut}
 use Rattle.plan.proofs.Decides.{move-decides}
 use Rattle.commit.specs.Commit.{commitPlan, isCurrent, commitOf}
 use Rattle.remove.specs.Remove.{closedFor, removeOf, GoneOut, noneOut, goneOf, oldestGone, removeOldestOf}
@@ -125,13 +126,13 @@ module _ (d : ℕ) where
     skipped-same vol m zero k = refl
     skipped-same vol m (suc n) k = rw (move-same vol m k, skipped-same vol m n (k + 1)) refl
 
-    last-carries : (skipped : List Skipped) (vol : List ℕ) (h : Header) → Carries d alone copied (λ m. lastOf p skipped vol m h)
+    last-carries : (free : FreeMap) (skipped : List Skipped) (vol : List ℕ) (h : Header) → Carries d alone copied (λ m. lastOf p free skipped vol m h)
     unfolding lastOf
-    last-carries skipped vol h =
+    last-carries free skipped vol h =
         onward (λ w. w .ans .outcome)
         (λ w. record {
           vol = w .vol;
-          ans = record { outcome = Done; medium = w .ans .medium; store = record { copy = p .copy; head = h; writer = p .store .writer } };
+          ans = record { outcome = Done; medium = w .ans .medium; store = record { copy = p .copy; head = h; writer = p .store .writer; free = free } };
           skipped = skipped;
         })
         (λ w. refusedOut (p .store) (w .vol) (w .ans .medium)) (λ w. refl)
@@ -141,27 +142,27 @@ module _ (d : ℕ) where
     size = bodyOf (p .head .chunks)
 
     -- after the first write
-    abbrev ended : List Skipped → BodyOut → Out
-    ended skipped b = onDone (b .ans .outcome) (lastOf p skipped (b .vol) (b .ans .medium) (b .ans .head)) (refusedOut (p .store) (b .vol) (b .ans .medium))
+    abbrev ended : FreeMap → List Skipped → BodyOut → Out
+    ended free skipped b = onDone (b .ans .outcome) (lastOf p free skipped (b .vol) (b .ans .medium) (b .ans .head)) (refusedOut (p .store) (b .vol) (b .ans .medium))
 
-    ended-carries : (skipped : List Skipped) (vol : List ℕ) → Carries d alone copied (λ m. ended skipped (bodyFrom p size 0 vol m (p .head)))
-    ended-carries skipped vol =
-        onward (λ b. b .ans .outcome) (λ b. lastOf p skipped (b .vol) (b .ans .medium) (b .ans .head)) (λ b. refusedOut (p .store) (b .vol) (b .ans .medium)) (λ b. refl)
+    ended-carries : (free : FreeMap) (skipped : List Skipped) (vol : List ℕ) → Carries d alone copied (λ m. ended free skipped (bodyFrom p size 0 vol m (p .head)))
+    ended-carries free skipped vol =
+        onward (λ b. b .ans .outcome) (λ b. lastOf p free skipped (b .vol) (b .ans .medium) (b .ans .head)) (λ b. refusedOut (p .store) (b .vol) (b .ans .medium)) (λ b. refl)
         (body-carries size 0 vol (p .head))
-        (inside (λ b m. lastOf p skipped (b .vol) m (b .ans .head)) (λ b. refl) (λ b. refl) (λ b. last-carries skipped (b .vol) (b .ans .head)))
+        (inside (λ b m. lastOf p free skipped (b .vol) m (b .ans .head)) (λ b. refl) (λ b. refl) (λ b. last-carries free skipped (b .vol) (b .ans .head)))
         (λ e. still (λ b. refl) (λ b. refl))
 
-    abbrev begun : List Skipped → WriteOut → Out
-    begun skipped z = onDone (z .ans .outcome) (ended skipped (bodyFrom p size 0 (z .vol) (z .ans .medium) (p .head))) (refusedOut (p .store) (z .vol) (z .ans .medium))
+    abbrev begun : FreeMap → List Skipped → WriteOut → Out
+    begun free skipped z = onDone (z .ans .outcome) (ended free skipped (bodyFrom p size 0 (z .vol) (z .ans .medium) (p .head))) (refusedOut (p .store) (z .vol) (z .ans .medium))
 
     pub copy-carries : (vol : List ℕ) → Carries d alone copied (λ m. copyOut p vol m)
     unfolding copyOut
     copy-carries vol =
-        given (λ m. skippedFrom p vol m size 0) (λ skipped m. begun skipped (firstOf p vol m)) (λ m. skipped-same vol m size 0)
+        given (λ m. skippedFrom p vol m size 0) (λ skipped m. begun (freeAfter p vol) skipped (firstOf p vol m)) (λ m. skipped-same vol m size 0)
         (λ skipped.
-        onward (λ z. z .ans .outcome) (λ z. ended skipped (bodyFrom p size 0 (z .vol) (z .ans .medium) (p .head))) (λ z. refusedOut (p .store) (z .vol) (z .ans .medium)) (λ z. refl)
+        onward (λ z. z .ans .outcome) (λ z. ended (freeAfter p vol) skipped (bodyFrom p size 0 (z .vol) (z .ans .medium) (p .head))) (λ z. refusedOut (p .store) (z .vol) (z .ans .medium)) (λ z. refl)
         (write-carries vol (baseOf (p .copy)) (p .first))
-        (inside (λ z m. ended skipped (bodyFrom p size 0 (z .vol) m (p .head))) (λ z. refl) (λ z. refl) (λ z. ended-carries skipped (z .vol)))
+        (inside (λ z m. ended (freeAfter p vol) skipped (bodyFrom p size 0 (z .vol) m (p .head))) (λ z. refl) (λ z. refl) (λ z. ended-carries (freeAfter p vol) skipped (z .vol)))
         (λ e. still (λ z. refl) (λ z. refl)))
 
   -- ---- the commit

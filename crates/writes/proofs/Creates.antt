@@ -15,7 +15,7 @@ use Rattle.handles.specs.declared.Store.{Store}
 use Rattle.handles.specs.Handles.{tableOf}
 use Rattle.directory.specs.Scan.{lookOf}
 use Rattle.directory.proofs.Decides.{onLooked-keeps}
-use Rattle.table.specs.Table.{freeOf}
+use Rattle.table.specs.Free.{freeOf}
 use Rattle.table.proofs.Decides.{onPick-keeps}
 use Rattle.plan.specs.declared.Edit.the-variants.{Create, Remove}
 use Rattle.commit.specs.Commit.{commitOf}

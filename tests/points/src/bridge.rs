@@ -1,23 +1,24 @@
 //! The functions of crates/bridge_points, and what crosses: numbers in the order that its src/lib.rt and
 //! those of the crates bridge and bridge_write have.
 use crate::model::{Item, Marked, Upto};
-use driver::script::State;
+use driver::script::{Map, State};
 use driver::{Medium, Reader, hole_blanks};
-use port::bridge::{NO_APPENDER, Words, appender_words, medium_words, reader_words, store_words};
+use port::bridge::{NO_APPENDER, Words, appender_words, map_of, medium_words, reader_words, store_row, store_words, ten_of};
+use port::map::UNFIT;
 
 #[link(name = "bridge_points", kind = "static")]
 unsafe extern "C" {
     fn port_set_point(
-        volume: *mut u8, length: usize, medium: &mut [u64; 4], store: &mut [u64; 10], crcs: &mut [u32; 24],
+        volume: *mut u8, length: usize, medium: &mut [u64; 4], store: &mut [u64; 43], crcs: &mut [u32; 24],
         point: *const u8, point_length: usize, name: *const u8, name_length: usize,
         answer: &mut [u64; 3], appender: &mut [u64; 10], buffer: &mut [u8; 486], over: &mut [u8; 40],
     ) -> u32;
     fn port_read_point(
-        volume: *const u8, length: usize, medium: &mut [u64; 4], store: &[u64; 10], crcs: &[u32; 24],
+        volume: *const u8, length: usize, medium: &mut [u64; 4], store: &[u64; 43], crcs: &[u32; 24],
         point: *const u8, point_length: usize, reader: &mut [u64; 10], limit: &mut [u64; 1],
     ) -> u32;
     fn port_upto_next(
-        volume: *const u8, length: usize, medium: &mut [u64; 4], store: &[u64; 10], crcs: &[u32; 24],
+        volume: *const u8, length: usize, medium: &mut [u64; 4], store: &[u64; 43], crcs: &[u32; 24],
         reader: &mut [u64; 10], limit: &mut [u64; 1], out: *mut u8, out_length: usize, answer: &mut [u64; 4],
     ) -> u32;
 }
@@ -30,6 +31,8 @@ pub struct Told {
     answer: [u64; 4],
     medium: [u64; 4],
     store: ([u64; 10], [u32; 24]),
+    /// Of a setting by the port; the model has none.
+    pub map: Map,
     appender: Words,
     reader: [u64; 10],
     limit: u64,
@@ -43,6 +46,7 @@ impl Told {
             answer: [0; 4],
             medium: medium_words(m),
             store: Default::default(),
+            map: UNFIT,
             appender: NO_APPENDER,
             reader: [0; 10],
             limit: 0,
@@ -133,25 +137,26 @@ pub fn first(a: &[u8], b: &[u8]) -> usize {
 /// Set a point by the port, on a copy of the volume, which comes back.
 pub fn set_point(st: &State, point: &[u8], name: &[u8]) -> (Told, Vec<u8>) {
     let (mut told, mut volume) = (Told::new(&st.m), st.m.volume.clone());
-    told.store = store_words(st.store.as_ref().unwrap());
+    let (mut row, mut crcs) = store_row(st).unwrap();
     told.appender = Words { small: [u64::MAX; 10], buffer: [0xee; 486], dir: [0xee; 40] };
     let answer = &mut [u64::MAX; 3];
     let Words { small, buffer, dir } = &mut told.appender;
     // SAFETY: each pointer is that of a live slice of the length beside it.
     told.refusal = unsafe {
         port_set_point(
-            volume.as_mut_ptr(), volume.len(), &mut told.medium, &mut told.store.0, &mut told.store.1,
+            volume.as_mut_ptr(), volume.len(), &mut told.medium, &mut row, &mut crcs,
             point.as_ptr(), point.len(), name.as_ptr(), name.len(), answer, small, buffer, dir,
         )
     };
     told.answer[..3].copy_from_slice(answer);
+    (told.store, told.map) = ((ten_of(&row), crcs), map_of(&row));
     (told, volume)
 }
 
 /// Read up to a point by the port.
 pub fn read_point(st: &State, point: &[u8]) -> Told {
     let mut told = Told { reader: [u64::MAX; 10], ..Told::new(&st.m) };
-    let (store, crcs) = store_words(st.store.as_ref().unwrap());
+    let (store, crcs) = store_row(st).unwrap();
     let (v, limit) = (&st.m.volume, &mut [u64::MAX]);
     // SAFETY: as above.
     told.refusal = unsafe {
@@ -164,7 +169,7 @@ pub fn read_point(st: &State, point: &[u8]) -> Told {
 /// The next of a reader up to a point by the port. `out`: what is lent.
 pub fn upto_next(st: &State, reader: &Reader, limit: u32, out: Vec<u8>) -> Told {
     let mut told = Told { reader: reader_words(reader), answer: [u64::MAX; 4], out, ..Told::new(&st.m) };
-    let (store, crcs) = store_words(st.store.as_ref().unwrap());
+    let (store, crcs) = store_row(st).unwrap();
     let (v, limit) = (&st.m.volume, &mut [limit.into()]);
     // SAFETY: as above.
     told.refusal = unsafe {

@@ -130,6 +130,7 @@ impl<'a> Pair<'a> {
     /// Set a point: the record number or the refusal.
     pub fn set_point(&mut self, point: &[u8], name: &[u8]) -> Result<Result<u32, u32>, String> {
         let (port, volume) = bridge::set_point(self.st(), point, name);
+        let before = self.st().store;
         let st = &mut self.play.session.st;
         let marked = self.model.set(st.store.as_mut().unwrap(), &mut st.m, point, name);
         let told = Told::marked(st, &marked);
@@ -145,6 +146,7 @@ impl<'a> Pair<'a> {
         if marked.appender.is_some() {
             st.app = marked.appender;
         }
+        self.play.keep("set_point", marked.answer.is_ok(), before, port.map)?;
         Ok(marked.answer)
     }
 

@@ -1,64 +1,67 @@
 //! The functions of crates/bridge and crates/bridge_write, and what crosses:
 //! numbers in the order that their src/lib.rt have.
-use driver::script::{Lent, Session, bytes_of, hole, next_text, num, rows_text};
+use driver::script::{Lent, Map, Session, State, bytes_of, hole, next_text, num, rows_text};
 use driver::{Appender, Medium, Next, Reader, Store, unhex};
 
 #[link(name = "bridge", kind = "static")]
 unsafe extern "C" {
-    pub fn port_mount(volume: *const u8, length: usize, medium: &mut [u64; 4], store: &mut [u64; 10], crcs: &mut [u32; 24]) -> u32;
+    pub fn port_mount(volume: *const u8, length: usize, medium: &mut [u64; 4], store: &mut [u64; 43], crcs: &mut [u32; 24]) -> u32;
+    pub fn port_free_count(
+        volume: *const u8, length: usize, medium: &mut [u64; 4], store: &[u64; 43], crcs: &[u32; 24], answer: &mut [u64; 3],
+    ) -> u32;
     pub fn port_find(
-        volume: *const u8, length: usize, medium: &mut [u64; 4], store: &[u64; 10], crcs: &[u32; 24],
+        volume: *const u8, length: usize, medium: &mut [u64; 4], store: &[u64; 43], crcs: &[u32; 24],
         name: *const u8, name_length: usize, answer: &mut [u64; 3],
     ) -> u32;
     pub fn port_list(
-        volume: *const u8, length: usize, medium: &mut [u64; 4], store: &[u64; 10], crcs: &[u32; 24],
+        volume: *const u8, length: usize, medium: &mut [u64; 4], store: &[u64; 43], crcs: &[u32; 24],
         dir: *const u8, dir_length: usize, counts: *mut u16, counts_length: usize, rows: *mut u8, rows_length: usize,
         answer: &mut [u64; 3],
     ) -> u32;
     pub fn port_reader(
-        volume: *const u8, length: usize, medium: &mut [u64; 4], store: &[u64; 10], crcs: &[u32; 24],
+        volume: *const u8, length: usize, medium: &mut [u64; 4], store: &[u64; 43], crcs: &[u32; 24],
         name: *const u8, name_length: usize, reader: &mut [u64; 10],
     ) -> u32;
     pub fn port_next(
-        volume: *const u8, length: usize, medium: &mut [u64; 4], store: &[u64; 10], crcs: &[u32; 24],
+        volume: *const u8, length: usize, medium: &mut [u64; 4], store: &[u64; 43], crcs: &[u32; 24],
         reader: &mut [u64; 10], out: *mut u8, out_length: usize, answer: &mut [u64; 4],
     ) -> u32;
     pub fn port_seek(
-        volume: *const u8, length: usize, medium: &mut [u64; 4], store: &[u64; 10], crcs: &[u32; 24],
+        volume: *const u8, length: usize, medium: &mut [u64; 4], store: &[u64; 43], crcs: &[u32; 24],
         reader: &mut [u64; 10], record: u32,
     ) -> u32;
-    pub fn port_record(store: &[u64; 10], crcs: &[u32; 24], reader: &[u64; 10], answer: &mut [u64; 3]) -> u32;
+    pub fn port_record(store: &[u64; 43], crcs: &[u32; 24], reader: &[u64; 10], answer: &mut [u64; 3]) -> u32;
 }
 
 #[link(name = "bridge_write", kind = "static")]
 unsafe extern "C" {
     pub fn port_format(
         volume: *mut u8, length: usize, medium: &mut [u64; 4], size: u32, seed: u64,
-        store: &mut [u64; 10], crcs: &mut [u32; 24],
+        store: &mut [u64; 43], crcs: &mut [u32; 24],
     ) -> u32;
     pub fn port_delete(
-        volume: *mut u8, length: usize, medium: &mut [u64; 4], store: &mut [u64; 10], crcs: &mut [u32; 24],
+        volume: *mut u8, length: usize, medium: &mut [u64; 4], store: &mut [u64; 43], crcs: &mut [u32; 24],
         name: *const u8, name_length: usize,
     ) -> u32;
     pub fn port_delete_oldest(
-        volume: *mut u8, length: usize, medium: &mut [u64; 4], store: &mut [u64; 10], crcs: &mut [u32; 24],
+        volume: *mut u8, length: usize, medium: &mut [u64; 4], store: &mut [u64; 43], crcs: &mut [u32; 24],
         dir: *const u8, dir_length: usize, answer: &mut [u64; 3], gone: &mut [u8; 40],
     ) -> u32;
     pub fn port_append(
-        volume: *mut u8, length: usize, medium: &mut [u64; 4], store: &mut [u64; 10], crcs: &mut [u32; 24],
+        volume: *mut u8, length: usize, medium: &mut [u64; 4], store: &mut [u64; 43], crcs: &mut [u32; 24],
         appender: &mut [u64; 10], buffer: &mut [u8; 486], dir: &mut [u8; 40], bytes: *const u8, bytes_length: usize,
     ) -> u32;
     pub fn port_sync(
-        volume: *mut u8, length: usize, medium: &mut [u64; 4], store: &mut [u64; 10], crcs: &mut [u32; 24],
+        volume: *mut u8, length: usize, medium: &mut [u64; 4], store: &mut [u64; 43], crcs: &mut [u32; 24],
         appender: &mut [u64; 10], buffer: &mut [u8; 486], dir: &mut [u8; 40],
     ) -> u32;
     pub fn port_create(
-        volume: *mut u8, length: usize, medium: &mut [u64; 4], store: &mut [u64; 10], crcs: &mut [u32; 24],
+        volume: *mut u8, length: usize, medium: &mut [u64; 4], store: &mut [u64; 43], crcs: &mut [u32; 24],
         name: *const u8, name_length: usize, rolls: u32, dir: *const u8, dir_length: usize,
         appender: &mut [u64; 10], buffer: &mut [u8; 486], over: &mut [u8; 40],
     ) -> u32;
     pub fn port_open_append(
-        volume: *const u8, length: usize, medium: &mut [u64; 4], store: &mut [u64; 10], crcs: &mut [u32; 24],
+        volume: *const u8, length: usize, medium: &mut [u64; 4], store: &mut [u64; 43], crcs: &mut [u32; 24],
         name: *const u8, name_length: usize, rolls: u32, dir: *const u8, dir_length: usize,
         appender: &mut [u64; 10], buffer: &mut [u8; 486], over: &mut [u8; 40],
     ) -> u32;
@@ -77,6 +80,24 @@ pub fn store_words(s: &Store) -> ([u64; 10], [u32; 24]) {
     let (next, cursor) = (s.x_next_id().into(), s.x_cursor().into());
     let (chunks, size) = (s.chunks().into(), s.chunk_sectors().into());
     ([s.x_copy(), s.store_id(), s.generation(), next, cursor, chunks, size, kind, token, id], s.x_crcs())
+}
+
+/// A store value's row: the Rust's numbers, then the port's map.
+pub fn row(ten: [u64; 10], map: Map) -> [u64; 43] {
+    std::array::from_fn(|i| if i < 10 { ten[i] } else { map[i - 10] })
+}
+
+pub fn ten_of(row: &[u64; 43]) -> [u64; 10] {
+    row[..10].try_into().unwrap()
+}
+
+pub fn map_of(row: &[u64; 43]) -> Map {
+    row[10..].try_into().unwrap()
+}
+
+/// The row and the checksums of the store in hand.
+pub fn store_row(st: &State) -> Option<([u64; 43], [u32; 24])> {
+    st.store.as_ref().map(store_words).map(|(ten, crcs)| (row(ten, st.map), crcs))
 }
 
 pub fn reader_words(r: &Reader) -> [u64; 10] {
@@ -119,6 +140,8 @@ pub struct Told {
     medium: [u64; 4],
     /// Of mount and of the calls that write.
     store: ([u64; 10], [u32; 24]),
+    /// With it; the Rust has none, `Play` holds it to the table.
+    pub map: Option<Map>,
     /// Of reader, next and seek.
     reader: [u64; 10],
     /// Of next: the blank sectors of a hole (02, S-4). The Rust has none: they are counted in the volume.
@@ -153,6 +176,7 @@ impl Told {
             text: text.into(),
             medium: medium_words(&st.m),
             store: store.unwrap_or_default(),
+            map: None,
             reader: reader.map(reader_words).unwrap_or_default(),
             blank: hole(text).map_or(0, |(from, to)| count(&st.m, st.store.as_ref().unwrap(), st.reader.as_ref().unwrap(), from, to)),
             appender,
@@ -225,6 +249,7 @@ pub fn ask(session: &Session, w: &[&str]) -> Option<Told> {
         text: String::new(),
         medium: medium_words(&st.m),
         store: Default::default(),
+        map: None,
         reader: Default::default(),
         blank: 0,
         appender: NO_APPENDER,
@@ -240,15 +265,20 @@ pub fn ask(session: &Session, w: &[&str]) -> Option<Told> {
     let (at, length) = (v.as_ptr(), v.len());
     let answer = &mut [u64::MAX; 3];
     if w[0] == "mount" {
-        let (store, crcs) = (&mut [u64::MAX; 10], &mut [u32::MAX; 24]);
+        let (store, crcs) = (&mut [u64::MAX; 43], &mut [u32::MAX; 24]);
         // SAFETY: each pointer is that of a live slice of the length beside it.
         let no = unsafe { port_mount(at, length, &mut told.medium, store, crcs) };
-        told.store = (*store, *crcs);
+        (told.store, told.map) = ((ten_of(store), *crcs), Some(map_of(store)));
         told.text = if no == 0 { format!("ok {}", store[5]) } else { format!("no {no}") };
         return Some(told);
     }
-    let (store, crcs) = st.store.as_ref().map(store_words)?;
+    let (store, crcs) = store_row(st)?;
     match w[0] {
+        "free_count" => {
+            // SAFETY: as above.
+            let no = unsafe { port_free_count(at, length, &mut told.medium, &store, &crcs, answer) };
+            told.text = if no == 0 { format!("ok {}", answer[0]) } else { format!("no {no}") };
+        }
         "find" => {
             let name = text(1);
             // SAFETY: as above.
@@ -344,15 +374,14 @@ fn ask_writing(session: &Session, w: &[&str], mut told: Told) -> Option<Told> {
     let answer = &mut [u64::MAX; 3];
     if w[0] == "format" {
         let (size, seed) = (w.get(1).and_then(|w| num(w))?, w.get(2).and_then(|w| num(w))?);
-        let (store, crcs) = (&mut [u64::MAX; 10], &mut [u32::MAX; 24]);
+        let (store, crcs) = (&mut [u64::MAX; 43], &mut [u32::MAX; 24]);
         // SAFETY: each pointer is that of a live slice of the length beside it.
         let no = unsafe { port_format(at, length, &mut told.medium, size as u32, seed, store, crcs) };
-        told.store = (*store, *crcs);
+        (told.store, told.map) = ((ten_of(store), *crcs), Some(map_of(store)));
         told.text = no_or(no, store[5].to_string());
         return Some(told);
     }
-    told.store = st.store.as_ref().map(store_words)?;
-    let (store, crcs) = (&mut told.store.0, &mut told.store.1);
+    let (store, crcs) = &mut store_row(st)?;
     match w[0] {
         "delete" => {
             let name = text(1);
@@ -406,5 +435,6 @@ fn ask_writing(session: &Session, w: &[&str], mut told: Told) -> Option<Told> {
         }
         _ => return None,
     }
+    (told.store, told.map) = ((ten_of(store), *crcs), Some(map_of(store)));
     Some(told)
 }

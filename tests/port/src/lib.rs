@@ -6,12 +6,14 @@ pub mod firmware;
 pub mod histories;
 pub mod holds;
 pub mod make;
+pub mod map;
 pub mod rules;
 pub mod world;
 pub mod writes;
 use bridge::{Count, Told};
-use driver::hole_blanks;
-use driver::script::{Retires, Session, equal_generations, hole, retires, words};
+use driver::script::{Map, Retires, Session, equal_generations, hole, retires, words};
+use driver::{Store, hole_blanks};
+use map::{UNFIT, Wrong};
 use std::collections::{BTreeMap, BTreeSet, VecDeque};
 use std::panic::{AssertUnwindSafe, catch_unwind};
 use writes::{Asked, Writes};
@@ -25,6 +27,7 @@ pub const CALLS: &[(&str, &[u32])] = &[
     ("next", &[2, 3, 4, 7, 11]),
     ("seek", &[3, 4, 7, 11]),
     ("record", &[3]),
+    ("free_count", &[3, 4, 7]),
     ("format", &[2, 4, 6, 12]),
     ("create", &[1, 3, 4, 5, 6, 7, 8, 10, 11, 12, 16]),
     ("open_append", &[1, 3, 4, 7, 9, 16]),
@@ -58,6 +61,35 @@ pub struct Tally {
     /// Formats at equal generations, which are not of the common domain.
     equal: u64,
     pub holes: Holes,
+    pub maps: Maps,
+}
+
+/// The maps of free chunks that the port handed back, each as the table has it (02, S-3).
+#[derive(Default)]
+pub struct Maps {
+    pub fit_mounts: u64,
+    pub unfit_mounts: u64,
+    /// Accepted with an unfit map.
+    pub unfit_creates: u64,
+    /// Fit ones that a call changed.
+    pub moved: u64,
+    /// Of refused calls.
+    pub refused: u64,
+}
+
+impl Maps {
+    fn count(&mut self, call: &str, accepted: bool, given: &Map, map: &Map) {
+        let unfit = map[0] == 0;
+        self.fit_mounts += u64::from(call == "mount" && !unfit);
+        self.unfit_mounts += u64::from(call == "mount" && unfit);
+        self.unfit_creates += u64::from(call == "create" && accepted && unfit);
+        self.moved += u64::from(!matches!(call, "mount" | "format") && given != map);
+        self.refused += u64::from(!accepted);
+    }
+    pub fn show(&self) -> String {
+        let Maps { fit_mounts, unfit_mounts, unfit_creates, moved, refused } = self;
+        format!("maps: {fit_mounts} fit mounts, {unfit_mounts} unfit; {unfit_creates} creates with an unfit map; {moved} moved, {refused} of refused calls")
+    }
 }
 
 /// The holes that next gave, and their blank sectors (02, S-4).
@@ -116,6 +148,7 @@ impl Tally {
         let mut text: Vec<_> = CALLS.iter().map(|(call, _)| line(call, &|c| c == *call)).collect();
         text.extend(self.writes.show());
         text.push(self.holes.show());
+        text.push(self.maps.show());
         text.push(format!("geometries: {}; formats at equal generations: {}", self.geometries.len(), self.equal));
         text.push(line("no difference", &|_| true));
         text.join("\n")
@@ -157,11 +190,13 @@ pub struct Play<'a> {
     /// How the blank sectors of a hole are counted in the volume, and the port's last count.
     pub count: Count,
     blank: u64,
+    /// What is done to a map on its way to the port and back: nothing, or a fault.
+    pub wrong: Wrong,
 }
 
 impl<'a> Play<'a> {
     pub fn new(tally: &'a mut Tally) -> Self {
-        Play { session: Session::new(true), copies: Session::new(true), tally, last: None, count: hole_blanks, blank: 0 }
+        Play { session: Session::new(true), copies: Session::new(true), tally, last: None, count: hole_blanks, blank: 0, wrong: |_, _, _| {} }
     }
 
     /// Holds the port's call to its law. What it spent is what it hands back less than it was given.
@@ -188,7 +223,12 @@ impl<'a> Play<'a> {
             let (call, refusal) = told?;
             self.tally.count(call, refusal);
         }
+        let (given, before) = (self.session.st.map, self.session.st.store);
+        if before.is_some() && w.first().is_some() {
+            (self.wrong)(w[0], None, &mut self.session.st.map);
+        }
         let port = w.first().and_then(|_| bridge::ask(&self.session, &w));
+        self.session.st.map = given;
         if let Some(port) = &port {
             self.hold(&w, port)?;
             self.tally.equal += u64::from(w[0] == "format" && equal_generations(&self.session.st.m));
@@ -204,12 +244,46 @@ impl<'a> Play<'a> {
             if let Some(why) = rust.differs(&port, &self.session.st.m.volume) {
                 return Err(why);
             }
+            if let Some(map) = port.map {
+                self.keep(w[0], refusal == 0, before, map)?;
+            }
             if let Some((from, to)) = hole(&text) {
                 self.tally.holes.count((to - from).into(), port.blank);
                 self.blank = port.blank;
             }
         }
+        match w[..] {
+            // the map is that of the port's own calls; a store value of others gets the unfit one, with which the port walks the table as the Rust does
+            ["earlier", ..] | ["set", "store", "chunks" | "size", ..] => self.session.st.map = UNFIT,
+            ["set", "store", field, ..] if field.starts_with("crc") => self.session.st.map = UNFIT,
+            _ => {}
+        }
         Ok(text)
+    }
+
+    /// Holds the map that the port handed back to the table's bytes, and hands it on. `before`: the store value given.
+    pub fn keep(&mut self, call: &str, accepted: bool, before: Option<Store>, mut map: Map) -> Result<(), String> {
+        let st = &mut self.session.st;
+        (self.wrong)(call, Some(&st.map), &mut map);
+        let new = matches!(call, "mount" | "format");
+        let moved = before.map(|s| s.generation()) != st.store.map(|s| s.generation());
+        let want = match (call, st.store) {
+            _ if new && !accepted => UNFIT,
+            ("mount", Some(s)) => map::mounted(&st.m, &s),
+            ("format", Some(s)) => map::of_bytes(&st.m.volume, s.x_copy(), s.chunks()),
+            (_, Some(s)) if moved && st.map != UNFIT && map::checked(&st.m.volume, None, &s) => map::of_bytes(&st.m.volume, s.x_copy(), s.chunks()),
+            // a table that does not hold is not looked at by a call
+            _ if moved && st.map != UNFIT => map,
+            _ => st.map,
+        };
+        if map != want {
+            return Err(format!("map of free chunks\nthe table {}\nthe port {}", map::show(&want), map::show(&map)));
+        }
+        if accepted || !new {
+            self.tally.maps.count(call, accepted, &st.map, &map);
+            st.map = map;
+        }
+        Ok(())
     }
 
     /// `stops CALL ; LINE ; ..`. Prints the answer and how often the call was stopped.

@@ -305,8 +305,9 @@ impl Maker {
 
     fn call(&mut self) {
         let (_, size) = self.sizes();
-        match self.r.below(9) {
+        match self.r.below(10) {
             0 => self.say("mount".into()),
+            9 => self.say("free_count".into()),
             1 | 2 => {
                 let n = self.name();
                 self.say(format!("find {n}"));

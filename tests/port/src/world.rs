@@ -1,5 +1,6 @@
 //! The port alone: the volume as left and the handles last returned, as numbers, and a call on them.
 use crate::bridge::*;
+use crate::map;
 use driver::book::{Call, bytes_of};
 use driver::rig::Op;
 
@@ -22,8 +23,8 @@ pub struct World {
     pub volume: Vec<u8>,
     /// left, unreadable, entropy, token
     pub medium: [u64; 4],
-    /// copy, id, generation, next id, cursor, chunks, sectors per chunk, writer, its token, its file id
-    pub store: [u64; 10],
+    /// copy, id, generation, next id, cursor, chunks, sectors per chunk, writer, its token, its file id; whether the map is fit, its 32 words
+    pub store: [u64; 43],
     pub crcs: [u32; 24],
     /// token, slot, id, chunk, position, tail, its count, fill, rolls over, length of the directory
     pub appender: [u64; 10],
@@ -57,7 +58,7 @@ impl World {
         World {
             volume,
             medium: [u32::MAX.into(), u64::MAX, 0, 0],
-            store: [0; 10],
+            store: [0; 43],
             crcs: [0; 24],
             appender: [0, 0, 0, 0, 0, 2, 0, 0, 0, 0],
             buffer: [0; 486],
@@ -70,11 +71,12 @@ impl World {
         self.volume.len() as u64 / 512
     }
 
-    /// 01's number 3 for the store value.
+    /// 01's number 3 for the store value, and 02's, S-3, for its map.
     pub fn bad_store(&self) -> bool {
         let [copy, id, _, next, cursor, chunks, size, ..] = self.store;
         let outside = !(1..=2048).contains(&chunks) || !(1..=512).contains(&size) || cursor >= chunks;
-        copy > 1 || id == 0 || next == 0 || outside || chunks * size + 64 > self.sectors()
+        let map = map::bad(&map_of(&self.store), chunks);
+        copy > 1 || id == 0 || next == 0 || outside || chunks * size + 64 > self.sectors() || map
     }
 
     /// For the appender. A history's rollover is a directory.
@@ -120,7 +122,7 @@ impl World {
 
     /// A refused mount or format hands back no store.
     fn started(&mut self, call: &Call, told: &mut Told) -> u32 {
-        let (store, crcs) = (&mut [u64::MAX; 10], &mut [u32::MAX; 24]);
+        let (store, crcs) = (&mut [u64::MAX; 43], &mut [u32::MAX; 24]);
         let (at, length) = (self.volume.as_mut_ptr(), self.volume.len());
         // SAFETY: here and below, each pointer is that of a live slice of the length beside it.
         let no = unsafe {
@@ -214,6 +216,13 @@ impl World {
             })
             .collect();
         no
+    }
+
+    /// Not of the book: how many chunks are free, or the refusal.
+    pub fn free_count(&mut self) -> (u32, u64) {
+        let World { volume: v, medium: m, store: s, crcs: c, .. } = self;
+        let answer = &mut [u64::MAX; 3];
+        (unsafe { port_free_count(v.as_ptr(), v.len(), m, s, c, answer) }, answer[0])
     }
 
     fn looked(&mut self, call: &Call, told: &mut Told) -> u32 {

@@ -35,8 +35,8 @@ pub fn most(a: &Asked) -> u64 {
 }
 
 /// The calls with one law each, by the names of their rows.
-const ONE: [&str; 11] =
-    ["mount", "list", "find", "reader", "next", "seek", "record", "open_append", "format", "delete", "delete_oldest"];
+const ONE: [&str; 12] =
+    ["mount", "list", "find", "reader", "next", "seek", "record", "free_count", "open_append", "format", "delete", "delete_oldest"];
 
 impl Asked {
     /// The call of a line, if it is one with a law and its handles are there.

@@ -15,7 +15,7 @@ use Rattle.commit.proofs.rewrite.Tie as tie
 -- ---- places: from each write back to the one before it
 
 abbrev start : tie.After-zero-sector → tie.Start
-start c = c .before .before .before .before .before .before
+start c = c .before .before .before .before .before .before .before .before
 
 abbrev first : tie.After-write-body → tie.After-zero-sector
 first c = c .before .before .before .before .before .before .before
@@ -29,8 +29,11 @@ plan c = commitPlan (c .args .found) (c .args .edit) (c .args .name .now) (c .ar
 
 -- ---- needs
 
+map-after-requires : tie.Need-map-after-requires
+map-after-requires c κs = let s = c .before .before .before in let f = store-facts (s .args .store) _ (s .pre .0) in (f .enough, f .head .chunks-most, s .pre .2, s .pre .3)
+
 sub-copy : tie.Need-sub-copy
-sub-copy c = omega (arith, let s = c .before .before .before in store-facts (s .args .store) _ (s .pre .0) .copy)
+sub-copy c = omega (arith, let s = c .before .before .before .before .before in store-facts (s .args .store) _ (s .pre .0) .copy)
 
 base-requires : tie.Need-base-requires
 base-requires c κs = search needs
@@ -40,7 +43,7 @@ zero-sector-requires c κs =
     omega (
       arith,
       c .base .ensures .1,
-      let s = c .before .before .before .before .before in store-facts (s .args .store) _ (s .pre .0) .enough,
+      let s = c .before .before .before .before .before .before .before in store-facts (s .args .store) _ (s .pre .0) .enough,
     )
 
 enum-known-zo : tie.Need-enum-known-zo
@@ -137,24 +140,30 @@ returns-3 c =
 enum-told-3 : tie.Need-enum-told-3
 enum-told-3 c = search needs
 
+finished-requires : tie.Need-finished-requires
+finished-requires c κs = search needs
+
 same-length-4 : tie.Need-same-length-4
-same-length-4 c = search needs
+same-length-4 c =
+    let w = c .before .before .before .before .before .before in
+    w .write-head .kept .0 ∙ body w .write-body .kept .0 ∙ first (body w) .zero-sector .kept .0
 
 returns-4 : tie.Need-returns-4
 unfolding commitPlan headAfter
 returns-4 c =
-    let w = c .before .before .before .before .before in
+    let w = c .before .before .before .before .before .before in
     let b = body w in
     let z = first b in
     let s = start z in
-    made (plan s) (s .args .volume .now) (s .args .medium) (z .before .base .ensures .0) (z .zero-sector .ensures)
+    made-of (c .finished .ensures) (made (plan s) (s .args .volume .now) (s .args .medium) (z .before .base .ensures .0) (z .zero-sector .ensures)
     (b .before .before .enum-told .given .1) (b .write-body .ensures) (w .before .before .before .enum-told2 .given .1) (w .write-head .ensures)
-    (c .enum-told3 .given .1)
+    (z .before .before .before .before .map-after .ensures) (c .before .enum-told3 .given .1))
 
 pub rewrite-spec : {M : Type 1} → statement M
 rewrite-spec =
     tie.close
     (tie.spec
+    map-after-requires
     sub-copy
     base-requires
     zero-sector-requires
@@ -175,5 +184,6 @@ rewrite-spec =
     same-length-3
     returns-3
     enum-told-3
+    finished-requires
     same-length-4
     returns-4)

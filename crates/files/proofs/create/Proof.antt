@@ -8,7 +8,7 @@ use Rattle.files.proofs.create.Statement.{statement}
 use Rattle.files.proofs.create.Tie as tie
 
 count : (s : tie.Start) → length (s .args .store .head .crcs) ≡ 24
-count s = search (needs, s .good .1 .1 .0)
+count s = search (needs, s .good .1 .1 .0 .0)
 
 round-requires : tie.Need-round-requires
 round-requires c κs = search needs

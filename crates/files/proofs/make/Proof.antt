@@ -20,7 +20,7 @@ commit-requires : tie.Need-commit-requires
 unfolding isFormat
 commit-requires c κs =
     let p = c .before .before .before .before .pre in
-    let n : c .before .before .before .before .args .store .head .«next_id» < 2 ^ 32 = search (needs, c .before .before .before .before .good .1 .1 .0) in
+    let n : c .before .before .before .before .args .store .head .«next_id» < 2 ^ 32 = search (needs, c .before .before .before .before .good .1 .1 .0 .0) in
     (p .0, (p .2, omega (arith, n, c .before .if1 .left), p .3), refl, p .1)
 
 enum-known-o : tie.Need-enum-known-o

@@ -28,7 +28,7 @@ part-remove-oldest-start c = search needs
 part-remove-oldest-end : tie.Need-part-remove-oldest-end
 part-remove-oldest-end c =
     let n : length (c .before .before .before .before .before .before .before .args .rollover .dir .bytes) ≡ 40 =
-    search (needs, c .before .before .before .before .before .before .before .good .1 .1 .1 .0) in
+    search (needs, c .before .before .before .before .before .before .before .good .1 .1 .1 .0 .0) in
     search (needs, n, let at-if1 = c .before .before .before .before in at-if1 .before .before .before .pre .1 (not-false _ (at-if1 .if1 .left)))
 
 remove-oldest-requires : tie.Need-remove-oldest-requires

@@ -4,7 +4,7 @@ use borrow.Author.Tests.{not-true, not-false}
 use Rattle.le.proofs.Turns.{told}
 use Rattle.handles.proofs.Laws.{store-facts}
 use Rattle.directory.proofs.Ranges.{look-free}
-use Rattle.table.proofs.Nearest.{free-range}
+use Rattle.table.proofs.Mapped.{free-range}
 use Rattle.files.proofs.Ways.{ended-with, turned-as, settled-by, round-unread, round-exists, round-crowded, round-untold, round-full, round-made}
 use Rattle.files.proofs.round.Statement.{statement}
 use Rattle.files.proofs.round.Tie as tie
@@ -87,7 +87,7 @@ make-requires c κs =
       start .pre .1,
       look-free (a .volume .now) (a .medium) (a .store) (a .name .now) (told (at-found2 .before .before .look .ensures) (at-found2 .found2 .given .1))
           (not-false _ (at-free-chunk .before .before .if2 .left)) .below,
-      free-range (a .volume .now) (a .medium) (a .store) (told (at-free-chunk .free-chunk .ensures) (c .before .before .p2 .given .1)),
+      free-range (a .volume .now) (a .medium) (a .store) (store-facts _ _ (start .pre .0) .map) (told (at-free-chunk .free-chunk .ensures) (c .before .before .p2 .given .1)),
     )
 
 ended-requires-4 : tie.Need-ended-requires-4

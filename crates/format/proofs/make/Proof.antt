@@ -97,20 +97,23 @@ returns-3 c =
 enum-told-3 : tie.Need-enum-told-3
 enum-told-3 c = search needs
 
+full-requires : tie.Need-full-requires
+full-requires c κs = omega (arith, start (first (body (c .before .before .before .before))) .pre .1)
+
 same-length-4 : tie.Need-same-length-4
 same-length-4 c =
-    let w = c .before .before .before .before .before in
+    let w = c .before .before .before .before .before .before in
     w .write-head .kept .0 ∙ body w .zero-body .kept .0 ∙ first (body w) .write-unmarked .kept .0
 
 returns-4 : tie.Need-returns-4
 returns-4 c =
-    let w = c .before .before .before .before .before in
+    let w = c .before .before .before .before .before .before in
     let b = body w in
     let z = first b in
     let a = start z .args in
     made (a .copy) (a .head) (a .volume .now) (a .medium) (z .write-unmarked .ensures .0) (z .write-unmarked .ensures .1) (start z .pre .2)
     (b .before .before .enum-told .given .1) (b .zero-body .ensures .0) (b .zero-body .ensures .1) (w .before .before .enum-told2 .given .1)
-    (w .write-head .ensures .0) (w .write-head .ensures .1) (c .before .enum-told3 .given .1)
+    (w .write-head .ensures .0) (w .write-head .ensures .1) (c .before .full .ensures) (c .before .before .enum-told3 .given .1)
 
 pub make-spec : {M : Type 1} → statement M
 make-spec =
@@ -134,5 +137,6 @@ make-spec =
     same-length-3
     returns-3
     enum-told-3
+    full-requires
     same-length-4
     returns-4)

@@ -20,9 +20,12 @@ returns c = rw (← c .before .before .before .before .current .ensures, c .befo
 enum-told : tie.Need-enum-told
 enum-told c = search needs
 
+unfit-requires : tie.Need-unfit-requires
+unfit-requires c κs = search needs
+
 returns-2 : tie.Need-returns-2
 unfolding mountOf onDone
-returns-2 c = rw (← c .before .before .before .current .ensures, c .before .enum-told .given .1)
+returns-2 c = rw (← c .before .before .before .before .current .ensures, c .before .before .enum-told .given .1, c .unfit .ensures)
 
 pub mount-spec : {M : Type 1} → statement M
 mount-spec =
@@ -33,4 +36,5 @@ mount-spec =
     no-store-requires
     returns
     enum-told
+    unfit-requires
     returns-2)

@@ -6,7 +6,7 @@ writer-without-requires : tie.Need-writer-without-requires
 writer-without-requires c κs = search needs
 
 returns : tie.Need-returns
-returns c = rw (c .writer-without .ensures)
+returns c = rw (c .before .writer-without .ensures)
 
 pub closed-for-spec : {M : Type 1} → statement M
 closed-for-spec =

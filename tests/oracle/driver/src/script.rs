@@ -4,9 +4,14 @@ use std::borrow::Cow;
 use std::collections::HashMap;
 use std::panic::{AssertUnwindSafe, catch_unwind};
 
+/// The port's map of free chunks (02, S-3): 1 where it is fit, then its 32 words. All 0 is the unfit one.
+pub type Map = [u64; 33];
+
 pub struct State {
     pub m: Medium,
     pub store: Option<Store>,
+    /// What the store value has in the port and not in the Rust: kept, saved and loaded with it.
+    pub map: Map,
     pub app: Option<Appender>,
     pub reader: Option<Reader>,
     token: u32,
@@ -42,6 +47,7 @@ impl State {
         State {
             m: self.m.clone(),
             store: self.store,
+            map: self.map,
             app: self.app.as_ref().map(Appender::x_clone),
             reader: self.reader,
             token: Store::x_token(),
@@ -313,6 +319,17 @@ fn call(st: &mut State, lent: &mut Lent, words: &[&str], rule3: bool, retires: O
             Ok(c) => format!("ok {}", c.map_or("-".to_string(), |c| c.to_string())),
             Err(e) => refuse(e),
         },
+        "free_count" => {
+            if bad {
+                return "no 3".into();
+            }
+            // the Rust has no such call (02, S-3): what its walk of the table leaves over
+            let (s, mut counts) = (store.as_ref().unwrap(), [0u32; 64]);
+            match s.x_counts(m, &mut counts, sector) {
+                Ok(()) => format!("ok {}", s.chunks() - counts.iter().sum::<u32>()),
+                Err(e) => refuse(e),
+            }
+        }
         "find" => {
             if bad {
                 return "no 3".into();
@@ -451,7 +468,7 @@ impl Session {
     pub fn new(rule3: bool) -> Self {
         Store::x_set_token(0);
         Session {
-            st: State { m: Medium::new(128 * 512), store: None, app: None, reader: None, token: 0 },
+            st: State { m: Medium::new(128 * 512), store: None, map: [0; 33], app: None, reader: None, token: 0 },
             lent: Lent::new(80, 3200, 500),
             rule3,
             retires,
@@ -493,7 +510,7 @@ impl Session {
                 }
                 m.entropy = st.m.entropy;
                 m.ops = st.m.ops.as_ref().map(|_| vec![]);
-                *st = State { m, store: None, app: None, reader: None, token: 0 };
+                *st = State { m, store: None, map: [0; 33], app: None, reader: None, token: 0 };
                 Store::x_set_token(0);
                 quiet("set")
             }
@@ -502,7 +519,7 @@ impl Session {
                 m.volume = std::fs::read(w[1]).unwrap();
                 m.entropy = st.m.entropy;
                 m.ops = st.m.ops.as_ref().map(|_| vec![]);
-                *st = State { m, store: None, app: None, reader: None, token: 0 };
+                *st = State { m, store: None, map: [0; 33], app: None, reader: None, token: 0 };
                 Store::x_set_token(0);
                 quiet("set")
             }
@@ -541,7 +558,7 @@ impl Session {
                 let all = w.len() == 2;
                 if all { Store::x_set_token(saved[w[1]].token); }
                 if all || w.contains(&"volume") { st.m = s.m; }
-                if all || w.contains(&"store") { st.store = s.store; }
+                if all || w.contains(&"store") { (st.store, st.map) = (s.store, s.map); }
                 if all || w.contains(&"appender") { st.app = s.app; }
                 if all || w.contains(&"reader") { st.reader = s.reader; }
                 quiet("set")

@@ -1,7 +1,7 @@
 use borrow.Author.Needs.{needs}
 use Rattle.le.proofs.Turns.{told}
 use Rattle.handles.proofs.Laws.{store-facts}
-use Rattle.table.proofs.Nearest.{free-range}
+use Rattle.table.proofs.Mapped.{free-range}
 use Rattle.commit.proofs.Steps.{made-of}
 use Rattle.append.proofs.Ways.{extend-far, extend-unread, extend-full, extend-rolled, extend-linked}
 use Rattle.append.proofs.chunks.extend.Statement.{statement}
@@ -58,7 +58,7 @@ link-requires c κs =
       start .pre .1,
       at-free-chunk .before .before .if1 .left,
       start .pre .2,
-      free-range _ _ _ (told (at-free-chunk .free-chunk .ensures) (c .before .before .p2 .given .1)),
+      free-range _ _ _ (store-facts _ _ (start .pre .0) .map) (told (at-free-chunk .free-chunk .ensures) (c .before .before .p2 .given .1)),
     )
 
 same-length-2 : tie.Need-same-length-2

@@ -3,7 +3,7 @@ use mathlib.Core.Path.{_≡_, _∙_}
 use borrow.Author.Tests.{not-true, not-false}
 use lib.ListN.{length}
 use Rattle.handles.proofs.Laws.{store-facts}
-use Rattle.table.proofs.Nearest.{free-range}
+use Rattle.table.proofs.Mapped.{free-range}
 use Rattle.commit.proofs.Steps.{made-of}
 use Rattle.append.proofs.Rolls.{dir-slice, After, rolled-after}
 use Rattle.append.proofs.Ways.{rolled-refused, rolled-none, rolled-unread, rolled-corrupt, rolled-linked}
@@ -23,7 +23,7 @@ abbrev gone : tie.After-free-chunk → tie.After-remove-oldest
 gone f = f .before .before .before .before .before .before .before .before .before .before
 
 count : (s : tie.Start) → length (s .args .store .head .crcs) ≡ 24
-count s = search (needs, s .good .1 .1 .0)
+count s = search (needs, s .good .1 .1 .0 .0)
 
 -- what the removal leaves of the store value and the appender
 after : (g : tie.After-remove-oldest) → After (g .remove-oldest .last .0) (g .remove-oldest .result .store) (start g .args .appender)
@@ -113,7 +113,7 @@ link-requires c κs =
     let f = c .before .before .before .before in
     let g = gone f in
     let s = start g in
-    (after g .ok, after g .fit, s .pre .2, s .pre .3, free-range _ _ _ (told (f .free-chunk .ensures) (c .before .before .p2 .given .1)))
+    (after g .ok, after g .fit, s .pre .2, s .pre .3, free-range _ _ _ (store-facts _ _ (after g .ok) .map) (told (f .free-chunk .ensures) (c .before .before .p2 .given .1)))
 
 same-length-3 : tie.Need-same-length-3
 same-length-3 c = gone (c .before .before .before .before) .remove-oldest .kept .0

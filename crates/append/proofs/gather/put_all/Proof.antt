@@ -18,7 +18,7 @@ abbrev μ-loop : tie.MeasureT-loop
 
 loop-holds : tie.Need-loop-holds Inv-loop μ-loop
 loop-holds c =
-    let n : length (c .before .before .args .store .head .crcs) ≡ 24 = search (needs, c .before .before .good .1 .1 .0) in
+    let n : length (c .before .before .args .store .head .crcs) ≡ 24 = search (needs, c .before .before .good .1 .1 .0 .0) in
     let start = c .before .before in
     record { low = zero-le; size = refl; good = record { ok = start .pre .0; count = n }; fit = start .pre .1; room = start .pre .2; same = (refl, refl) }
 

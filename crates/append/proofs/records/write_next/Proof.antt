@@ -25,14 +25,15 @@ returns c =
 enum-told-2 : tie.Need-enum-told-2
 enum-told-2 c = search needs
 
+count : (s : tie.Start) → length (s .args .store .head .crcs) ≡ 24
+count s = search (needs, s .good .1 .1 .0 .0)
+
 write-at-requires : tie.Need-write-at-requires
 write-at-requires c κs =
     let a = c .before .before .before .before .before .before .before .before .before .before .before .args in
-    let n : length (a .store .head .crcs) ≡ 24 =
-    search (needs, c .before .before .before .before .before .before .before .before .before .before .before .good .1 .1 .0) in
     let at-extend = c .before .before .before .before .before .before .before .before in
     let start = at-extend .before .before .before in
-    let k = extended-after (a .volume .now) (a .medium) (a .store) (a .appender) (start .pre .0) n (start .pre .1) (a .partial) (a .records)
+    let k = extended-after (a .volume .now) (a .medium) (a .store) (a .appender) (start .pre .0) (count start) (start .pre .1) (a .partial) (a .records)
     (at-extend .extend .ensures) in
     (k .ok, k .fit, store-facts _ _ (k .ok) .head .size-least)
 

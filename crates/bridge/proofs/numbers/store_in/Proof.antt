@@ -1,5 +1,4 @@
 use borrow.Author.Needs.{needs}
-use mathlib.Core.Path.{refl}
 use Rattle.bridge.specs.Numbers.{storeOf}
 use Rattle.bridge.proofs.numbers.store_in.Statement.{statement}
 use Rattle.bridge.proofs.numbers.store_in.Tie as tie
@@ -46,19 +45,23 @@ array-read-writer-in-5 c = search needs
 writer-in-requires : tie.Need-writer-in-requires
 writer-in-requires c κs = search needs
 
-array-read-t23 : tie.Need-array-read-t23
-array-read-t23 c = search needs
+map-in-requires : tie.Need-map-in-requires
+map-in-requires c κs = search needs
+
+array-read-t24 : tie.Need-array-read-t24
+array-read-t24 c = search needs
 
 returns : tie.Need-returns
 unfolding storeOf
 returns c =
-    let at-narrow2 = c .before .before .before in
+    let at-narrow3 = c .before .before .before in
     rw (
-      at-narrow2 .before .narrow .ensures,
-      at-narrow2 .narrow2 .ensures,
-      c .before .before .narrow3 .ensures,
-      c .before .narrow4 .ensures,
-      c .writer-in .ensures,
+      at-narrow3 .before .before .narrow .ensures,
+      at-narrow3 .before .narrow2 .ensures,
+      at-narrow3 .narrow3 .ensures,
+      c .before .before .narrow4 .ensures,
+      c .before .writer-in .ensures,
+      c .map-in .ensures,
     )
 
 pub store-in-spec : {M : Type 1} → statement M
@@ -79,5 +82,6 @@ store-in-spec =
     array-read-writer-in-4
     array-read-writer-in-5
     writer-in-requires
-    array-read-t23
+    map-in-requires
+    array-read-t24
     returns)

@@ -1,68 +1,60 @@
 use borrow.Author.Needs.{needs}
-use mathlib.Core.Path.{refl}
+use Prim.Native.Nat.{ℕ}
+use mathlib.Core.Path.{_≡_, ap, _∙_}
+use mathlib.Core.List.{List}
+use lib.ListN.{length}
+use Rattle.le.specs.Part.{over, zeros}
+use Rattle.le.proofs.Parts.{length-zeros}
 use Rattle.bridge.specs.Numbers.{storeWords}
+use Rattle.bridge.proofs.Rows.{row-all}
 use Rattle.bridge.proofs.numbers.store_words.Statement.{statement}
 use Rattle.bridge.proofs.numbers.store_words.Tie as tie
 
-enum-told : tie.Need-enum-told
-enum-told c = search needs
+long : (c : tie.After-row) → length (c .before .args .s .free .words) ≡ 32
+long c = search needs
 
-cast-t7 : tie.Need-cast-t7
-cast-t7 c = search needs
+row-requires : tie.Need-row-requires
+row-requires c κs = search needs
 
-cast-t8 : tie.Need-cast-t8
-cast-t8 c = search needs
+slice-aggregate-put-words : tie.Need-slice-aggregate-put-words
+slice-aggregate-put-words c = search needs
 
-cast-t9 : tie.Need-cast-t9
-cast-t9 c = search needs
+slice-aggregate-put-words-2 : tie.Need-slice-aggregate-put-words-2
+slice-aggregate-put-words-2 c = search needs
 
-cast-t10 : tie.Need-cast-t10
-cast-t10 c = search needs
+put-words-requires : tie.Need-put-words-requires
+put-words-requires c κs = search needs
 
-enum-known-writer : tie.Need-enum-known-writer
-enum-known-writer c = search needs
+slice-aggregate-put-words-3 : tie.Need-slice-aggregate-put-words-3
+slice-aggregate-put-words-3 c = search needs
 
-cast-t11 : tie.Need-cast-t11
-cast-t11 c = search needs
+slice-aggregate-put-words-4 : tie.Need-slice-aggregate-put-words-4
+slice-aggregate-put-words-4 c = search needs
 
-cast-t12 : tie.Need-cast-t12
-cast-t12 c = search needs
-
-cast-t13 : tie.Need-cast-t13
-cast-t13 c = search needs
-
-cast-t14 : tie.Need-cast-t14
-cast-t14 c = search needs
-
-cast-t15 : tie.Need-cast-t15
-cast-t15 c = search needs
-
-cast-t16 : tie.Need-cast-t16
-cast-t16 c = search needs
+put-words-requires-2 : tie.Need-put-words-requires-2
+put-words-requires-2 c κs =
+    let n = long (c .before .before .before .before .before .before .before .before) in
+    search (needs, n)
 
 returns : tie.Need-returns
-unfolding storeWords
-returns c = rw (c .before .before .before .before .enum-told .given .1)
-
-returns-2 : tie.Need-returns-2
-unfolding storeWords
-returns-2 c = rw (c .before .before .before .before .before .writer .given .1)
+unfolding storeWords zeros
+returns c =
+    let at-put-words = c .before .before .before .before .before in
+    let at-row = at-put-words .before .before .before .before .before in
+    let s = at-row .before .args .s in
+    c .before .put-words2 .ensures
+    ∙ ap (over 11 (s .free .words)) (at-put-words .put-words .ensures ∙ ap (λ (r : List ℕ). over 0 r (zeros 43)) (at-row .row .ensures))
+    ∙ row-all s (s .free .words) (zeros 43) (long at-row) (length-zeros 43)
 
 pub store-words-spec : {M : Type 1} → statement M
 store-words-spec =
     tie.close
     (tie.spec
-    enum-told
-    cast-t7
-    cast-t8
-    cast-t9
-    cast-t10
-    enum-known-writer
-    cast-t11
-    cast-t12
-    cast-t13
-    cast-t14
-    cast-t15
-    cast-t16
-    returns
-    returns-2)
+    row-requires
+    slice-aggregate-put-words
+    slice-aggregate-put-words-2
+    put-words-requires
+    slice-aggregate-put-words-3
+    slice-aggregate-put-words-4
+    put-words-requires-2
+    returns)

@@ -4,7 +4,7 @@ use driver::book::Book;
 use driver::script::bytes_of;
 use points::ledger::{self, Setting};
 use points::model::Item;
-use port::bridge::{NO_APPENDER, Words, appender_words, medium_words, store_words};
+use port::bridge::{NO_APPENDER, Words, appender_words, medium_words, store_row};
 use port::holds::holds;
 
 const BAD_POINTS: [&str; 5] = ["\"\"", "a/b", "seventeen-bytes-x", "\\612062", "\\c3a9"];
@@ -13,8 +13,8 @@ const BAD_FILES: [&str; 4] = ["\"\"", "/", "a//b", "\\ff"];
 /// What a reader up to a point gave, or its refusal.
 type Reading = Result<Vec<Item>, u32>;
 
-/// Volume, medium record, store value with its checksums, appender.
-type Left = (Vec<u8>, [u64; 4], ([u64; 10], [u32; 24]), Words);
+/// Volume, medium record, store value with its map and checksums, appender.
+type Left = (Vec<u8>, [u64; 4], ([u64; 43], [u32; 24]), Words);
 
 /// The bytes of a word as text; what is no text is no name either.
 fn text_of(word: &str) -> String {
@@ -124,7 +124,7 @@ impl History<'_> {
     fn left_behind(&self) -> Left {
         let st = self.pair.st();
         let appender = st.app.as_ref().map_or(NO_APPENDER, |a| appender_words(a, ([0; 40], 0)));
-        (st.m.volume.clone(), medium_words(&st.m), store_words(st.store.as_ref().unwrap()), appender)
+        (st.m.volume.clone(), medium_words(&st.m), store_row(st).unwrap(), appender)
     }
 
     /// After a run of a setting and a mount: files and payloads are the book's, the point is there exactly if the setting was

@@ -4,16 +4,16 @@ use mathlib.Core.Path.{refl}
 use native.Mathlib.Omega.{arith}
 use Rattle.walk.proofs.Laws.{At, at-start, at-next, at-stop, at-end}
 use Rattle.table.specs.Link.{linkAt}
-use Rattle.table.specs.Table.{onLink, linksOf, freeV, freeOf, Before}
+use Rattle.table.specs.Table.{onLink, linksOf, freeV, walkFreeOf, Before}
 use Rattle.table.proofs.Numbers.{found-free}
 use Rattle.table.proofs.Nearest.{before-more, before-step}
-use Rattle.table.proofs.free_chunk.Statement.{statement}
-use Rattle.table.proofs.free_chunk.Tie as tie
+use Rattle.table.proofs.free.walk_free.Statement.{statement}
+use Rattle.table.proofs.free.walk_free.Tie as tie
 
 abbrev Inv-loop : tie.InvT-loop
 Inv-loop volume medium store h n best₀ next₀ best next =
     (At (onLink (freeV (store .head .cursor) (store .head .chunks))) (linkAt volume medium store) (freeV (store .head .cursor) (store .head .chunks) .done)
-    (linksOf (store .head .chunks)) (freeOf volume medium store) next best) × Before next best
+    (linksOf (store .head .chunks)) (walkFreeOf volume medium store) next best) × Before next best
 
 abbrev μ-loop : tie.MeasureT-loop
 μ-loop volume medium store h n best₀ next₀ best next = n - next
@@ -22,7 +22,7 @@ links-requires : tie.Need-links-requires Inv-loop μ-loop
 links-requires c κs = search needs
 
 loop-holds : tie.Need-loop-holds Inv-loop μ-loop
-unfolding freeOf
+unfolding walkFreeOf
 loop-holds c = (at-start _ _ _ _ _, tt)
 
 link-at-requires : tie.Need-link-at-requires Inv-loop μ-loop
@@ -83,8 +83,8 @@ loop-again-3 c = (
 returns-2 : tie.Need-returns-2 Inv-loop μ-loop
 returns-2 c = at-end (c .before .loop .inv .0) (omega arith)
 
-pub free-chunk-spec : {M : Type 1} → statement M
-free-chunk-spec =
+pub walk-free-spec : {M : Type 1} → statement M
+walk-free-spec =
     tie.close
     (tie.spec
     Inv-loop

@@ -109,25 +109,34 @@ pub payload-short : (n : ℕ) (l : List ℕ) → n ≤ 486 → length (part 0 n 
 unfolding part
 payload-short n l h = omega (arith, length-take n (drop 0 l))
 
+-- the write of record `index` of the appender's chunk
+abbrev pub recordWrite : ℕ → List ℕ → Medium → Store → Appender → WriteOut
+recordWrite index vol m st a = writeRecordOf vol m st (a .id) (a .chunk) index (numberAt (a .position) (st .head .chunk) index) (part 0 (a .fill) (a .buffer))
+
 module _ (vol : List ℕ) (m : Medium) (st : Store) (a : Appender) (good : Good vol st) (fit : Fit a st) where
+  record-inside : (index : ℕ) → index < st .head .chunk → dataAt st (a .chunk) index < sectorsOf vol
+  record-inside index h = data-inside st (a .chunk) index (sectorsOf vol) (fit .chunk) h (store-facts st (sectorsOf vol) (good .ok) .head .room)
+
+  -- no other sector moves
+  pub record-kept : (index : ℕ) → index < st .head .chunk → Kept (dataAt st (a .chunk) index) 1 vol (recordWrite index vol m st a .vol)
+  record-kept index h =
+      let number : ℕ = numberAt (a .position) (st .head .chunk) index in
+      let payload : List ℕ = part 0 (a .fill) (a .buffer) in
+      let bytes : List ℕ = recordOf (st .head .id) (a .id) number payload in
+      let n : length bytes ≡ 512 = length-record (st .head .id) (a .id) number payload (payload-short (a .fill) (a .buffer) (fit .fill)) in
+      write-kept vol m (dataAt st (a .chunk) index) bytes n (record-inside index h)
+
   pub record-goes : (index : ℕ) → index < st .head .chunk → Goes vol m st (recordOut index vol m st a)
   unfolding recordOut tailOk
   record-goes index h =
-      let held : Held st (sectorsOf vol) = store-facts st (sectorsOf vol) (good .ok) in
-      let number : ℕ = numberAt (a .position) (st .head .chunk) index in
-      let payload : List ℕ = part 0 (a .fill) (a .buffer) in
-      let at : ℕ = dataAt st (a .chunk) index in
-      let bytes : List ℕ = recordOf (st .head .id) (a .id) number payload in
-      let n : length bytes ≡ 512 = length-record (st .head .id) (a .id) number payload (payload-short (a .fill) (a .buffer) (fit .fill)) in
-      let w : WriteOut = writeRecordOf vol m st (a .id) (a .chunk) index number payload in
-      let inside : at < sectorsOf vol = data-inside st (a .chunk) index (sectorsOf vol) (fit .chunk) h (held .head .room) in
-      let kept : Kept at 1 vol (w .vol) = write-kept vol m at bytes n inside in
+      let w : WriteOut = recordWrite index vol m st a in
+      let kept = record-kept index h in
       let size : length (w .vol) ≡ length vol = kept .size in
       let k : Stands vol m st (w .vol) (w .ans .medium) st =
       record {
         size = size;
-        rest = kept-rest (omega arith) kept;
-        medium = write-spends vol m at bytes;
+        rest = kept-rest (omega (arith, record-inside index h)) kept;
+        medium = write-spends vol m _ _;
         good = record { ok = rw size (good .ok); count = good .count };
         id = refl;
         chunks = refl;

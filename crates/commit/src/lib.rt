@@ -225,6 +225,7 @@ fn rewrite(
     ensures { λ r. ⌜ (now (volume .exit) ≡ copyOut (commitPlan found edit (now (name .entry)) store) (now (volume .entry)) medium .vol)
         × (r ≡ copyOut (commitPlan found edit (now (name .entry)) store) (now (volume .entry)) medium .ans) ⌝ }
 {
+    // before the first write, while a removed file's links stand as they were given
     let free = plan::map_after(&volume[..], store, edit);
     let copy = 1 - store.copy;
     let z = medium::zero_sector(&mut *volume, medium, handles::base(copy));

@@ -18,7 +18,6 @@ use Rattle.le.proofs.Bools.{and-true}
 use Rattle.le.proofs.Tallies.{tally-yes, tally-no, tally-start}
 use Rattle.medium.specs.declared.Medium.{Medium}
 use Rattle.medium.specs.declared.Outcome.the-variants.{Done}
-use Rattle.medium.proofs.Laws.{onDone-keeps}
 use Rattle.handles.specs.declared.Store.{Store}
 use Rattle.handles.proofs.Laws.{Held}
 use Rattle.table.specs.declared.Link.{Link}
@@ -28,11 +27,10 @@ use Rattle.table.specs.declared.Pick.{Pick}
 use Rattle.table.specs.declared.Pick.the-variants as free
 use Rattle.table.specs.declared.Place.{Place}
 use Rattle.table.specs.declared.Place.the-variants as place
-use Rattle.table.specs.Link.{linkAt}
 use Rattle.table.specs.Table.{linksOf, sought, locateStep, locateV, locateOf, freeStep, freeV, walkFreeOf, Counted, countV, countOf}
 use Rattle.table.specs.Free.{freeOf}
 use Rattle.table.proofs.Nearest.{Nearest, free-nearest, walk-range}
-use Rattle.table.proofs.Tells.{Mapped}
+use Rattle.table.proofs.Tells.{Mapped, met-held}
 use Rattle.table.proofs.Mapped.{mapped-free}
 use Rattle.layout.specs.Views.{diskOf, linkView}
 use Rattle.layout.specs.Segments.{Segment, segmentAt, linkFor, isOf, Good}
@@ -108,19 +106,14 @@ pub record Counts (G : ℕ → List Segment) (size : ℕ) (r : Counted) : Type 0
 -- ---- the free chunk, on any table
 
 module _ (vol : List ℕ) (m : Medium) (st : Store) where
-  free-reads : (c : ℕ) → linkAt vol m st c ≡ link.Free → linkView vol st c ≡ link.Free
-  unfolding linkAt linkView
-  free-reads c =
-      onDone-keeps (λ (x : LinkAt). x ≡ link.Free → linkView vol st c ≡ link.Free) _ _ _ (λ _ q. q)
-      (λ e _ q. absurd (let z : _≡_ {A = ℕ} 0 1 = cc in omega arith))
-
   walked-chunk : {c : ℕ} → walkFreeOf vol m st ≡ free.At c → (c < st .head .chunks) × (linkView vol st c ≡ link.Free)
-  walked-chunk {c} e = (walk-range vol m st e, free-reads c (subst (Nearest vol m st (linksOf (st .head .chunks))) e (free-nearest vol m st) .0))
+  unfolding linkView
+  walked-chunk {c} e = (walk-range vol m st e, met-held vol m st c link.Free tt (subst (Nearest vol m st (linksOf (st .head .chunks))) e (free-nearest vol m st) .0))
 
   -- S-3: by the map it is the walk's, where the map tells the table
   module _ {n : ℕ} (held : Held st n) (mapped : Mapped vol st) where
     walks : freeOf vol m st ≡ walkFreeOf vol m st
-    walks = mapped-free vol m st (held .head .cursor) (held .head .chunks-most) (held .map) mapped
+    walks = mapped-free vol m st (held .head .chunks-most) (held .map) mapped (held .head .cursor)
 
     pub free-chunk : {c : ℕ} → freeOf vol m st ≡ free.At c → (c < st .head .chunks) × (linkView vol st c ≡ link.Free)
     free-chunk e = walked-chunk (sym walks ∙ e)

@@ -12,6 +12,7 @@ use Rattle.le.specs.Part.{part}
 use Rattle.medium.specs.declared.Medium.{Medium}
 use Rattle.medium.proofs.Laws.{onDone-done}
 use Rattle.handles.specs.declared.Store.{Store}
+use Rattle.handles.specs.Handles.{tableOf}
 use Rattle.handles.proofs.Laws.{due-done}
 use Rattle.walk.specs.Walk.{Visit, visits}
 use Rattle.walk.proofs.Laws.{walk-keeps}
@@ -49,7 +50,7 @@ module _ (vol : List ℕ) (m : Medium) (st : Store) (ok : Checked vol m st) wher
 
   link-reads : (c : ℕ) → c < linksOf (st .head .chunks) → linkAt vol m st c ≡ linkView vol st c
   unfolding linkView
-  link-reads c h = link-checked vol m st (λ t b. ok (8 + t) (omega arith)) c h
+  link-reads c h = link-checked vol m st (tableOf (st .head .chunks)) (λ t b. ok (8 + t) (omega arith)) c (omega arith)
 
   -- ---- the directory, where no entry is broken
 

@@ -1,6 +1,6 @@
 -- The bits that one test tells, and those below a number that another tells, one more at a time: what a loop over the chunks has put. Assumes nothing.
 use mathlib.Core.Path.{_≡_, refl, sym, ap, _∙_}
-use mathlib.Core.Bool.{Bool, true, false, _&&_, _||_}
+use mathlib.Core.Bool.{Bool, true, false, _&&_, _||_, and-true}
 use mathlib.Core.List.{List}
 use Prim.Native.Nat.{ℕ, _+_, _<_, zero-le}
 use native.Mathlib.Omega.{arith}
@@ -63,8 +63,4 @@ module _ (f g : ℕ → Bool) where
 
 -- from none, every chunk below n
 pub upto-all : (n : ℕ) → wordsOf (upto (λ c. false) (λ c. true) n) ≡ wordsOf (λ c. ltb c n)
-upto-all n = words-alike _ (λ c. ltb c n) (λ c _. all (ltb c n))
-  where
-    all : (t : Bool) → (t && true) ≡ t
-    all true = refl
-    all false = refl
+upto-all n = words-alike _ (λ c. ltb c n) (λ c _. and-true (ltb c n))

@@ -9,7 +9,7 @@ pub struct FreeMap {
     pub words: [u64; 32],
 }
 
-// The map where the table could not be read.
+// The unfit map, with no bit set.
 pub fn unfit() -> FreeMap
     ensures { λ r. ⌜ r ≡ unfitOf ⌝ }
 {
@@ -97,7 +97,7 @@ pub fn full(chunks: u32) -> FreeMap
 }
 
 // Whether no bit is set at or past the chunks, and none in an unfit map.
-pub fn fits(map: FreeMap, chunks: u32) -> bool
+pub fn map_ok(map: FreeMap, chunks: u32) -> bool
     ensures { λ r. ⌜ r ≡ mapOk map chunks ⌝ }
 {
     let words = map.words;

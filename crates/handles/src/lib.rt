@@ -152,7 +152,7 @@ impl Store {
     {
         let h = self.head;
         let map = self.free;
-        (self.copy < 2) & (sane(h, sectors) & freemap::fits(map, h.chunks))
+        (self.copy < 2) & (sane(h, sectors) & freemap::map_ok(map, h.chunks))
     }
 }
 

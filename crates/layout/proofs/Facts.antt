@@ -2,7 +2,7 @@
 -- file has more chunks than there are. Assumes nothing.
 use mathlib.Core.Path.{_≡_, refl, ap, sym, _∙_}
 use mathlib.Core.Logic.{_≢_}
-use mathlib.Core.Bool.{Bool, true, false, _||_, false≢true}
+use mathlib.Core.Bool.{Bool, true, false, false≢true}
 use mathlib.Core.List.{List, [], _∷_, _++_, append-assoc, append-nil}
 use Prim.Native.Nat.{ℕ, zero, suc, _+_, _<_}
 use native.Mathlib.Omega.{arith}
@@ -10,6 +10,7 @@ use lib.ListN.{length, length-set, length-append}
 use lib.Dec.{eqb}
 use borrow.Author.Tests.{eqb-true, eqb-false, eq-eqb, ne-eqb}
 use Rattle.le.specs.Choice.{pick}
+use Rattle.le.proofs.Bools.{or-second}
 use Rattle.le.proofs.Choices.{pick-keeps, pick-true, pick-false}
 use Rattle.medium.specs.declared.Error.{Error}
 use Rattle.table.specs.declared.Link.{Link}
@@ -77,11 +78,7 @@ last-link size s g p h = rw (eq-eqb (p + 1) (length g) h)
 
 pub full-link : (size s : ℕ) (g : List Segment) (p : ℕ) → length (segmentAt g p .payloads) ≡ size → linkFor size s g p ≡ record { slot = s; position = p; partial = false; records = 0 }
 unfolding linkFor
-full-link size s g p h = pick-true _ _ (or-true (eqb (p + 1) (length g)) (eqb (length (segmentAt g p .payloads)) size) (eq-eqb (length (segmentAt g p .payloads)) size h))
-  where
-    or-true : (a b : Bool) → b ≡ true → (a || b) ≡ true
-    or-true true b e = refl
-    or-true false b e = e
+full-link size s g p h = pick-true _ _ (or-second (eqb (p + 1) (length g)) (eqb (length (segmentAt g p .payloads)) size) (eq-eqb (length (segmentAt g p .payloads)) size h))
 
 pub partial-link : (size s : ℕ) (g : List Segment) (p : ℕ) → p + 1 ≢ length g → length (segmentAt g p .payloads) ≢ size
     → linkFor size s g p ≡ record { slot = s; position = p; partial = true; records = length (segmentAt g p .payloads) }

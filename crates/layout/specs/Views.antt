@@ -2,7 +2,6 @@
 -- chunk, and the record that passes at an index of a chunk. Assumes nothing.
 use Prim.Native.Nat.{ℕ}
 use mathlib.Core.List.{List}
-use lib.Dec.{ltb}
 use Rattle.le.specs.Choice.{pick}
 use Rattle.le.specs.Field.{getLe}
 use Rattle.le.specs.Part.{part}
@@ -12,7 +11,7 @@ use Rattle.directory.specs.declared.Slot.{Slot}
 use Rattle.directory.specs.declared.Slot.the-variants as slot
 use Rattle.directory.specs.Entry.{entryOf, entryAt}
 use Rattle.table.specs.declared.LinkAt.{LinkAt}
-use Rattle.table.specs.Link.{linkIn, linkPart}
+use Rattle.table.specs.Link.{linkHeld}
 use Rattle.record.specs.Record.{carriesOf, payloadOf, dataAt}
 
 -- an entry: free, none that passes, or a file's name and id
@@ -41,7 +40,7 @@ entryView bytes slot.Free = vacant
 entryView bytes (slot.File id len) = named (part 0 len bytes) id
 
 unfoldable pub linkView : List ℕ → Store → ℕ → LinkAt
-linkView vol st c = linkIn (linkPart vol st c) (ltb c (st .head .chunks)) (st .head .chunk)
+linkView vol st c = linkHeld vol st c
 
 -- a valid record of the store with this id, whatever file and number it has
 unfoldable pub recView : ℕ → List ℕ → Rec

@@ -2,12 +2,13 @@
 -- Assumes nothing.
 use Prim.Native.Nat.{ℕ, _≤_}
 use mathlib.Core.Path.{_≡_, refl, sym, ap, _∙_}
-use mathlib.Core.Bool.{Bool, true, false, not, _&&_, _||_}
+use mathlib.Core.Bool.{Bool, true, false, not, _&&_, _||_, or-false}
 use mathlib.Core.List.{List}
 use native.Mathlib.Omega.{arith}
 use borrow.Author.Tests.{le-ltb, not-true, not-false}
 use lib.Dec.{eqb}
 use Rattle.le.specs.Choice.{pick}
+use Rattle.le.proofs.Bools.{or-second}
 use Rattle.le.proofs.Choices.{pick-true, pick-false, pick-keeps-by}
 use Rattle.freemap.specs.declared.FreeMap.{FreeMap}
 use Rattle.freemap.specs.Map.{marks, wordsOf, mapOf, putOf, mapOk}
@@ -65,19 +66,11 @@ module _ (vol : List ℕ) (st : Store) (chunks : ℕ) (edit : Edit) where
     after-fit : (f : ℕ → Bool) → ((c : ℕ) → f c ≡ markAfter edit vol st chunks c) → map ≡ mapOf f → map ≡ mapAfter edit vol st chunks
     unfolding mapAfter
     after-fit f same e =
-        e ∙ ap fitted (words-alike f (markAfter edit vol st chunks) (λ c _. same c)) ∙ sym (pick-true _ _ (or-right (isFormat edit) (st .free .fit) (not-false _ fit)))
-      where
-        or-right : (a b : Bool) → b ≡ true → (a || b) ≡ true
-        or-right true b q = refl
-        or-right false b q = q
+        e ∙ ap fitted (words-alike f (markAfter edit vol st chunks) (λ c _. same c)) ∙ sym (pick-true _ _ (or-second (isFormat edit) (st .free .fit) (not-false _ fit)))
 
     pub created-map : {slot id chunk : ℕ} → edit ≡ Create slot id chunk → map ≡ mapOf (clears (st .free .words) chunk 0 false) → map ≡ mapAfter edit vol st chunks
     unfolding markAfter
-    created-map {chunk = chunk} q = after-fit _ (λ c. rw q (ap (λ (t : Bool). marks (st .free .words) c && not t) (or-none (eqb c chunk))))
-      where
-        or-none : (t : Bool) → (t || false) ≡ t
-        or-none true = refl
-        or-none false = refl
+    created-map {chunk = chunk} q = after-fit _ (λ c. rw q (ap (λ (t : Bool). marks (st .free .words) c && not t) (or-false (eqb c chunk))))
 
     pub extended-map : {slot position next last records : ℕ} {partial : Bool} → edit ≡ Extend slot position next last partial records
         → map ≡ mapOf (clears (st .free .words) next last partial) → map ≡ mapAfter edit vol st chunks

@@ -66,6 +66,7 @@ pub fn map_after(volume: &[u8], store: Store, edit: Edit) -> FreeMap
     }
     let words = map.words;
     match edit {
+        // never asked: format makes its own map
         Edit::Format => map,
         Edit::Create {
             slot: _,

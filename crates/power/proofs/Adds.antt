@@ -7,8 +7,6 @@ use mathlib.Core.List.{List, [], _∷_}
 use native.Mathlib.Omega.{arith}
 use borrow.Author.Tests.{ltb-true, leb-false}
 use lib.Dec.{eqb, leb, ltb, lit≤}
-use lib.ListN.{length}
-use Rattle.le.specs.Part.{part}
 use Rattle.le.proofs.Choices.{pick-keeps, pick-keeps-by}
 use Rattle.le.proofs.Bools.{and-true}
 use Rattle.medium.specs.declared.Error.the-variants.{Corrupt}
@@ -18,17 +16,14 @@ use Rattle.medium.specs.declared.Outcome.the-variants.{Done, No}
 use Rattle.medium.specs.Sector.{sectorsOf, WriteOut}
 use Rattle.medium.specs.Frame as frame
 use Rattle.medium.proofs.Laws.{onDone-keeps}
-use Rattle.medium.proofs.Frame.{write-kept}
 use Rattle.handles.specs.declared.Store.{Store}
 use Rattle.handles.specs.declared.Writer.{Writer}
 use Rattle.handles.specs.declared.Writer.the-variants.{Nobody, Open}
 use Rattle.handles.specs.Handles.{isOpen, openId}
-use Rattle.handles.proofs.Laws.{Sane, store-facts}
+use Rattle.handles.proofs.Laws.{store-facts}
 use Rattle.table.specs.Table.{onPick}
 use Rattle.table.specs.Free.{freeOf}
-use Rattle.record.specs.Record.{numberAt, dataAt, recordOf, writeRecordOf}
-use Rattle.record.proofs.Laws.{data-inside}
-use Rattle.record.proofs.RoundTrip.{length-record}
+use Rattle.record.specs.Record.{dataAt}
 use Rattle.plan.specs.declared.Edit.the-variants.{Extend}
 use Rattle.plan.specs.Copy.{Skipped, EachSkipped, extended, isFormat}
 use Rattle.commit.specs.Commit.{commitOf}
@@ -42,7 +37,7 @@ use Rattle.append.specs.Calls.{mayWrite, AppCall, offered, appendCall, syncCall
 use Rattle.append.specs.Flush.{AppOut, stopped, andThen, linkOut, rolledOut, extendOf, recordOut, writeOut, flushOf, pushed, putByte, appendOf, syncOf}
 use Rattle.append.proofs.Then.{Next, then-done, then-no}
 use Rattle.append.proofs.Facts.{May, may-facts}
-use Rattle.append.proofs.Keeps.{onTail-keeps, fit-still, extend-goes, payload-short}
+use Rattle.append.proofs.Keeps.{onTail-keeps, fit-still, extend-goes, recordWrite, record-kept}
 use Rattle.append.proofs.Runs.{Puts, pushed-fit, byte-puts, append-puts, sync-puts}
 use Rattle.safe.proofs.Frame.{clash}
 use Rattle.power.specs.Calls.{append, sync}
@@ -124,14 +119,8 @@ module _ {P : Skipped → Type 0} {L : List ℕ → Store → Type 0} (rules : L
       → KeptIf (recordOut index vol m st a)
   unfolding recordOut dataAt
   record-lasts vol m st a good fit l index h =
-      let number : ℕ = numberAt (a .position) (st .head .chunk) index in
-      let payload : List ℕ = part 0 (a .fill) (a .buffer) in
-      let place : ℕ = dataAt st (a .chunk) index in
-      let bytes : List ℕ = recordOf (st .head .id) (a .id) number payload in
-      let n : length bytes ≡ 512 = length-record (st .head .id) (a .id) number payload (payload-short (a .fill) (a .buffer) (fit .fill)) in
-      let sane : Sane (st .head) (sectorsOf vol) = store-facts st (sectorsOf vol) (good .ok) .head in
-      let w : WriteOut = writeRecordOf vol m st (a .id) (a .chunk) index number payload in
-      let kept : frame.Kept place 1 vol (w .vol) = write-kept vol m place bytes n (data-inside st (a .chunk) index (sectorsOf vol) (fit .chunk) h (sane .room)) in
+      let w : WriteOut = recordWrite index vol m st a in
+      let kept = record-kept vol m st a good fit index h in
       let on : L (w .vol) st = rules .beyond vol (w .vol) st (kept .size) (λ j b. kept .same j (inl (omega arith))) l in
       onDone-keeps KeptIf (w .ans .outcome) _ _ (λ _ _. on) (λ _ _ _. on)
 

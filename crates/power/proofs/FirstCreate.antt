@@ -122,7 +122,7 @@ module _ (vol : List ℕ) (m : Medium) (st : Store) (inv : Inv vol st) (map : Ma
       x .1 ∙ some-picked (st .head .chunks) (x .0) (inv-held inv .head .chunks-least) (x .2)
 
   free-fresh : freeOf vol m st ≡ free.At 0
-  free-fresh = let h = inv-held inv in mapped-free vol m st (h .head .cursor) (h .head .chunks-most) (h .map) map ∙ walk-fresh
+  free-fresh = let h = inv-held inv in mapped-free vol m st (h .head .chunks-most) (h .map) map (h .head .cursor) ∙ walk-fresh
 
   -- ---- create
 

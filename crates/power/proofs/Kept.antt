@@ -1,5 +1,5 @@
 -- What every commit, every record and every mount and format keeps, every history keeps, on any volume: its calls may be accepted, refused or stopped, and
--- their handles forged. Assumes nothing.
+-- the appender at its start and every reader any. Assumes nothing.
 use Prim.Native.Nat.{ℕ}
 use mathlib.Core.Path.{_≡_, refl, sym, ap, _∙_}
 use mathlib.Core.Bool.{true, false, true≢false, false≢true}
@@ -27,10 +27,10 @@ use Rattle.store.specs.Writing.{formatCall, deleteCall, oldestTold, oldestCall}
 use Rattle.store.proofs.Laws.{asked-done}
 use Rattle.power.specs.Calls.{Call, mount, format, create, openAppend, append, sync, delete, deleteOldest, query}
 use Rattle.power.specs.History.{World, isOk, ifOk, withLeft, ran, after, EachStep}
-use Rattle.power.specs.Left.{Left, Buffered}
+use Rattle.power.specs.Map.{EachCall}
 use Rattle.power.proofs.Queries.{query-world}
 use Rattle.power.proofs.Openings.{done-of}
-use Rattle.power.proofs.Lasts.{Lasts, step-due, good-of, Held, Stays, remove-stays, oldest-stays}
+use Rattle.power.proofs.Lasts.{Lasts, Buffered, step-due, good-of, Held, Stays, remove-stays, oldest-stays}
 use Rattle.power.proofs.Adds.{append-held, sync-held}
 use Rattle.power.proofs.Hands.{create-held, open-held}
 
@@ -106,11 +106,11 @@ module _ {P : Skipped → Type 0} {L : List ℕ → Store → Type 0} (rules : L
   call-held (deleteOldest left dir) w h e = oldest-held w h left dir e
   call-held (query q) w h e = rw (query-world q w) h
 
-  history-held : (cs : List Call) (w : World) → Held rules w → Left P w cs → Held rules (after w cs)
-  unfolding after Left
+  history-held : (cs : List Call) (w : World) → Held rules w → EachCall P w cs → Held rules (after w cs)
+  unfolding after EachCall
   history-held [] w h p = h
   history-held (c ∷ cs) w h p = history-held cs (ran w c .world) (call-held c w h (p .0)) (p .1)
 
-pub lasts : {P : Skipped → Type 0} {L : List ℕ → Store → Type 0} → Lasts P L → (cs : List Call) (w : World) → L (w .vol) (w .store) → Buffered w → Left P w cs
+pub lasts : {P : Skipped → Type 0} {L : List ℕ → Store → Type 0} → Lasts P L → (cs : List Call) (w : World) → L (w .vol) (w .store) → Buffered w → EachCall P w cs
     → L (after w cs .vol) (after w cs .store)
 lasts rules cs w l b p = history-held rules cs w (l, b) p .0

@@ -38,7 +38,6 @@ use Rattle.safe.proofs.Frame.{clash}
 use Rattle.store.specs.Reading.{mountCall}
 use Rattle.store.specs.Writing.{formatCall}
 use Rattle.power.specs.History.{World, isOk, EachStep}
-use Rattle.power.specs.Left.{Buffered}
 use Rattle.power.proofs.Creates.{steps-done}
 
 -- what a call knows of its commit's edit on any volume: Fits, but that no bound of the next id is known there beside the last id's own refusal
@@ -66,6 +65,10 @@ pub record Lasts (P : Skipped → Type 0) (L : List ℕ → Store → Type 0) : 
       → EachStep P (formatCall vol m size seed .steps) → L vol st → L (formatCall vol m size seed .vol) (formatCall vol m size seed .call .store)
   pub unformatted : (vol : List ℕ) (m : Medium) (size seed : ℕ) (st : Store) → isOk (formatCall vol m size seed .call .answer) ≡ false
       → L vol st → L (formatCall vol m size seed .vol) st
+
+-- where the store has a writer, the appender has the 486 bytes that its type gives it; where it has none, any appender is refused
+abbrev pub Buffered : World → Type 0
+Buffered w = isOpen (w .store .writer) ≡ true → length (w .appender .buffer) ≡ 486
 
 -- ---- a free chunk is one of the store's
 

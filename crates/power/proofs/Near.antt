@@ -22,7 +22,6 @@ use Rattle.medium.specs.declared.Outcome.the-variants.{Done, No}
 use Rattle.medium.specs.Sector.{sectorsOf, sectorAt, WriteOut}
 use Rattle.medium.specs.Frame as frame
 use Rattle.medium.proofs.Laws.{onDone-keeps}
-use Rattle.medium.proofs.Frame.{write-kept}
 use Rattle.handles.specs.declared.Store.{Store}
 use Rattle.handles.specs.Body.{bodyAt}
 use Rattle.handles.specs.Handles.{bodyOf, isOpen, openId}
@@ -37,9 +36,7 @@ use Rattle.table.specs.Table.{onPick}
 use Rattle.table.specs.Free.{freeOf}
 use Rattle.table.proofs.Decides.{onPick-keeps}
 use Rattle.table.proofs.Tells.{Mapped}
-use Rattle.record.specs.Record.{numberAt, dataAt, recordOf, writeRecordOf}
-use Rattle.record.proofs.Laws.{data-inside}
-use Rattle.record.proofs.RoundTrip.{length-record}
+use Rattle.record.specs.Record.{dataAt}
 use Rattle.plan.specs.declared.Edit.{Edit}
 use Rattle.plan.specs.declared.Edit.the-variants.{Extend, Remove}
 use Rattle.plan.specs.Copy.{Skipped, Distinct, EachSkipped, Out}
@@ -54,7 +51,7 @@ use Rattle.append.specs.Calls.{mayWrite, callOf, offered, appendCall, syncCall}
 use Rattle.append.specs.Flush.{AppOut, stopped, andThen, movedTo, linkOut, rolledOut, extendOf, recordOut, writeOut, flushOf, pushed, putByte, appendOf, syncOf}
 use Rattle.append.proofs.Then.{Next, then-done, then-no}
 use Rattle.append.proofs.Facts.{May, may-facts, appender-low}
-use Rattle.append.proofs.Keeps.{onTail-keeps, fit-still, extend-goes, payload-short}
+use Rattle.append.proofs.Keeps.{onTail-keeps, fit-still, extend-goes, recordWrite, record-kept}
 use Rattle.append.proofs.Runs.{pushed-fit, byte-puts}
 use Rattle.safe.specs.Inv.{Inv}
 use Rattle.safe.proofs.Frame.{clash}
@@ -232,14 +229,9 @@ module _ {P : Skipped → Type 0} {Fine : List ℕ → Store → Type 0} (rules 
       → KeptIf (recordOut index vol m st a)
   unfolding recordOut dataAt
   record-near vol m st a good fit going index h =
-      let number : ℕ = numberAt (a .position) (st .head .chunk) index in
-      let payload : List ℕ = part 0 (a .fill) (a .buffer) in
-      let place : ℕ = dataAt st (a .chunk) index in
-      let bytes : List ℕ = recordOf (st .head .id) (a .id) number payload in
-      let n : length bytes ≡ 512 = length-record (st .head .id) (a .id) number payload (payload-short (a .fill) (a .buffer) (fit .fill)) in
       let fine : Sane (st .head) (sectorsOf vol) = sane vol m st a good fit going in
-      let w : WriteOut = writeRecordOf vol m st (a .id) (a .chunk) index number payload in
-      let kept : frame.Kept place 1 vol (w .vol) = write-kept vol m place bytes n (data-inside st (a .chunk) index (sectorsOf vol) (fit .chunk) h (fine .room)) in
+      let w : WriteOut = recordWrite index vol m st a in
+      let kept = record-kept vol m st a good fit index h in
       let same : (j : ℕ) → j < 64 → sectorAt (w .vol) j ≡ sectorAt vol j = λ j l. kept .same j (inl (omega arith)) in
       let body : (k : ℕ) → k < bodyOf (st .head .chunks) → sectorAt (w .vol) (bodyAt st k) ≡ sectorAt vol (bodyAt st k)
       = λ k l. same (bodyAt st k) (omega (arith, base-most (st .copy), fine .chunks-most)) in

@@ -6,5 +6,4 @@ pub mod OldOrNew
 pub mod Near
 pub mod Room
 pub mod Points
-pub mod Left
 pub mod Map

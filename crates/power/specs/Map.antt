@@ -3,7 +3,7 @@
 -- returned, and nothing else writes the volume. Of a medium record or a data sector nothing is asked. Assumes nothing.
 use Prim.Native.Nat.{ℕ, _<_}
 use mathlib.Core.Path.{_≡_}
-use mathlib.Core.List.{List}
+use mathlib.Core.List.{List, [], _∷_}
 use lib.ListN.{getD}
 use Rattle.medium.specs.declared.Medium.{Medium}
 use Rattle.medium.specs.Refusal.{ok}
@@ -11,12 +11,12 @@ use Rattle.handles.specs.declared.Header.{Header}
 use Rattle.handles.specs.declared.Store.{Store}
 use Rattle.table.specs.Table.{walkFreeOf}
 use Rattle.table.specs.Free.{freeOf, walkCountOf, freeCountOf}
+use Rattle.plan.specs.Copy.{Skipped}
 use Rattle.append.specs.declared.Appender.{Appender}
 use Rattle.store.specs.Reading.{mountCall}
 use Rattle.store.specs.Writing.{formatCall}
 use Rattle.power.specs.Calls.{Call}
-use Rattle.power.specs.History.{World, after, Honest}
-use Rattle.power.specs.Left.{Left}
+use Rattle.power.specs.History.{World, ran, after, EachStep, Honest}
 use Rattle.power.specs.Claim.{started}
 
 -- a header and a store value with another cursor
@@ -47,6 +47,11 @@ pub data Starts : World → Type 0 where
   formatted : (vol : List ℕ) (m : Medium) (size seed : ℕ) (ap : Appender) → ((k : ℕ) → getD vol k 0 < 256)
       → formatCall vol m size seed .call .answer ≡ ok tt → Starts (started (formatCall vol m size seed) ap)
 
+-- demand 3's premise on the body sectors that the finished commits of these calls left unwritten, and nothing more
+unfoldable pub EachCall : (Skipped → Type 0) → World → List Call → Type 0
+EachCall P w [] = Unit
+EachCall P w (c ∷ cs) = EachStep P (ran w c .steps) × EachCall P (ran w c .world) cs
+
 -- the claim: so it is after every history from there
 abbrev pub MapHolds : Type 0
-MapHolds = (w : World) → Starts w → (cs : List Call) → Left Honest w cs → AsWalked (after w cs .vol) (after w cs .store)
+MapHolds = (w : World) → Starts w → (cs : List Call) → EachCall Honest w cs → AsWalked (after w cs .vol) (after w cs .store)

@@ -70,7 +70,7 @@ pub record CommitMade (edit : Edit) (name vol : List ℕ) (m : Medium) (st : Sto
 abbrev pub Ranged : List ℕ → Type 0
 Ranged vol = (c : ℕ) (h : Header) → copyOf vol (baseOf c) ≡ ours h → InRange h
 
--- its generation has
+-- of that only the generation
 abbrev pub Numbered : List ℕ → Type 0
 Numbered vol = (c : ℕ) (h : Header) → copyOf vol (baseOf c) ≡ ours h → h .generation < 2 ^ 64
 

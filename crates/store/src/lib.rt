@@ -59,14 +59,14 @@ fn committed(c: Committed) -> StoreAnswer
     }
 }
 
-// The store value with the map of its table, where its numbers pass.
+// The store value with the map of its table.
 fn filled(volume: &[u8], medium: Medium, store: Store) -> Store
     requires { ⌜ (64 ≤ sectorsOf (now volume)) × (store .head .chunks ≤ 2048) ⌝ }
     ensures { λ r. ⌜ r ≡ filledOf (now (volume .entry)) medium store ⌝ }
 {
     let head = store.head;
     let writer = store.writer;
-    let free = table::map_of(volume, medium, store);
+    let free = table::map_at(volume, medium, store);
     Store {
         copy: store.copy,
         head,

@@ -10,3 +10,4 @@ pub mod Stale
 pub mod Ways
 pub mod Tells
 pub mod Mapped
+pub mod Filled

@@ -7,7 +7,7 @@ use native.Mathlib.Nat.{add-zero}
 use native.Mathlib.Omega.{arith}
 use borrow.Author.Count.{below-more, below-none}
 use borrow.Author.Tests.{ltb-true, ltb-false, lt-ltb, le-ltb, eq-eqb}
-use lib.Dec.{ltb, eqb}
+use lib.Dec.{ltb}
 use Rattle.le.specs.Choice.{pick}
 use Rattle.le.specs.Tally.{tally}
 use Rattle.le.proofs.Choices.{pick-true, pick-false, pick-keeps-by}
@@ -16,14 +16,13 @@ use Rattle.medium.specs.declared.Error.{Error}
 use Rattle.medium.specs.declared.Medium.{Medium}
 use Rattle.medium.specs.declared.Outcome.{Outcome}
 use Rattle.medium.specs.declared.Outcome.the-variants.{Done, No}
-use Rattle.medium.proofs.Laws.{onDone-done, onDone-no, onDone-keeps}
+use Rattle.medium.proofs.Laws.{onDone-no, onDone-keeps}
 use Rattle.freemap.specs.Map.{marks, onesOf, mapOk}
 use Rattle.freemap.proofs.First.{Chosen, ahead, round, none, chosen-of}
 use Rattle.freemap.proofs.Rule.{ok-none}
 use Rattle.handles.specs.declared.Store.{Store}
 use Rattle.handles.specs.Body.{checkOf, dueOf}
 use Rattle.handles.specs.Handles.{tableOf}
-use Rattle.handles.proofs.Laws.{due-done}
 use Rattle.walk.specs.Walk.{next, stop, visits}
 use Rattle.walk.proofs.Laws.{walk-keeps}
 use Rattle.table.specs.declared.LinkAt.{LinkAt}
@@ -31,32 +30,33 @@ use Rattle.table.specs.declared.LinkAt.the-variants as link
 use Rattle.table.specs.declared.Pick.{Pick}
 use Rattle.table.specs.declared.Pick.the-variants as free
 use Rattle.table.specs.declared.FreeCount.the-variants as count
-use Rattle.table.specs.Link.{linkAt}
+use Rattle.table.specs.Link.{linkHeld, linkAt}
 use Rattle.table.specs.Table.{TableVisit, overTable, linksOf, freeStep, freeV, walkFreeOf}
 use Rattle.table.specs.Free.{onCheck, checkedOf, pickOf, freeOf, freeCountV, walkCountOf, freeCountOf}
-use Rattle.table.proofs.Tells.{held, isFree, is-free, Tells, Mapped, met-held, outside}
+use Rattle.table.proofs.Tells.{isFree, is-free, Tells, Mapped, met-held, outside}
 use Rattle.table.proofs.Numbers.{found-free}
 use Rattle.table.proofs.Walks.{table-keeps, link-checked}
+use Rattle.table.proofs.Ways.{as-walked}
 use Rattle.table.proofs.Nearest.{from-before, from-after, Nearest, dist, free-nearest, walk-range}
 
 -- ---- the sectors of the table: all pass, or one is the first that does not
 
 module _ (vol : List ℕ) (m : Medium) (st : Store) where
-  abbrev Passed : ℕ → Type 0
+  abbrev pub Passed : ℕ → Type 0
   Passed n = (t : ℕ) → t < n → checkOf vol m st (8 + t) ≡ Done
 
   -- the first that fails
-  record Fails (e : Error) : Type 0 where
-    at : ℕ
-    inside : at < tableOf (st .head .chunks)
+  pub record Fails (e : Error) : Type 0 where
+    pub at : ℕ
+    pub inside : at < tableOf (st .head .chunks)
     before : Passed at
     there : checkOf vol m st (8 + at) ≡ No e
 
-  abbrev Result : Outcome → Type 0
+  abbrev pub Result : Outcome → Type 0
   Result Done = Passed (tableOf (st .head .chunks))
   Result (No e) = Fails e
 
-  checked-result : Result (checkedOf vol m st)
+  pub checked-result : Result (checkedOf vol m st)
   unfolding checkedOf visits
   checked-result =
       walk-keeps _ _ (tableOf (st .head .chunks)) (λ k s. Passed k) Result (λ k t u h p g. goes k p (checkOf vol m st (8 + k)) refl g)
@@ -70,25 +70,20 @@ module _ (vol : List ℕ) (m : Medium) (st : Store) where
       stops k r h p Done q g = absurd (let z : _≡_ {A = ℕ} 0 1 = cc in omega arith)
       stops k r h p (No e) q g = let z : No e ≡ r = cc in subst Result z (record { at = k; inside = h; before = p; there = q })
 
+  -- the first link of the sector that fails
+  pub failing : {e : Error} (f : Fails e) → linkAt vol m st (128 * f .at) ≡ link.Refused e
+  unfolding linkAt dueOf
+  failing f =
+      let i : 128 * f .at / 128 ≡ f .at = omega arith in
+      let z : 128 * f .at % 128 ≡ 0 = omega arith in
+      rw (z, i) (onDone-no _ _ (pick-true _ _ (eq-eqb 0 0 refl) ∙ f .there))
+
   -- ---- where no link is refused as bytes, a walk is refused only by a sector, and at the first that fails
 
-  module _ (sound : (c : ℕ) → c < linksOf (st .head .chunks) → (e : Error) → held vol st c ≡ link.Refused e → ⊥) where
-    -- a link of a sector that passes
-    passing : (n c : ℕ) → Passed n → c / 128 < n → linkAt vol m st c ≡ held vol st c
-    unfolding linkAt
-    passing n c p h = onDone-done _ _ (due-done vol m st (eqb (c % 128) 0) (8 + c / 128) (p (c / 128) h))
-
-    -- the first link of the sector that fails
-    failing : {e : Error} (f : Fails e) → linkAt vol m st (128 * f .at) ≡ link.Refused e
-    unfolding linkAt dueOf
-    failing f =
-        let i : 128 * f .at / 128 ≡ f .at = omega arith in
-        let z : 128 * f .at % 128 ≡ 0 = omega arith in
-        rw (z, i) (onDone-no _ _ (pick-true _ _ (eq-eqb 0 0 refl) ∙ f .there))
-
+  module _ (sound : (c : ℕ) → c < linksOf (st .head .chunks) → (e : Error) → linkHeld vol st c ≡ link.Refused e → ⊥) where
     -- before the sector that fails nothing is refused
     early : {e : Error} (f : Fails e) (k : ℕ) → k < 128 * f .at → (x : Error) → linkAt vol m st k ≡ link.Refused x → ⊥
-    early f k h x q = sound k (omega (arith, f .inside)) x (sym (passing (f .at) k (f .before) (omega arith)) ∙ q)
+    early f k h x q = sound k (omega (arith, f .inside)) x (sym (link-checked vol m st (f .at) (f .before) k (omega arith)) ∙ q)
 
     module _ {S R : Type 0} (v : TableVisit S R) (refuse : Error → R) (same : (e : Error) (s : S) → v .refuse e s ≡ refuse e) {e : Error} (f : Fails e) where
       on-met : (k : ℕ) (x : LinkAt) → k ≤ 128 * f .at → linkAt vol m st k ≡ x → ((z : Error) → x ≡ link.Refused z → ⊥) → k + 1 ≤ 128 * f .at
@@ -123,8 +118,8 @@ module _ (vol : List ℕ) (m : Medium) (st : Store) where
 
     -- where every sector passes, the walk's pick is the nearest marked chunk, and its count that of the marked ones
     module _ (p : Passed (tableOf (st .head .chunks))) where
-      reads : (c : ℕ) → c < linksOf (st .head .chunks) → linkAt vol m st c ≡ held vol st c
-      reads c h = link-checked vol m st p c h
+      reads : (c : ℕ) → c < linksOf (st .head .chunks) → linkAt vol m st c ≡ linkHeld vol st c
+      reads c h = link-checked vol m st _ p c (omega arith)
 
       never : {A : Type 0} (k : ℕ) (e : Error) → k < linksOf (st .head .chunks) → linkAt vol m st k ≡ link.Refused e → A
       never k e h q = absurd (sound k h e (sym (reads k h) ∙ q))
@@ -146,10 +141,10 @@ module _ (vol : List ℕ) (m : Medium) (st : Store) where
           table-keeps (freeV (st .head .cursor) (st .head .chunks)) vol m st (λ k t. Picked t) Picked (λ k t e i h q. never k e i q)
           (λ k t h q. h) (λ k t h l q. stepped k t h) (λ k l t h i d q. h) (λ t h. h) free.Nothing tt
 
-      walk-counts : walkCountOf vol m st ≡ count.Is (tally (λ c. isFree (held vol st c)) (linksOf (st .head .chunks)))
+      walk-counts : walkCountOf vol m st ≡ count.Is (tally (λ c. isFree (linkHeld vol st c)) (linksOf (st .head .chunks)))
       unfolding walkCountOf isFree
       walk-counts =
-          table-keeps freeCountV vol m st (λ k n. n ≡ tally (λ c. isFree (held vol st c)) k) (λ r. r ≡ count.Is (tally (λ c. isFree (held vol st c)) (linksOf (st .head .chunks))))
+          table-keeps freeCountV vol m st (λ k n. n ≡ tally (λ c. isFree (linkHeld vol st c)) k) (λ r. r ≡ count.Is (tally (λ c. isFree (linkHeld vol st c)) (linksOf (st .head .chunks))))
           (λ k n e i h q. never k e i q)
           (λ k n h q. h ∙ sym (tally-no _ k (ap isFree (met-held vol m st k link.Past tt q))))
           (λ k n h l q. ap (λ (x : ℕ). x + 1) h ∙ sym (tally-yes _ k (ap isFree (met-held vol m st k link.Free tt q))))
@@ -181,8 +176,8 @@ past-none st ok fit c h l = ok-none (st .free) (st .head .chunks) ok c (rw fit h
 
 -- ---- a fit one too, where it tells the table
 
-module _ (vol : List ℕ) (m : Medium) (st : Store) (inside : st .head .cursor < st .head .chunks) (most : st .head .chunks ≤ 2048)
-    (ok : mapOk (st .free) (st .head .chunks) ≡ true) (fit : st .free .fit ≡ true) (tells : Tells vol st (st .free .words)) where
+module _ (vol : List ℕ) (m : Medium) (st : Store) (most : st .head .chunks ≤ 2048) (ok : mapOk (st .free) (st .head .chunks) ≡ true)
+    (fit : st .free .fit ≡ true) (tells : Tells vol st (st .free .words)) where
   abbrev ws : List ℕ
   ws = st .free .words
 
@@ -190,16 +185,16 @@ module _ (vol : List ℕ) (m : Medium) (st : Store) (inside : st .head .cursor <
   past = past-none st ok fit
 
   -- a marked chunk is one of the store, and free
-  marked : (c : ℕ) → c < 2048 → marks ws c ≡ true → (c < st .head .chunks) × (held vol st c ≡ link.Free)
+  marked : (c : ℕ) → c < 2048 → marks ws c ≡ true → (c < st .head .chunks) × (linkHeld vol st c ≡ link.Free)
   marked c l q = go (ltb c (st .head .chunks)) refl
     where
-      go : (t : Bool) → ltb c (st .head .chunks) ≡ t → (c < st .head .chunks) × (held vol st c ≡ link.Free)
-      go true e = let h = ltb-true c (st .head .chunks) e in (h, is-free (held vol st c) (sym (tells .bits c h) ∙ q))
+      go : (t : Bool) → ltb c (st .head .chunks) ≡ t → (c < st .head .chunks) × (linkHeld vol st c ≡ link.Free)
+      go true e = let h = ltb-true c (st .head .chunks) e in (h, is-free (linkHeld vol st c) (sym (tells .bits c h) ∙ q))
       go false e = absurd (false≢true (sym (past c (ltb-false _ _ e) l) ∙ q))
 
   -- ---- where every sector passes
 
-  module _ (p : Passed vol m st (tableOf (st .head .chunks))) where
+  module _ (inside : st .head .cursor < st .head .chunks) (p : Passed vol m st (tableOf (st .head .chunks))) where
     met-free : (c : ℕ) → c < 2048 → marks ws c ≡ true → (c < st .head .chunks) × (linkAt vol m st c ≡ link.Free)
     met-free c l q = let k = marked c l q in (k .0, reads vol m st (tells .sound) p c (omega (arith, k .0)) ∙ k .1)
 
@@ -265,53 +260,41 @@ module _ (vol : List ℕ) (m : Medium) (st : Store) (inside : st .head .cursor <
         at-pick r (omega arith) ∙ ap free.At (sym (same-round b r (g .0) lo (n .1 r (omega (arith, f .0)) (f .1)) off low (g .1)))
     same-pick (free.At b) n h r (none e off) = let g = free-marked b (n .0) in absurd (false≢true (sym (off b (omega (arith, g .0))) ∙ g .1))
 
-  -- ---- so it is whatever the sectors say
-
-  by-check : (o : Outcome) → checkedOf vol m st ≡ o → Result vol m st o → freeOf vol m st ≡ walkFreeOf vol m st
-  unfolding freeOf walkFreeOf
-  by-check Done q p =
-      pick-true _ _ fit ∙ onDone-done _ _ q
-      ∙ same-pick p (walkFreeOf vol m st) (free-nearest vol m st) (walk-picks vol m st (tells .sound) p) _ (chosen-of ws (st .head .cursor))
-  by-check (No e) q f =
-      pick-true _ _ fit ∙ onDone-no _ _ q
-      ∙ sym (walk-fails vol m st (tells .sound) (freeV (st .head .cursor) (st .head .chunks)) free.Refused (λ x s. refl) f free.Nothing)
-
   -- as many bits as free links
-  same-count : onesOf ws ≡ tally (λ c. isFree (held vol st c)) (linksOf (st .head .chunks))
+  same-count : onesOf ws ≡ tally (λ c. isFree (linkHeld vol st c)) (linksOf (st .head .chunks))
   same-count =
       let n : ℕ = linksOf (st .head .chunks) in
       let d : ℕ = 2048 - n in
       let e : 2048 ≡ n + d = omega arith in
-      ap (tally (marks ws)) e ∙ tally-rest (marks ws) n d (λ c h l. past c (omega arith) (omega arith)) ∙ tally-ext (marks ws) (λ c. isFree (held vol st c)) n each
+      ap (tally (marks ws)) e ∙ tally-rest (marks ws) n d (λ c h l. past c (omega arith) (omega arith)) ∙ tally-ext (marks ws) (λ c. isFree (linkHeld vol st c)) n each
     where
-      go : (c : ℕ) → c < 2048 → (t : Bool) → ltb c (st .head .chunks) ≡ t → marks ws c ≡ isFree (held vol st c)
+      go : (c : ℕ) → c < 2048 → (t : Bool) → ltb c (st .head .chunks) ≡ t → marks ws c ≡ isFree (linkHeld vol st c)
       go c l true e = tells .bits c (ltb-true _ _ e)
       go c l false e = let h : st .head .chunks ≤ c = ltb-false _ _ e in past c h l ∙ sym (outside vol st c h)
 
-      each : (c : ℕ) → c < linksOf (st .head .chunks) → marks ws c ≡ isFree (held vol st c)
+      each : (c : ℕ) → c < linksOf (st .head .chunks) → marks ws c ≡ isFree (linkHeld vol st c)
       each c h = go c (omega arith) (ltb c (st .head .chunks)) refl
 
-  count-by-check : (o : Outcome) → checkedOf vol m st ≡ o → Result vol m st o → freeCountOf vol m st ≡ walkCountOf vol m st
-  unfolding freeCountOf walkCountOf
-  count-by-check Done q p = pick-true _ _ fit ∙ onDone-done _ _ q ∙ ap count.Is same-count ∙ sym (walk-counts vol m st (tells .sound) p)
-  count-by-check (No e) q f = pick-true _ _ fit ∙ onDone-no _ _ q ∙ sym (walk-fails vol m st (tells .sound) freeCountV count.Refused (λ x s. refl) f 0)
+module _ (vol : List ℕ) (m : Medium) (st : Store) (most : st .head .chunks ≤ 2048) (ok : mapOk (st .free) (st .head .chunks) ≡ true) (mapped : Mapped vol st) where
+  -- what is known of the sectors, by the outcome of their checks
+  known : {o : Outcome} → checkedOf vol m st ≡ o → Result vol m st o
+  known q = subst (Result vol m st) q (checked-result vol m st)
 
-module _ (vol : List ℕ) (m : Medium) (st : Store) (inside : st .head .cursor < st .head .chunks) (most : st .head .chunks ≤ 2048)
-    (ok : mapOk (st .free) (st .head .chunks) ≡ true) (mapped : Mapped vol st) where
   -- the chunk chosen, and the free count
-  pub mapped-free : freeOf vol m st ≡ walkFreeOf vol m st
-  mapped-free = go (st .free .fit) refl
-    where
-      go : (t : Bool) → st .free .fit ≡ t → freeOf vol m st ≡ walkFreeOf vol m st
-      go true f = by-check vol m st inside most ok f (mapped f) (checkedOf vol m st) refl (checked-result vol m st)
-      go false f = unfit-free vol m st f
+  pub mapped-free : st .head .cursor < st .head .chunks → freeOf vol m st ≡ walkFreeOf vol m st
+  unfolding freeOf walkFreeOf
+  mapped-free inside =
+      as-walked vol m st _ _ _
+      (λ f q. same-pick vol m st most ok f (mapped f) inside (known q) (walkFreeOf vol m st) (free-nearest vol m st)
+      (walk-picks vol m st (mapped f .sound) (known q)) _ (chosen-of (st .free .words) (st .head .cursor)))
+      (λ f e q. sym (walk-fails vol m st (mapped f .sound) (freeV (st .head .cursor) (st .head .chunks)) free.Refused (λ x s. refl) (known q) free.Nothing))
 
   pub mapped-count : freeCountOf vol m st ≡ walkCountOf vol m st
-  mapped-count = go (st .free .fit) refl
-    where
-      go : (t : Bool) → st .free .fit ≡ t → freeCountOf vol m st ≡ walkCountOf vol m st
-      go true f = count-by-check vol m st inside most ok f (mapped f) (checkedOf vol m st) refl (checked-result vol m st)
-      go false f = unfit-count vol m st f
+  unfolding freeCountOf walkCountOf
+  mapped-count =
+      as-walked vol m st _ _ _
+      (λ f q. ap count.Is (same-count vol m st most ok f (mapped f)) ∙ sym (walk-counts vol m st (mapped f .sound) (known q)))
+      (λ f e q. sym (walk-fails vol m st (mapped f .sound) freeCountV count.Refused (λ x s. refl) (known q) 0))
 
 -- ---- the chunk chosen is one of the store, whatever the map says
 

@@ -8,7 +8,7 @@ use native.Mathlib.Decide.{ℕ-discrete}
 use native.Mathlib.Omega.{arith}
 use borrow.Author.Tests.{eqb-true, eqb-false}
 use borrow.Author.Count.{below-more}
-use lib.Dec.{eqb, ltb}
+use lib.Dec.{eqb}
 use lib.ListN.{length, getD, set}
 use lib.Seq.{getD-set-same, getD-set-other}
 use Rattle.le.specs.Choice.{pick}
@@ -34,7 +34,7 @@ use Rattle.table.specs.declared.ChainState.{ChainState}
 use Rattle.table.specs.declared.ChainParts.{ChainParts}
 use Rattle.table.specs.declared.Chained.{Chained}
 use Rattle.table.specs.declared.Chained.the-variants as chained
-use Rattle.table.specs.Link.{linkIn, linkPart, linkAt}
+use Rattle.table.specs.Link.{linkPart, linkHeld, linkAt}
 use Rattle.table.specs.Table.{TableVisit, onLink, linksOf, overTable, sought, locateStep, locateV, locateOf, firstStep, higher, chainMore, chainStep, chainV, chainEnd, chainOf, wholeOf, noChain}
 use Rattle.table.proofs.Numbers.{Sound, found-free, found-link}
 
@@ -78,12 +78,12 @@ module _ (vol vol′ : List ℕ) (m : Medium) (st : Store)
   pub table-frame : {S R : Type 0} (v : TableVisit S R) (s : S) → overTable v vol m st s ≡ overTable v vol′ m st s
   table-frame v s = visits-alike (onLink v) (linkAt vol m st) (linkAt vol′ m st) (v .done) (linksOf (st .head .chunks)) link-alike 0 s zero-le
 
--- ---- where every table sector passes its check, a link is what its bytes say
+-- ---- where the first n table sectors pass their checks, a link in them is what its bytes say
 
-module _ (vol : List ℕ) (m : Medium) (st : Store) (pass : (t : ℕ) → t < tableOf (st .head .chunks) → checkOf vol m st (8 + t) ≡ Done) where
-  pub link-checked : (c : ℕ) → c < linksOf (st .head .chunks) → linkAt vol m st c ≡ linkIn (linkPart vol st c) (ltb c (st .head .chunks)) (st .head .chunk)
-  unfolding linkAt
-  link-checked c h = onDone-done _ _ (due-done vol m st (eqb (c % 128) 0) (8 + c / 128) (pass (c / 128) (omega arith)))
+pub link-checked : (vol : List ℕ) (m : Medium) (st : Store) (n : ℕ) → ((t : ℕ) → t < n → checkOf vol m st (8 + t) ≡ Done) → (c : ℕ) → c / 128 < n
+    → linkAt vol m st c ≡ linkHeld vol st c
+unfolding linkAt
+link-checked vol m st n pass c h = onDone-done _ _ (due-done vol m st (eqb (c % 128) 0) (8 + c / 128) (pass (c / 128) h))
 
 -- ---- locate: the chunk is linked to the slot at the position, and no higher one is
 

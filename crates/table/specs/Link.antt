@@ -49,12 +49,13 @@ linkIn bytes inside size = linkOf (getLe 2 0 bytes) (getLe 2 2 bytes) inside siz
 unfoldable pub linkPart : List ℕ → Store → ℕ → List ℕ
 linkPart vol st c = part (4 * (c % 128)) 4 (sectorAt vol (bodyAt st (8 + c / 128)))
 
+-- what a chunk's link says as bytes: its sector's checksum is not asked
+abbrev pub linkHeld : List ℕ → Store → ℕ → LinkAt
+linkHeld vol st c = linkIn (linkPart vol st c) (ltb c (st .head .chunks)) (st .head .chunk)
+
 -- what a walk finds of chunk c: the sector is checked at its first link
 unfoldable pub linkAt : List ℕ → Medium → Store → ℕ → LinkAt
-linkAt vol m st c =
-    onDone (dueOf vol m st (eqb (c % 128) 0) (8 + c / 128))
-    (linkIn (linkPart vol st c) (ltb c (st .head .chunks)) (st .head .chunk))
-    Refused
+linkAt vol m st c = onDone (dueOf vol m st (eqb (c % 128) 0) (8 + c / 128)) (linkHeld vol st c) Refused
 
 -- the low 7 bits are slot + 1, whatever else the link holds
 unfoldable pub ownedBy : ℕ → List ℕ → Bool

@@ -58,8 +58,8 @@ fn walk_free(volume: &[u8], medium: Medium, store: Store) -> Pick
     best
 }
 
-// The chunk that the next link takes: the first that the map marks at or after the cursor, going round. The table must pass its checksums all
-// the same, so that a refusal comes where the walk has it.
+// The chunk that the next link takes: the first that the map marks at or after the cursor, going round; with an unfit map, the walk's. The
+// table must pass its checksums all the same, so that a refusal comes where the walk has it.
 pub fn free_chunk(volume: &[u8], medium: Medium, store: Store) -> Pick
     requires { ⌜ (64 ≤ sectorsOf (now volume)) × (store .head .chunks ≤ 2048) × (store .head .cursor < store .head .chunks) ⌝ }
     ensures { λ r. ⌜ r ≡ freeOf (now (volume .entry)) medium store ⌝ }
@@ -107,7 +107,7 @@ fn walk_count(volume: &[u8], medium: Medium, store: Store) -> FreeCount
     FreeCount::Is(count)
 }
 
-// How many chunks are free: as many as the map marks, where the table passes its checksums.
+// How many chunks are free: as many as the map marks, where the table passes its checksums; with an unfit map, as many as the walk meets.
 pub fn free_count(volume: &[u8], medium: Medium, store: Store) -> FreeCount
     requires { ⌜ (64 ≤ sectorsOf (now volume)) × (store .head .chunks ≤ 2048) ⌝ }
     ensures { λ r. ⌜ r ≡ freeCountOf (now (volume .entry)) medium store ⌝ }
@@ -125,7 +125,7 @@ pub fn free_count(volume: &[u8], medium: Medium, store: Store) -> FreeCount
 }
 
 // The map of the table as its links are: unfit where a sector or a link is refused.
-pub fn map_of(volume: &[u8], medium: Medium, store: Store) -> FreeMap
+pub fn map_at(volume: &[u8], medium: Medium, store: Store) -> FreeMap
     requires { ⌜ (64 ≤ sectorsOf (now volume)) × (store .head .chunks ≤ 2048) ⌝ }
     ensures { λ r. ⌜ r ≡ mapAt (now (volume .entry)) medium store ⌝ }
 {

@@ -1,9 +1,9 @@
-// The links of the chunk table, and the walks over it: the free chunk, a file's chain, the chunk of a position, and the chunks of each slot.
+// The links of the chunk table, and the walks over it: a file's chain, the chunk of a position, and the chunks of each slot; `free` has the free chunk's.
 mod free;
 
 pub use free::free_chunk;
 pub use free::free_count;
-pub use free::map_of;
+pub use free::map_at;
 use handles::Store;
 use medium::Error;
 use medium::Medium;
@@ -125,7 +125,7 @@ pub fn link_at(volume: &[u8], medium: Medium, store: Store, chunk: u32) -> LinkA
     link_of(owner, place, chunk < h.chunks, h.chunk)
 }
 
-// Whether the link of `chunk` has `slot` as its owner; nothing else of the link is looked at.
+// Whether the link of `chunk` has `slot` as its owner; nothing else of the link is looked at. A commit that finishes has read and checked the sector.
 pub fn owned(volume: &[u8], store: Store, chunk: u32, slot: usize) -> bool
     requires { ⌜ (64 ≤ sectorsOf (now volume)) × (chunk < 2048) × (slot < 64) ⌝ }
     ensures { λ r. ⌜ r ≡ ownedBy slot (linkPart (now (volume .entry)) store chunk) ⌝ }

@@ -3,7 +3,7 @@
 use Prim.Native.Nat.{ℕ, _+_, _*_, _/_, _%_, _<_, _≤_}
 use mathlib.Core.Path.{_≡_, refl, sym, ap, _∙_, subst}
 use mathlib.Core.Logic.{_≢_}
-use mathlib.Core.Bool.{Bool, true, false, true≢false, false≢true, not, _&&_, _||_}
+use mathlib.Core.Bool.{Bool, true, false, true≢false, false≢true, not, _&&_, _||_, and-true, and-false, or-true, or-false}
 use mathlib.Core.List.{List}
 use native.Mathlib.Omega.{arith}
 use borrow.Author.Tests.{ltb-true, ltb-false, lt-ltb, eq-eqb, ne-eqb}
@@ -12,6 +12,7 @@ use lib.ListN.{length}
 use Rattle.le.specs.Choice.{pick}
 use Rattle.le.specs.Part.{part, zeros}
 use Rattle.le.proofs.Parts.{part-zeros}
+use Rattle.le.proofs.Bools.{or-second}
 use Rattle.le.proofs.Choices.{pick-true, pick-false}
 use Rattle.medium.specs.declared.Error.{Error}
 use Rattle.medium.specs.Sector.{sectorsOf, sectorAt}
@@ -54,17 +55,9 @@ linked-told {x} {l} b t q e = (λ r z. no-link (sym q ∙ z), rw (q, e) (and-fal
     no-link : {r : Error} → link.Linked l ≡ link.Refused r → ⊥
     no-link z = let n : _≡_ {A = ℕ} 0 1 = cc in omega arith
 
-    and-false : (b : Bool) → (b && false) ≡ false
-    and-false true = refl
-    and-false false = refl
-
 -- one that stays as it was
 same-told : {x y : LinkAt} (b t : Bool) → x ≡ y → t ≡ false → Told y b → Told x (b && not t)
 same-told b t q e h = (λ r z. h .0 r (sym q ∙ z), rw (q, e) (and-true b ∙ h .1))
-  where
-    and-true : (b : Bool) → (b && true) ≡ b
-    and-true true = refl
-    and-true false = refl
 
 free-link : {e : Error} → link.Free ≡ link.Refused e → ⊥
 free-link z = let n : _≡_ {A = ℕ} 0 1 = cc in omega arith
@@ -107,15 +100,11 @@ module _ (name vol : List ℕ) (st : Store) (v : List ℕ) (t : Store) (sane : S
             (rw (eq-eqb c next e) refl))
             (λ n. same-told (bit c) (eqb c next || (p && eqb c last)) (links-same sane done hs hp hn hl c h n m) (rw (ne-eqb c next n) f) (before c h))
 
-        or-right : (a b : Bool) → b ≡ true → (a || b) ≡ true
-        or-right true b q = refl
-        or-right false b q = q
-
         go : (p : Bool) → partial ≡ p → Told (linkView v t c) (bit c && not (eqb c next || (p && eqb c last)))
         go false q = plain (λ y. absurd (true≢false (sym y ∙ q))) false q refl
         go true q =
             case c last
-            (λ e. linked-told (bit c) _ (ap (linkView v t) e ∙ mark-now sane done hs hp hn hl q (few q)) (or-right (eqb c next) _ (eq-eqb c last e)))
+            (λ e. linked-told (bit c) _ (ap (linkView v t) e ∙ mark-now sane done hs hp hn hl q (few q)) (or-second (eqb c next) _ (eq-eqb c last e)))
             (λ n. plain (λ _. n) true q (ne-eqb c last n))
 
     removed-told : {slot : ℕ} → Edited (Remove slot) name vol st v t → slot < 64 → Told (linkView v t c) (bit c || (ltb c (st .head .chunks) && ownedBy slot (linkPart vol st c)))
@@ -130,26 +119,14 @@ module _ (name vol : List ℕ) (st : Store) (v : List ℕ) (t : Store) (sane : S
             ap (λ (x : List ℕ). linkIn x (ltb c (t .head .chunks)) (t .head .chunk)) (was ∙ pick-true _ _ q)
             ∙ link-zero (ltb c (t .head .chunks)) (t .head .chunk) ∙ ap (λ (x : Bool). pick x link.Free link.Past) (ap (ltb c) (same-shape sane done .chunks) ∙ e)
 
-        or-none : (b : Bool) → (b || false) ≡ b
-        or-none true = refl
-        or-none false = refl
-
-        or-one : (b : Bool) → (b || true) ≡ true
-        or-one true = refl
-        or-one false = refl
-
-        and-none : (b : Bool) → (b && false) ≡ false
-        and-none true = refl
-        and-none false = refl
-
         go : (o b : Bool) → ownedBy slot (linkPart vol st c) ≡ o → ltb c (st .head .chunks) ≡ b → Told (linkView v t c) (bit c || (b && o))
-        go true true q e = let f : linkView v t c ≡ link.Free = zeroed q true e ∙ pick-true _ _ refl in (λ r z. free-link (sym f ∙ z), or-one (bit c) ∙ sym (ap isFree f))
+        go true true q e = let f : linkView v t c ≡ link.Free = zeroed q true e ∙ pick-true _ _ refl in (λ r z. free-link (sym f ∙ z), or-true (bit c) ∙ sym (ap isFree f))
         go true false q e =
             let f : linkView v t c ≡ link.Past = zeroed q false e ∙ pick-false _ _ refl in
-            (λ r z. past-link (sym f ∙ z), or-none (bit c) ∙ before c h .1 ∙ outside vol st c (ltb-false _ _ e) ∙ sym (ap isFree f))
+            (λ r z. past-link (sym f ∙ z), or-false (bit c) ∙ before c h .1 ∙ outside vol st c (ltb-false _ _ e) ∙ sym (ap isFree f))
         go false b q e =
             let f : linkView v t c ≡ linkView vol st c = link-same sane done c (was ∙ pick-false _ _ q) in
-            (λ r z. before c h .0 r (sym f ∙ z), ap (λ (x : Bool). bit c || x) (and-none b) ∙ or-none (bit c) ∙ before c h .1 ∙ sym (ap isFree f))
+            (λ r z. before c h .0 r (sym f ∙ z), ap (λ (x : Bool). bit c || x) (and-false b) ∙ or-false (bit c) ∙ before c h .1 ∙ sym (ap isFree f))
 
   edited-told : (edit : Edit) → Fitting st edit → length name ≤ 40 → Edited edit name vol st v t → Before
       → (c : ℕ) → c < linksOf (st .head .chunks) → Told (linkView v t c) (markAfter edit vol st (st .head .chunks) c)
@@ -179,15 +156,11 @@ module _ (name vol : List ℕ) (st : Store) (v : List ℕ) (t : Store) (sane : S
   unfolding linkView mapAfter
   edited-mapped edit f short done ok mapped fit = go (st .free .fit) refl
     where
-      or-right : (a b : Bool) → b ≡ true → (a || b) ≡ true
-      or-right true b q = refl
-      or-right false b q = q
-
       go : (b : Bool) → st .free .fit ≡ b → Tells v t (t .free .words)
       go true q =
           let told = edited-told edit f short done (before-told ok q (mapped q)) in
           let n : t .head .chunks ≡ st .head .chunks = same-shape sane done .chunks in
-          let w : t .free ≡ mapOf (markAfter edit vol st (st .head .chunks)) = done .free ∙ pick-true _ _ (or-right (isFormat edit) (st .free .fit) q) in
+          let w : t .free ≡ mapOf (markAfter edit vol st (st .head .chunks)) = done .free ∙ pick-true _ _ (or-second (isFormat edit) (st .free .fit) q) in
           record {
             sound = λ c h. told c (rw (sym n) h) .0;
             bits = λ c h. ap (λ (x : FreeMap). marks (x .words) c) w ∙ marks-words _ c (omega (arith, n, sane .chunks-most)) ∙ told c (omega (arith, n)) .1;

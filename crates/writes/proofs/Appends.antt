@@ -10,7 +10,6 @@ use borrow.Author.Tests.{eqb-true, eqb-false, ltb-true}
 use lib.Dec.{eqb, leb, ltb, lit≤}
 use lib.ListN.{length}
 use Rattle.le.specs.Choice.{pick}
-use Rattle.le.specs.Part.{part}
 use Rattle.le.proofs.Choices.{pick-keeps, pick-keeps-by}
 use Rattle.medium.specs.declared.Error.{Error}
 use Rattle.medium.specs.declared.Error.the-variants.{Corrupt, Full}
@@ -20,15 +19,13 @@ use Rattle.medium.specs.Refusal.{onDone}
 use Rattle.medium.specs.Sector.{sectorsOf, WriteOut}
 use Rattle.medium.specs.Frame.{Kept}
 use Rattle.medium.proofs.Laws.{onDone-keeps}
-use Rattle.medium.proofs.Frame.{kept-sectors, write-kept}
+use Rattle.medium.proofs.Frame.{kept-sectors}
 use Rattle.handles.specs.declared.Store.{Store}
 use Rattle.handles.specs.Handles.{isOpen, openId, tableOf, baseOf}
 use Rattle.handles.proofs.Laws.{Held, store-facts, base-most}
 use Rattle.table.specs.Free.{freeOf}
 use Rattle.table.proofs.Decides.{onPick-keeps}
-use Rattle.record.specs.Record.{dataAt, recordOf, numberAt, writeRecordOf}
-use Rattle.record.proofs.Laws.{data-inside}
-use Rattle.record.proofs.RoundTrip.{length-record}
+use Rattle.record.specs.Record.{dataAt}
 use Rattle.plan.specs.declared.Edit.{Edit}
 use Rattle.plan.specs.declared.Edit.the-variants.{Extend, Remove}
 use Rattle.plan.specs.Copy.{isFormat}
@@ -38,7 +35,7 @@ use Rattle.remove.proofs.Keeps.{Good, oldest-stands}
 use Rattle.append.specs.declared.Appender.{Appender}
 use Rattle.append.specs.Appender.{dirBytes, Fit}
 use Rattle.append.specs.Flush.{AppOut, stopped, done, andThen, linkOut, rolledOut, extendOf, recordOut, writeOut, flushOf, pushed, putByte, appendOf, syncOf}
-use Rattle.append.proofs.Keeps.{onTail-keeps, extend-goes, flush-goes, flush-empties, payload-short}
+use Rattle.append.proofs.Keeps.{onTail-keeps, extend-goes, flush-goes, flush-empties, recordWrite, record-kept}
 use Rattle.append.proofs.Owns.{flush-owned}
 use Rattle.append.proofs.Runs.{pushed-fit}
 use Rattle.safe.proofs.Frame.{clash}
@@ -158,17 +155,11 @@ module _ {rolls : Bool} {c : ℕ} (r : Rates rolls c) where
       → (e : ℕ) → Owes e vol st → Records m (Owes e) (recordOut index vol m st a)
   unfolding recordOut dataAt
   record-writes vol m st a good fit index h e owes =
-      let number : ℕ = numberAt (a .position) (st .head .chunk) index in
-      let payload : List ℕ = part 0 (a .fill) (a .buffer) in
-      let place : ℕ = dataAt st (a .chunk) index in
-      let bytes : List ℕ = recordOf (st .head .id) (a .id) number payload in
-      let n : length bytes ≡ 512 = length-record (st .head .id) (a .id) number payload (payload-short (a .fill) (a .buffer) (fit .fill)) in
-      let held : Held st (sectorsOf vol) = store-facts st (sectorsOf vol) (good .ok) in
-      let w : WriteOut = writeRecordOf vol m st (a .id) (a .chunk) index number payload in
-      let kept : Kept place 1 vol (w .vol) = write-kept vol m place bytes n (data-inside st (a .chunk) index (sectorsOf vol) (fit .chunk) h (held .head .room)) in
-      let l = write-most vol m place bytes in
+      let w : WriteOut = recordWrite index vol m st a in
+      let kept = record-kept vol m st a good fit index h in
+      let l = write-most vol m _ _ in
       onDone-keeps (Records m (Owes e)) (w .ans .outcome) _ _
-      (λ _. (l, λ _. ⊎-elim inl (λ x. inr (beside-record place (omega arith) kept x)) owes))
+      (λ _. (l, λ _. ⊎-elim inl (λ x. inr (beside-record _ (omega arith) kept x)) owes))
       (λ x _. (l, clash refl))
 
   module _ (vol : List ℕ) (m : Medium) (st : Store) (a : Appender) (good : Good vol st) (fit : Fit a st) (h : st .head .chunks ≡ c)

@@ -21,7 +21,7 @@ use Rattle.files.specs.declared.Rollover.{Rollover}
 use Rattle.reopen.specs.Reopen.{reopenOf}
 use Rattle.reopen.proofs.Opens.{reopen-reads, reopen-opens}
 use Rattle.store.specs.declared.ReaderAnswer.{ReaderAnswer}
-use Rattle.store.specs.Reading.{mountCall, findCall, ListCall, listFrom, listCall, readerCall}
+use Rattle.store.specs.Reading.{mountCall, freeCountCall, findCall, ListCall, listFrom, listCall, readerCall}
 use Rattle.store.specs.Opening.{rolloverOf, admittedOf, openCall}
 use Rattle.store.proofs.Admits.{open-is}
 use Rattle.store.proofs.Opens.{input-fits}
@@ -37,6 +37,11 @@ module _ (vol : List ℕ) (m : Medium) (st : Store) where
   list-medium dir counts rows =
       pick-keeps (λ (c : ListCall). c .medium ≡ m) _ _ _ refl
       (onDone-keeps (λ (c : ListCall). c .medium ≡ m) _ _ _ (λ _. onDone-keeps (λ (c : ListCall). c .medium ≡ m) _ _ _ (λ _. refl) (λ _ _. refl)) (λ _ _. refl))
+
+  -- S-3's call
+  pub free-count-medium : freeCountCall vol m st .medium ≡ m
+  unfolding freeCountCall
+  free-count-medium = refl
 
   pub find-medium : (name : List ℕ) → findCall vol m st name .medium ≡ m
   unfolding findCall

@@ -271,9 +271,7 @@ impl<'a> Play<'a> {
             _ if new && !accepted => UNFIT,
             ("mount", Some(s)) => map::mounted(&st.m, &s),
             ("format", Some(s)) => map::of_bytes(&st.m.volume, s.x_copy(), s.chunks()),
-            (_, Some(s)) if moved && st.map != UNFIT && map::checked(&st.m.volume, None, &s) => map::of_bytes(&st.m.volume, s.x_copy(), s.chunks()),
-            // a table that does not hold is not looked at by a call
-            _ if moved && st.map != UNFIT => map,
+            (_, Some(s)) if moved && st.map != UNFIT => map::committed(&st.m.volume, &s, &map),
             _ => st.map,
         };
         if map != want {

@@ -35,12 +35,16 @@ pub fn of_bytes(volume: &[u8], copy: u64, chunks: u32) -> Map {
     of(|c| c < chunks as usize && link(volume, copy, c) == [0; 4])
 }
 
-/// Whether every table sector of the store's copy can be read and passes the checksum that the store value lists.
-pub fn checked(volume: &[u8], unreadable: Option<u64>, s: &Store) -> bool {
-    (0..u64::from(s.chunks().div_ceil(128))).all(|t| {
-        let at = 32 * s.x_copy() + 9 + t;
-        unreadable != Some(at) && crc32(&volume[512 * at as usize..][..512]) == s.x_crcs()[8 + t as usize]
-    })
+/// Whether table sector `t` of the store's copy passes the checksum that the store value lists.
+fn passes(volume: &[u8], s: &Store, t: usize) -> bool {
+    crc32(&volume[512 * (32 * s.x_copy() as usize + 9 + t)..][..512]) == s.x_crcs()[8 + t]
+}
+
+/// The map after a commit: by the links of each table sector that passes; of another one the bits as they came, since no call looks at it.
+pub fn committed(volume: &[u8], s: &Store, came: &Map) -> Map {
+    let sectors: Vec<bool> = (0..s.chunks().div_ceil(128) as usize).map(|t| passes(volume, s, t)).collect();
+    let table = of_bytes(volume, s.x_copy(), s.chunks());
+    of(|c| c < s.chunks() as usize && bit(if sectors[c / 128] { &table } else { came }, c))
 }
 
 /// The map that an accepted mount fills in: the unfit one where a table sector fails, or a link.
@@ -52,8 +56,9 @@ pub fn mounted(m: &Medium, s: &Store) -> Map {
         let linked = (1..=64).contains(&slot) && c < s.chunks() as usize && (partial || records == 0) && records < s.chunk_sectors();
         linked || owner == 0 && place == 0
     };
-    let links = 128 * s.chunks().div_ceil(128) as usize;
-    if checked(&m.volume, Some(m.unreadable), s) && (0..links).all(fits) { of_bytes(&m.volume, s.x_copy(), s.chunks()) } else { UNFIT }
+    let sectors = s.chunks().div_ceil(128) as usize;
+    let read = |t: usize| m.unreadable != 32 * s.x_copy() + 9 + t as u64 && passes(&m.volume, s, t);
+    if (0..sectors).all(read) && (0..128 * sectors).all(fits) { of_bytes(&m.volume, s.x_copy(), s.chunks()) } else { UNFIT }
 }
 
 pub fn show(map: &Map) -> String {

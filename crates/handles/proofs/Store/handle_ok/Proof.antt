@@ -7,12 +7,12 @@ use Rattle.handles.proofs.Store.handle_ok.Tie as tie
 sane-requires : tie.Need-sane-requires
 sane-requires c κs = search needs
 
-fits-requires : tie.Need-fits-requires
-fits-requires c κs = search needs
+map-ok-requires : tie.Need-map-ok-requires
+map-ok-requires c κs = search needs
 
 returns : tie.Need-returns
 unfolding storeOk
-returns c = rw (c .before .sane .ensures, c .fits2 .ensures)
+returns c = rw (c .before .sane .ensures, c .map-ok .ensures)
 
 pub handle-ok-spec : {M : Type 1} → statement M
-handle-ok-spec = tie.close (tie.spec sane-requires fits-requires returns)
+handle-ok-spec = tie.close (tie.spec sane-requires map-ok-requires returns)

@@ -111,47 +111,75 @@ fn refused(r: &mut Rng, w: &World, fault: &str, seen: &mut u64) -> Result<(), St
     Ok(())
 }
 
-/// Any other map: the choice and the count are the map's, whatever the table has.
-fn chosen(r: &mut Rng, w: &World, fault: &str, seen: &mut u64) -> Result<(), String> {
-    let (n, cursor, mut x, any) = (w.store[5] as usize, w.store[4] as usize, w.clone(), words(r));
+/// The world with any other map, and the map.
+fn with_any(r: &mut Rng, w: &World) -> (World, Map) {
+    let (n, mut x, any) = (w.store[5] as usize, w.clone(), words(r));
     let map = of(|c| c < n && bit(&any, c));
     put(&mut x, &map);
-    let ones = (0..n).filter(|c| bit(&map, *c)).count() as u64;
-    if fault == "count-less" {
-        put(&mut x, &of(|c| bit(&map, c) && c % 64 != 63));
-    }
     // any number but 0 is a fit map's
     x.store[10] = r.pick(&[1, 2, u64::MAX]);
-    let count = x.free_count();
-    put(&mut x, &map);
-    x.store[10] = r.pick(&[1, 2, u64::MAX]);
+    (x, map)
+}
+
+/// Whether the appender's link stands at chunk `c` and no other link moved but the mark of `last`, and the map lost the bits of the links that were written.
+fn took(w: &World, x: &World, map: &Map, c: usize, last: Option<usize>) -> bool {
+    let moved = |d: usize| link(&x.volume, x.store[0], d) != link(&w.volume, w.store[0], d);
+    let owner = u16::from_le_bytes(link(&x.volume, x.store[0], c)[..2].try_into().unwrap()) % 128;
+    let others = (0..w.store[5] as usize).all(|d| d == c || Some(d) == last || !moved(d));
+    let after = of(|d| bit(map, d) && d != c && !(Some(d) == last && moved(d)));
+    u64::from(owner) == x.appender[1] + 1 && x.appender[3] == c as u64 && others && map_of(&x.store) == after
+}
+
+/// Any other map: the choice and the count are the map's, whatever the table has.
+fn chosen(r: &mut Rng, w: &World, fault: &str, seen: &mut u64) -> Result<(), String> {
+    let (cursor, (mut x, map)) = (w.store[4] as usize, with_any(r, w));
+    let ones = (0..2048).filter(|c| bit(&map, *c)).count() as u64;
+    let mut y = x.clone();
     match fault {
+        "count-less" => put(&mut y, &of(|c| bit(&map, c) && c % 64 != 63)),
         "later" => put(&mut x, &of(|c| bit(&map, c) && c != cursor)),
         "not-round" => put(&mut x, &of(|c| bit(&map, c) && c >= cursor)),
         _ => {}
     }
-    let told = create(&mut x, "zz");
+    let (count, told) = (y.free_count(), create(&mut x, "zz"));
     *seen += 2;
-    let fail = |what: String| Err(format!("{n} chunks, cursor {cursor}: {what}, with the map {}", show(&map)));
+    let fail = |what: String| Err(format!("{} chunks, cursor {cursor}: {what}, with the map {}", w.store[5], show(&map)));
     if count != (0, ones) {
         return fail(format!("free count {count:?}, the map has {ones}"));
     }
     let Some(c) = nearest(w, |c| bit(&map, c)) else {
         return if told.refusal == 10 && x.volume == w.volume { Ok(()) } else { fail(format!("no chunk is free, create {}", told.refusal)) };
     };
-    let owner = u16::from_le_bytes(link(&x.volume, x.store[0], c)[..2].try_into().unwrap()) % 128;
-    let others = (0..n).all(|d| d == c || link(&x.volume, x.store[0], d) == link(&w.volume, w.store[0], d));
-    let after = of(|d| bit(&map, d) && d != c);
-    if told.refusal != 0 || u64::from(owner) != x.appender[1] + 1 || x.appender[3] != c as u64 || !others || map_of(&x.store) != after {
+    if told.refusal != 0 || !took(w, &x, &map, c, None) {
         return fail(format!("create {}, chunk {}, the map's {c}; then {}", told.refusal, x.appender[3], show(&map_of(&x.store))));
     }
     Ok(())
 }
 
+/// The same of a file that is extended: records of h until a commit is made or refused.
+fn extended(r: &mut Rng, w: &World, fault: &str, seen: &mut u64) -> Result<(), String> {
+    let (cursor, last, (mut x, map)) = (w.store[4] as usize, w.appender[3] as usize, with_any(r, w));
+    if fault == "extends-later" {
+        put(&mut x, &of(|c| bit(&map, c) && c != cursor));
+    }
+    let mut no = 0;
+    while no == 0 && x.store[2] == w.store[2] {
+        no = ask(&mut x, Call::Append(486, 3)).refusal;
+        *seen += 1;
+    }
+    let right = match nearest(w, |c| bit(&map, c)) {
+        Some(c) => no == 0 && took(w, &x, &map, c, Some(last)),
+        None => no == 10 && x.store[..10] == w.store[..10] && map_of(&x.store) == map,
+    };
+    let what = || format!("append {no}, from chunk {last} to {}; then {}", x.appender[3], show(&map_of(&x.store)));
+    if right { Ok(()) } else { Err(format!("{} chunks, cursor {cursor}: {}, with the map {}", w.store[5], what(), show(&map))) }
+}
+
 pub fn forged(r: &mut Rng, fault: &str, seen: &mut u64) -> Result<(), String> {
     let w = made(r);
     (0..4).try_for_each(|_| refused(r, &w, fault, seen))?;
-    (0..12).try_for_each(|_| chosen(r, &w, fault, seen))
+    (0..8).try_for_each(|_| chosen(r, &w, fault, seen))?;
+    (0..4).try_for_each(|_| extended(r, &w, fault, seen))
 }
 
 /// Mount accepts, with the unfit map; the walk is used until the next mount, whose map is fit again.

@@ -2,7 +2,7 @@
 //!   map histories SEED HISTORIES [--fault NAME]   calls with stops and unreadable sectors, by the port and the Rust
 //!   map forged SEED VOLUMES [--fault NAME]        store values with other maps, by the port
 //!   map unread SEED VOLUMES [--fault NAME]        mounts with a table sector that does not read, by the port
-//! After the model that others made from 02's words. What the map must be is told by the bytes of the table.
+//! What the map must be is told by the bytes of the table.
 mod alone;
 mod histories;
 use port::make::Rng;

@@ -4,8 +4,8 @@ use Prim.Native.Nat.{ℕ}
 use lib.Dec.{eqb}
 use Rattle.le.proofs.Choices.{pick-true, pick-false}
 use Rattle.freemap.specs.Map.{firstFrom, mapOk}
-use Rattle.freemap.proofs.fits.Statement.{statement}
-use Rattle.freemap.proofs.fits.Tie as tie
+use Rattle.freemap.proofs.map_ok.Statement.{statement}
+use Rattle.freemap.proofs.map_ok.Tie as tie
 
 first-from-requires : tie.Need-first-from-requires
 first-from-requires c κs = search needs
@@ -27,5 +27,5 @@ returns-2 c =
     let e : c .first-from2 .result ≡ firstFrom (a .map .words) 0 = c .first-from2 .ensures in
     ap (λ (r : ℕ). eqb r 2048) (e ∙ ap (firstFrom (a .map .words)) (sym (pick-false (a .chunks) 0 (c .before .if1 .left))))
 
-pub fits-spec : {M : Type 1} → statement M
-fits-spec = tie.close (tie.spec first-from-requires returns first-from-requires-2 returns-2)
+pub map-ok-spec : {M : Type 1} → statement M
+map-ok-spec = tie.close (tie.spec first-from-requires returns first-from-requires-2 returns-2)

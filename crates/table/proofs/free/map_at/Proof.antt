@@ -7,8 +7,8 @@ use Rattle.walk.proofs.Laws.{At, at-start, at-next, at-stop, at-end}
 use Rattle.table.specs.Link.{linkAt}
 use Rattle.table.specs.Table.{onLink, linksOf}
 use Rattle.table.specs.Free.{mapV, mapAt}
-use Rattle.table.proofs.free.map_of.Statement.{statement}
-use Rattle.table.proofs.free.map_of.Tie as tie
+use Rattle.table.proofs.free.map_at.Statement.{statement}
+use Rattle.table.proofs.free.map_at.Tie as tie
 
 abbrev Inv-loop : tie.InvT-loop
 Inv-loop volume medium store n words₀ next₀ words next =
@@ -76,8 +76,8 @@ loop-again-3 c = at-next (c .before .before .before .before .loop .inv) (omega a
 returns-2 : tie.Need-returns-2 Inv-loop μ-loop
 returns-2 c = at-end (c .before .loop .inv) (omega arith)
 
-pub map-of-spec : {M : Type 1} → statement M
-map-of-spec =
+pub map-at-spec : {M : Type 1} → statement M
+map-at-spec =
     tie.close
     (tie.spec
     Inv-loop

@@ -8,7 +8,7 @@
  * What the archive asks of the program that links it. tests/firmware reads it
  * off the machine code, and fails where more is asked than stands here:
  *   - memcpy and memset, and nothing else: no heap, no global state, no I/O;
- *     20 KB of code and constants.
+ *     19 KB of code and constants.
  *   - x86-64 with SSE2, called as the System V ABI has it. An interrupt handler
  *     that uses xmm registers saves them.
  *   - The red zone. A call may keep data in the 128 bytes below the stack

@@ -20,8 +20,7 @@ SSE2 = re.compile(
     r"mov([au]p[sd]|dq[au]|[dq]|s[sd]|mskp[sd]|[hl]p[sd]|hlps|lhps)|(and|andn|or|xor)p[sd]|unpck[hl]p[sd]|shufp[sd]"
     r"|p(and|andn|or|xor|add[bwdq]|sub[bwdq]|cmp(eq|gt)[bwd]|movmskb|shuf(d|[hl]w)|s[lr]l([wdq]|dq)|sra[wd]|unpck[hl](bw|wd|dq|qdq)"
     r"|ack(sswb|ssdw|uswb)|(max|min)(ub|sw)|mul(lw|hw|hu?w|udq)|maddwd|avg[bw]|sadbw|insrw|extrw)")
-# later ones; not tzcnt, which is how objdump writes rep bsf: a processor without it takes that as bsf, which gives the same where some bit is set
-LATER = re.compile(r"v\w+|popcnt|lzcnt|andn|bextr|bls\w+|bzhi|mulx|pdep|pext|rorx|sarx|shlx|shrx|adcx|adox|crc32\w*|movbe|aes\w+|sha\w+")
+LATER = re.compile(r"v\w+|popcnt|[lt]zcnt|andn|bextr|bls\w+|bzhi|mulx|pdep|pext|rorx|sarx|shlx|shrx|adcx|adox|crc32\w*|movbe|aes\w+|sha\w+")
 
 
 def said(*command):

@@ -1,11 +1,11 @@
 -- The first set bit from a place on: what it is, how it is found word by word, and the one that is chosen going round. Assumes nothing.
 use mathlib.Core.Path.{_≡_, refl, sym, ap, _∙_, subst}
-use mathlib.Core.Bool.{Bool, true, false, true≢false}
+use mathlib.Core.Bool.{Bool, true, false, true≢false, _&&_}
 use mathlib.Core.List.{List}
 use Prim.Native.Nat.{ℕ, zero, suc, _+_, _-_, _*_, _/_, _%_, _^_, _≤_, _<_, zero-le}
 use native.Mathlib.Nat.{add-zero, zero-add, not-le-of-lt}
 use native.Mathlib.Omega.{arith}
-use borrow.Author.Tests.{ltb-true, ltb-false, lt-ltb, le-ltb, eqb-true, eqb-false}
+use borrow.Author.Tests.{ltb-true, ltb-false, lt-ltb, le-ltb, eqb-true, eqb-false, ne-eqb}
 use lib.Count.{trailingZeros}
 use lib.Dec.{eqb, ltb}
 use lib.ListN.{getD}
@@ -69,13 +69,17 @@ module _ (ws : List ℕ) where
     from-zero z =
         sym (from-skip c (64 * (c / 64 + 1)) (omega arith) (omega arith) (λ d lo hi. not-set d lo hi (ap (λ (w : ℕ). digit w (d - c)) z ∙ digit-zero (d - c))))
 
-    -- or its lowest set digit is the first
-    pub from-set : getD ws (c / 64) 0 < 2 ^ 64 → 0 < x → c + trailingZeros 64 x ≡ firstFrom ws c
-    from-set fits pos =
+    -- or its lowest set digit, which is one of the word, is the first
+    short-of : getD ws (c / 64) 0 < 2 ^ 64 → 0 < x → trailingZeros 64 x < 64 - c % 64
+    short-of fits pos =
         let width : 64 ≡ 64 - c % 64 + c % 64 = omega arith in
         let small : x < 2 ^ (64 - c % 64)
         = subst (λ (y : ℕ). y < 2 ^ (64 - c % 64)) (sym is) (shr-lt (64 - c % 64) (c % 64) (subst (λ (e : ℕ). getD ws (c / 64) 0 < 2 ^ e) width fits)) in
-        let short : trailingZeros 64 x < 64 - c % 64 = trailing-short (64 - c % 64) 64 x (omega arith) pos small in
+        trailing-short (64 - c % 64) 64 x (omega arith) pos small
+
+    pub from-set : getD ws (c / 64) 0 < 2 ^ 64 → 0 < x → c + trailingZeros 64 x ≡ firstFrom ws c
+    from-set fits pos =
+        let short : trailingZeros 64 x < 64 - c % 64 = short-of fits pos in
         let one : digit x (trailingZeros 64 x) ≡ 1 = trailing-set 64 x (omega (arith, short)) in
         let set : marks ws (c + trailingZeros 64 x) ≡ true
         = shifted c (trailingZeros 64 x) (omega (arith, short))
@@ -84,6 +88,17 @@ module _ (ws : List ℕ) where
         sym
         (from-skip c (c + trailingZeros 64 x) (omega arith) (omega (arith, within))
         (λ d lo hi. not-set d lo (omega (arith, short, hi)) (trailing-below 64 x (d - c) (omega (arith, lo, hi)))) ∙ from-here (c + trailingZeros 64 x) within set)
+
+    -- none is set from c on where none is in the rest of its word and none after it
+    pub from-word : getD ws (c / 64) 0 < 2 ^ 64 → eqb (firstFrom ws c) 2048 ≡ (eqb x 0 && eqb (firstFrom ws (64 * (c / 64 + 1))) 2048)
+    from-word fits = go (eqb x 0) refl
+      where
+        go : (t : Bool) → eqb x 0 ≡ t → eqb (firstFrom ws c) 2048 ≡ (t && eqb (firstFrom ws (64 * (c / 64 + 1))) 2048)
+        go true e = ap (λ (r : ℕ). eqb r 2048) (sym (from-zero (eqb-true x 0 e)))
+        go false e =
+            let n = eqb-false x 0 e in
+            let pos : 0 < x = omega (arith, n) in
+            ne-eqb (firstFrom ws c) 2048 (λ (q : firstFrom ws c ≡ 2048). omega (arith, q, from-set fits pos, short-of fits pos, inside))
 
   -- a whole word is its word shifted by 0
   pub whole : (j : ℕ) → getD ws j 0 ≡ getD ws (64 * j / 64) 0 / 2 ^ (64 * j % 64)

@@ -1,6 +1,8 @@
 // The map of free chunks (S-3): the search of its words by trailing zeros, the sum of their ones, and a bit put.
 ghost use mathlib.Core.Path.{_≡_};
-ghost use Prim.Native.Nat.{_*_, _<_};
+ghost use Prim.Native.Nat.{_*_, _<_, _≤_};
+ghost use lib.Dec.{eqb};
+ghost use lib.ListN.{length};
 ghost use Rattle.freemap.specs.Map.{unfitOf, fullOf, putOf, firstFrom, chosenOf, onesOf, mapOk};
 
 // A set bit for each free chunk. Where it is unfit no bit is set, and the table is walked instead.
@@ -96,13 +98,40 @@ pub fn full(chunks: u32) -> FreeMap
     FreeMap { fit: true, words }
 }
 
+// Whether no bit of the words from `from` on is set. Each is looked at, so that the compiler tests several at once.
+fn none_after(words: &[u64], from: usize) -> bool
+    requires { ⌜ (length (now words) ≡ 32) × (from ≤ 32) ⌝ }
+    ensures { λ r. ⌜ r ≡ eqb (firstFrom (now (words .entry)) (64 * from)) 2048 ⌝ }
+{
+    let mut none = true;
+    for j in from..32 {
+        none = none & (words[j] == 0);
+    }
+    none
+}
+
+// Whether no bit at or after `from` is set. The words are lent: every call tests its map, and a copy would cost it more than the test.
+fn none_from(words: &[u64], from: u32) -> bool
+    requires { ⌜ length (now words) ≡ 32 ⌝ }
+    ensures { λ r. ⌜ r ≡ eqb (firstFrom (now (words .entry)) from) 2048 ⌝ }
+{
+    if 2048 <= from {
+        return true;
+    }
+    let j = (from / 64) as usize;
+    let w = words[j] >> (from % 64);
+    if w != 0 {
+        return false;
+    }
+    none_after(words, j + 1)
+}
+
 // Whether no bit is set at or past the chunks, and none in an unfit map.
 pub fn map_ok(map: FreeMap, chunks: u32) -> bool
     ensures { λ r. ⌜ r ≡ mapOk map chunks ⌝ }
 {
-    let words = map.words;
     if map.fit {
-        return first_from(words, chunks) == 2048;
+        return none_from(&map.words[..], chunks);
     }
-    first_from(words, 0) == 2048
+    none_from(&map.words[..], 0)
 }

@@ -7,25 +7,23 @@ use Rattle.freemap.specs.Map.{firstFrom, mapOk}
 use Rattle.freemap.proofs.map_ok.Statement.{statement}
 use Rattle.freemap.proofs.map_ok.Tie as tie
 
-first-from-requires : tie.Need-first-from-requires
-first-from-requires c κs = search needs
+none-from-requires : tie.Need-none-from-requires
+none-from-requires c κs = search needs
 
 returns : tie.Need-returns
 unfolding mapOk
 returns c =
-    let a = c .before .before .before .args in
-    let e : c .first-from .result ≡ firstFrom (a .map .words) (a .chunks) = c .first-from .ensures in
-    ap (λ (r : ℕ). eqb r 2048) (e ∙ ap (firstFrom (a .map .words)) (sym (pick-true (a .chunks) 0 (c .before .if1 .taken))))
+    let a = c .before .before .before .before .before .args in
+    c .none-from .ensures ∙ ap (λ (n : ℕ). eqb (firstFrom (a .t1 .words) n) 2048) (sym (pick-true (a .chunks) 0 (c .before .before .before .before .if1 .taken)))
 
-first-from-requires-2 : tie.Need-first-from-requires-2
-first-from-requires-2 c κs = search needs
+none-from-requires-2 : tie.Need-none-from-requires-2
+none-from-requires-2 c κs = search needs
 
 returns-2 : tie.Need-returns-2
 unfolding mapOk
 returns-2 c =
-    let a = c .before .before .before .args in
-    let e : c .first-from2 .result ≡ firstFrom (a .map .words) 0 = c .first-from2 .ensures in
-    ap (λ (r : ℕ). eqb r 2048) (e ∙ ap (firstFrom (a .map .words)) (sym (pick-false (a .chunks) 0 (c .before .if1 .left))))
+    let a = c .before .before .before .before .before .args in
+    c .none-from2 .ensures ∙ ap (λ (n : ℕ). eqb (firstFrom (a .t1 .words) n) 2048) (sym (pick-false (a .chunks) 0 (c .before .before .before .before .if1 .left)))
 
 pub map-ok-spec : {M : Type 1} → statement M
-map-ok-spec = tie.close (tie.spec first-from-requires returns first-from-requires-2 returns-2)
+map-ok-spec = tie.close (tie.spec none-from-requires returns none-from-requires-2 returns-2)

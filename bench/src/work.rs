@@ -74,6 +74,13 @@ fn holes<S: Side>(s: &mut S, times: u32) {
     }
 }
 
+fn create_and_delete<S: Side>(s: &mut S) {
+    for n in 100..200 {
+        s.create(&file(n), None);
+        s.delete(&file(n));
+    }
+}
+
 fn read_all<S: Side>(s: &mut S, records: u32) {
     s.reader("log");
     let mut n = 0;
@@ -108,12 +115,7 @@ pub fn table<S: Side>() -> Vec<Work<S>> {
         work("find the last of 64 files", 128, SIZE, 100, |s: &mut S| filled(s, SIZE, 64), |s: &mut S| {
             (0..100).for_each(|_| assert_eq!(s.find("d/0063"), 63));
         }),
-        work("create and delete", 128, SIZE, 100, |s: &mut S| filled(s, SIZE, 32), |s: &mut S| {
-            for n in 100..200 {
-                s.create(&file(n), None);
-                s.delete(&file(n));
-            }
-        }),
+        work("create and delete", 128, SIZE, 100, |s: &mut S| filled(s, SIZE, 32), create_and_delete),
         work("append a record a call", 128, SIZE, 1024, |s: &mut S| written(s, 0), move |s: &mut S| {
             (0..1024).for_each(|_| s.append(&one));
         }),
@@ -159,13 +161,14 @@ pub fn table<S: Side>() -> Vec<Work<S>> {
     ]
 }
 
-/// The same four at three sizes of the volume, 16, 128 and 2,048 chunks.
+/// The same five at three sizes of the volume, 16, 128 and 2,048 chunks.
 pub fn sizes<S: Side>() -> Vec<Work<S>> {
-    const NAMES: [[&str; 3]; 4] = [
+    const NAMES: [[&str; 3]; 5] = [
         ["mount, 16 chunks", "mount, 128 chunks", "mount, 2048 chunks"],
         ["list of 8 files, 16 chunks", "list of 8 files, 128 chunks", "list of 8 files, 2048 chunks"],
         ["append a record, 16 chunks", "append a record, 128 chunks", "append a record, 2048 chunks"],
         ["read a record, 16 chunks", "read a record, 128 chunks", "read a record, 2048 chunks"],
+        ["create and delete, 16 chunks", "create and delete, 128 chunks", "create and delete, 2048 chunks"],
     ];
     let mut all = vec![];
     for (i, chunks) in [16, 128, 2048].into_iter().enumerate() {
@@ -176,6 +179,7 @@ pub fn sizes<S: Side>() -> Vec<Work<S>> {
         }));
         all.push(work(NAMES[2][i], chunks, SIZE, 512, |s: &mut S| written(s, 0), move |s: &mut S| (0..512).for_each(|_| s.append(&record))));
         all.push(work(NAMES[3][i], chunks, SIZE, 512, |s: &mut S| written(s, 512), |s: &mut S| read_all(s, 512)));
+        all.push(work(NAMES[4][i], chunks, SIZE, 100, |s: &mut S| filled(s, SIZE, 8), create_and_delete));
     }
     all.sort_by_key(|w| NAMES.iter().position(|n| n.contains(&w.name)));
     all

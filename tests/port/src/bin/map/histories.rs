@@ -1,5 +1,5 @@
 //! Random calls with stops and unreadable sectors, put to the port and the Rust. `Play` compares all that crosses and holds the map to the table; here
-//! the free count after each call, and creates at other cursors, by older store values and by forged appenders.
+//! the free count after each call, and creates at other cursors, by older store values, by forged appenders and after another writer.
 use crate::{CHUNKS, MANY, any_cursor};
 use port::make::Rng;
 use port::map::Wrong;
@@ -24,6 +24,7 @@ struct Seen {
     high: u64,
     cursors: u64,
     old: u64,
+    writers: u64,
 }
 
 struct History<'a> {
@@ -87,6 +88,27 @@ impl History<'_> {
         self.create("zz")
     }
 
+    /// Another writer changes a byte of the table, in half of the cases with its checksum listed; then, on that volume alone, a mount or none, and calls.
+    fn another_writer(&mut self) -> Result<(), String> {
+        let Some(s) = self.play.session.st.store else { return Ok(()) };
+        let (t, at, byte) = (self.r.below(u64::from(s.chunks().div_ceil(128))), self.r.below(512), self.r.below(256));
+        self.seen.writers += 1;
+        self.say("save now")?;
+        self.say(&format!("poke {} {at} {byte:02x}", 32 * s.x_copy() + 9 + t))?;
+        if self.r.one_in(2) {
+            self.say(&format!("bodycrc {} {}", s.x_copy(), 8 + t))?;
+        }
+        if self.r.one_in(2) {
+            self.say("mount")?;
+        }
+        self.say("free_count")?;
+        self.create("zz")?;
+        for line in ["delete_oldest \"\"", "free_count", "load now"] {
+            self.say(line)?;
+        }
+        Ok(())
+    }
+
     fn all(&mut self, calls: u64) -> Result<(), String> {
         self.say(&format!("format {} 1", self.size))?;
         self.at_a_cursor()?;
@@ -112,6 +134,7 @@ impl History<'_> {
                     let forged = if self.r.one_in(4) { format!("slot {slot}") } else { format!("chunk {chunk}") };
                     self.say(&format!("set appender {forged}"))?;
                 }
+                4 => self.another_writer()?,
                 _ => {}
             }
         }
@@ -138,11 +161,11 @@ pub fn run(r: &mut Rng, many: u64, fault: &str) -> Result<String, String> {
         let mut h = History { r, play, seen: &mut seen, size, names };
         h.all(if big { 24 } else { 60 }).map_err(|why| format!("history {k}, {chunks} chunks: {why}"))?;
     }
-    let (m, Seen { stopped, high, cursors, old }) = (&tally.maps, seen);
-    let kinds = [m.fit_mounts, m.unfit_mounts, m.unfit_creates, m.moved, m.refused, stopped, high, cursors, old];
+    let (m, Seen { stopped, high, cursors, old, writers }) = (&tally.maps, seen);
+    let kinds = [m.fit_mounts, m.unfit_mounts, m.unfit_creates, m.moved, m.refused, stopped, high, cursors, old, writers];
     if kinds.contains(&0) {
         return Err(format!("not every kind of call was met: {kinds:?}"));
     }
-    let seen = format!("{stopped} stopped, {high} creates at a word's end, {cursors} other cursors, {old} older store values");
+    let seen = format!("{stopped} stopped, {high} creates at a word's end, {cursors} other cursors, {old} older store values, {writers} other writers");
     Ok(format!("{many} histories, {} calls, {}; {seen}; 0 differences", tally.calls(), m.show()))
 }

@@ -1,5 +1,5 @@
 pub mod Turns
 pub mod Rest
 pub mod Places
-pub mod Items
-pub mod Rows
+pub mod Reading
+pub mod Upto

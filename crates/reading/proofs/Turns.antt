@@ -2,15 +2,14 @@
 use mathlib.Core.Path.{◌≡◌, refl, ap, sym}
 use mathlib.Core.Bool.{true}
 use mathlib.Core.List.{List}
-use Prim.Native.Nat.{ℕ, ◌+◌, ◌-◌, ◌%◌, ◌≤◌, ◌<◌}
+use Prim.Native.Nat.{ℕ, ◌+◌, ◌≤◌, ◌<◌}
 use native.Mathlib.Nat.{le_refl}
 use native.Mathlib.Omega.{arith}
 use borrow.Author.Tests.{eq-eqb}
 use Rattle.le.specs.Choice.{pick}
 use Rattle.le.specs.Part.{over}
-use Rattle.le.specs.Tally.{tally}
 use Rattle.walk.specs.Walk.{visits}
-use Rattle.walk.proofs.Laws.{rest_stop, walk_keeps}
+use Rattle.walk.proofs.Laws.{walk_keeps}
 use Rattle.medium.specs.declared.Medium.{Medium}
 use Rattle.medium.specs.declared.Outcome.TheVariants.{Done}
 use Rattle.medium.specs.Refusal.{on_done}
@@ -18,7 +17,7 @@ use Rattle.medium.specs.Sector.{sectors_of, sector_at}
 use Rattle.handles.specs.declared.Store.{Store}
 use Rattle.handles.specs.Handles.{store_ok}
 use Rattle.record.specs.declared.Judged.TheVariants as judged
-use Rattle.record.specs.Record.{is_blank, on_judged, payload_of, data_at}
+use Rattle.record.specs.Record.{on_judged, payload_of, data_at}
 use Rattle.reader.specs.declared.End.{End}
 use Rattle.reader.specs.declared.End.TheVariants.{Last}
 use Rattle.reader.specs.declared.Reader.{Reader}
@@ -27,7 +26,6 @@ use Rattle.reader.specs.declared.Searched.TheVariants as searched
 use Rattle.reader.specs.declared.Found.TheVariants as found
 use Rattle.reader.specs.Reader.{moved_to}
 use Rattle.reader.specs.Next.{is_last, limit_of, arrive_of, record_here, search_step, search_of, tells, hole_of, take_of, next_of}
-use Rattle.reader.specs.Blank.{blank_at, blanks_of}
 use Rattle.reader.specs.Calls.{usable_of}
 use Rattle.reader.proofs.Facts.{Reads, reader_ok_lem}
 use Rattle.reader.proofs.Finds.{hole_end}
@@ -75,16 +73,3 @@ module _ (vol : List ℕ) (m : Medium) (st : Store) (rd : Reader) where
       let ends : size ≡ limit_of rd.end size = sym (ap (λ (x : End). limit_of x size) e) in
       let last : true ≡ is_last rd.end = sym (ap is_last e) in
       sym (hole_end vol m st rd ends refl q last (eq-eqb size size refl))
-
-  -- the first record from `after` on is valid
-  pub search_first : (after limit : ℕ) {n : ℕ} → after < limit → record_here vol m st rd after ≡ judged.Valid n → search_of vol m st rd after limit ≡ searched.At after
-  unfolding search_of visits on_judged
-  search_first after limit h e = rest_stop (λ k t. search_step k t (record_here vol m st rd k)) (λ s. searched.At limit) limit after tt (searched.At after) h (rw e)
-
--- a hole of one record has one blank sector, or none
-pub blanks_one : (vol : List ℕ) (st : Store) (rd : Reader) (n : ℕ) → blanks_of vol st rd n (n + 1) ≡ pick (is_blank (sector_at vol (data_at st rd.chunk (n % st.head.chunk)))) 1 0
-unfolding blanks_of blank_at tally
-blanks_one vol st rd n =
-    let a : n + 1 - n ≡ 1 = omega arith in
-    let b : n + 0 ≡ n = omega arith in
-    rw (a, b)

@@ -2,4 +2,3 @@ pub mod Gives
 pub mod GivesTo
 pub mod GivesUpto
 pub mod Below
-pub mod ReadsAs

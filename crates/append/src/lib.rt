@@ -1,4 +1,6 @@
 // The appender: bytes gathered to records, and a chunk more where the last one is full. What the Rust has as `Appender`.
+#![tactic(auto)]
+
 mod chunks;
 mod elsewhere;
 mod gather;

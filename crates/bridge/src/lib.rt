@@ -8,6 +8,8 @@
 //     words. The 24 checksums of its header cross beside it.
 //   reader: store id, generation, slot, id, chunks, chunk, end (0 the file's last chunk, else
 //     known), the records there, position, index.
+#![tactic(auto)]
+
 pub mod numbers;
 
 ghost use Rattle.std.specs.Prelude.{◌≡◌};

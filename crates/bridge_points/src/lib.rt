@@ -1,6 +1,8 @@
 // The calls of S-1 for a program in another language: a point set, a file read up to a point, and the reader up to it.
 // What crosses is as in the crates bridge and bridge_write; a reader up to a record number is a reader's row, with the
 // number in a row of its own.
+#![tactic(auto)]
+
 mod uptos;
 
 ghost use Rattle.std.specs.Prelude.{◌≡◌};

@@ -1,6 +1,8 @@
 // The calls that write, for a program in another language. What crosses is as in the crate bridge, and
 //   appender: token, slot, id, chunk, position, tail (0 at, 1 reopened, else closed), its count, fill, rolls
 //     over (0 no, else yes), length of the directory. Its 486 bytes and the 40 of the directory cross beside it.
+#![tactic(auto)]
+
 pub mod appenders;
 mod opening;
 

@@ -1,4 +1,6 @@
 // The metadata written anew into the other copy: the Rust's `Store::commit`, whose closure is a named edit here.
+#![tactic(auto)]
+
 ghost use Rattle.std.specs.Prelude.{◌≡◌, true, false, ◌&&◌, ◌+◌, ◌^◌, ◌<◌, ◌≤◌, eqb, length};
 ghost use Rattle.runs.specs.Run.{same_bytes};
 ghost use Rattle.checksum.specs.Crc.{crc32_of};

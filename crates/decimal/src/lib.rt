@@ -1,4 +1,6 @@
 // Decimal numbers as bytes, read and written, and where a field that is parted by tabs ends.
+#![tactic(auto)]
+
 ghost use Rattle.std.specs.Prelude.{◌≡◌, ◌∷◌, ◌+◌, ◌≤◌, ◌<◌, length, drop};
 ghost use Rattle.decimal.specs.Fields.{field_len};
 ghost use Rattle.decimal.specs.Decimal.{is_digit, decimal_of, leading_zero, plain_of, decimal_text, Put};

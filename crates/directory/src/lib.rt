@@ -1,4 +1,6 @@
 // The directory: entries, and the walks over its 64 slots.
+#![tactic(auto)]
+
 ghost use Rattle.std.specs.Prelude.{◌≡◌, ◌+◌, ◌*◌, ◌<◌, ◌≤◌, length};
 ghost use Rattle.le.specs.Part.{part, over};
 ghost use Rattle.runs.specs.Run.{same_bytes};

@@ -1,4 +1,6 @@
 // Create: a new file, and its appender. What the Rust has as `Store::create`.
+#![tactic(auto)]
+
 ghost use Rattle.std.specs.Prelude.{◌≡◌, ◌<◌, ◌≤◌, true, false, [], length};
 ghost use Rattle.medium.specs.declared.Outcome.TheVariants.{Done};
 ghost use Rattle.medium.specs.Sector.{sectors_of};

@@ -1,5 +1,7 @@
 // The calls of C firmware (include/store.h): numbers and byte slices, no handle between calls. A slice crosses as a pointer and a length.
 // Each call tests its arguments, mounts unless it is format, and returns the number of a refusal, or 256 and the answer.
+#![tactic(auto)]
+
 ghost use Rattle.std.specs.Prelude.{◌≡◌, ◌≤◌};
 ghost use Rattle.medium.specs.declared.Outcome.TheVariants.{Done};
 ghost use Rattle.medium.specs.Refusal.{outcome_of};

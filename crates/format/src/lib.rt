@@ -1,4 +1,6 @@
 // A store made anew: 01's `format`, which is the Rust's `format_chunks`.
+#![tactic(auto)]
+
 ghost use Rattle.std.specs.Prelude.{◌≡◌, [], ◌+◌, ◌^◌, ◌<◌, ◌≤◌};
 ghost use Rattle.medium.specs.Sector.{sectors_of};
 ghost use Rattle.handles.specs.Handles.{body_of, no_store};

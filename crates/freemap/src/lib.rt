@@ -1,4 +1,6 @@
 // The map of free chunks (S-3): the search of its words by trailing zeros, the sum of their ones, and a bit put.
+#![tactic(auto)]
+
 ghost use Rattle.std.specs.Prelude.{◌≡◌, ◌*◌, ◌<◌, ◌≤◌, eqb, length};
 ghost use Rattle.freemap.specs.Map.{unfit_of, full_of, put_of, first_from, chosen_of, ones_of, map_ok};
 

@@ -1,4 +1,6 @@
 // The store value that a caller holds between calls, the tests of 01's refusal 3 on it, and the check of a body sector.
+#![tactic(auto)]
+
 ghost use Rattle.std.specs.Prelude.{◌≡◌, ◌+◌, ◌*◌, ◌<◌, ◌≤◌};
 ghost use Rattle.medium.specs.Sector.{sectors_of};
 ghost use Rattle.handles.specs.Handles.{blank_of, no_store, table_of, body_of, base_of, sane_of, store_ok, is_open, open_id};

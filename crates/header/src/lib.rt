@@ -1,4 +1,6 @@
 // The two header copies of a volume: read, the current one taken, and written in place.
+#![tactic(auto)]
+
 mod answers;
 mod codec;
 

@@ -1,4 +1,6 @@
 // The line program: lines in, lines out, over a zeroed volume of 128 sectors.
+#![tactic(auto)]
+
 mod input;
 mod text;
 

@@ -1,4 +1,6 @@
 // S-1: the line of a point in the file `MARKS`, written and read.
+#![tactic(auto)]
+
 ghost use Rattle.std.specs.Prelude.{◌≡◌, ◌≤◌, length};
 ghost use Rattle.decimal.specs.Fields.{fields};
 ghost use Rattle.decimal.specs.Decimal.{Put};

@@ -1,4 +1,6 @@
 // The lent volume and the medium record beside it: what stands here for the Rust's `device_api::bulk`.
+#![tactic(auto)]
+
 ghost use Rattle.std.specs.Prelude.{◌≡◌, ◌+◌, ◌*◌, ◌<◌, ◌≤◌, length};
 ghost use Rattle.le.specs.Choice.{pick};
 ghost use Rattle.le.specs.Part.{zeros};

@@ -1,4 +1,6 @@
 // Names of files and of directories: what the Rust has as `Name`, `Dir`, `path` and `is_in`.
+#![tactic(auto)]
+
 ghost use Rattle.std.specs.Prelude.{◌≡◌, ◌≤◌, length};
 ghost use Rattle.names.specs.Names.{plain_byte, name_ok, dir_ok, in_dir, text_len, point_ok, dotted};
 

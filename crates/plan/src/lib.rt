@@ -1,4 +1,6 @@
 // What a commit is to do: the edits, which the Rust passes as closures, and the answers of writing a copy anew.
+#![tactic(auto)]
+
 mod map;
 
 ghost use Rattle.std.specs.Prelude.{◌≡◌, ◌≤◌, ◌<◌, ◌+◌, ◌*◌, ◌%◌, ◌^◌, length};

@@ -1,4 +1,6 @@
 // Points in a hatch (02, S-1): a point is set in the file `MARKS`, and a file is read up to a point.
+#![tactic(auto)]
+
 mod marking;
 mod scan;
 

@@ -1,4 +1,6 @@
 // A reader of one file's records: what the Rust has as `Reader`. It goes in by value and comes back advanced.
+#![tactic(auto)]
+
 mod blank;
 mod ends;
 mod enter;

@@ -1,4 +1,6 @@
 // Data sectors: a record made in its sector and written there, and a sector judged.
+#![tactic(auto)]
+
 ghost use Rattle.std.specs.Prelude.{◌≡◌, ◌≤◌, ◌<◌, length};
 ghost use Rattle.medium.specs.Sector.{sectors_of, sector_at};
 ghost use Rattle.record.specs.Record.{record_of, matches_of, is_blank, verdict_of, heard_of, data_at, number_at, read_record_of, write_record_of};

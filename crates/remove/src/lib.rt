@@ -1,4 +1,6 @@
 // A file removed: by its slot, or as the oldest of a directory. What the Rust has as `Store::remove` and `remove_oldest`.
+#![tactic(auto)]
+
 ghost use Rattle.std.specs.Prelude.{◌≡◌, true, false, ◌<◌};
 ghost use Rattle.le.specs.Part.{part};
 ghost use Rattle.medium.specs.Sector.{sectors_of};

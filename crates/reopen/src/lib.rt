@@ -1,4 +1,6 @@
 // A file opened to append: what the Rust has as `open_append`. It only reads.
+#![tactic(auto)]
+
 ghost use Rattle.std.specs.Prelude.{◌≡◌, true, ◌≤◌, ◌<◌};
 ghost use Rattle.medium.specs.Sector.{sectors_of};
 ghost use Rattle.handles.specs.Handles.{store_ok};

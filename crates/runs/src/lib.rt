@@ -1,4 +1,6 @@
 // Runs of bytes: copied, set to zero and compared, at any place of a slice.
+#![tactic(auto)]
+
 ghost use Rattle.std.specs.Prelude.{◌≡◌, ◌+◌, ◌≤◌, length, drop};
 ghost use Rattle.le.specs.Part.{over, zeros};
 ghost use Rattle.runs.specs.Run.{starts_with, same_bytes, all_same, all_zero};

@@ -1,1 +1,2 @@
 // A crate of laws: what a copy written anew leaves on the volume, wherever the writes stop.
+#![tactic(auto)]

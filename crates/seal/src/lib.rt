@@ -1,4 +1,6 @@
 // A sector of 512 bytes whose last four are the checksum of those before them, as the header and the records have it.
+#![tactic(auto)]
+
 ghost use Rattle.std.specs.Prelude.{◌≡◌, length};
 ghost use Rattle.seal.specs.Seal.{sealed, is_sealed};
 

@@ -1,4 +1,6 @@
 // The line program between its input and its output: what it holds from line to line, what a line does to that and to the volume, and its answer.
+#![tactic(auto)]
+
 ghost use Rattle.std.specs.Prelude.{◌≡◌};
 ghost use Rattle.words.specs.Words.{no_rollover, rollover, list};
 ghost use Rattle.medium.specs.Refusal.{on_ok, outcome_of};

@@ -1,4 +1,6 @@
 // The calls on offer. Each takes any bytes, names and handles: bad input gets its number.
+#![tactic(auto)]
+
 mod opening;
 
 ghost use Rattle.std.specs.Prelude.{◌≡◌, [], ◌≤◌, length};

@@ -1,4 +1,6 @@
 // The links of the chunk table, and the walks over it: a file's chain, the chunk of a position, and the chunks of each slot; `free` has the free chunk's.
+#![tactic(auto)]
+
 mod free;
 
 ghost use Rattle.std.specs.Prelude.{◌≡◌, ℕ, ◌+◌, ◌*◌, ◌%◌, ◌<◌, ◌≤◌, length, get_or};

@@ -1,4 +1,6 @@
 // One line of the line program, read: its word, its numbers, and where its other parts lie.
+#![tactic(auto)]
+
 ghost use Rattle.std.specs.Prelude.{◌≡◌, ◌+◌, ◌-◌, ◌≤◌, ◌<◌, length, take, drop};
 ghost use Rattle.words.specs.Words.{alone_of, with_one_of, format_of, with_two_of, line_of, meaning, within};
 

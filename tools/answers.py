@@ -126,6 +126,10 @@ def turn(folder, crate, fn, entry):
             fields.setdefault(norm(old), new)
     places = {norm(p[0]): n for p, n in zip(entry["places"], entry["places_by_name"])}
     callee = {p[2][1]: SIGS[p[3]] for p in entry["places"] if p[3] in SIGS}
+    for arm in entry["arms"]:
+        for field, step, path in (arm[2] if arm else []):
+            if step != "match" and path:
+                callee.setdefault(("arm", norm(step), tuple(path)), [arm[0], field])
     own = SIGS.get(crate + "::" + fn.replace(".", "::"))
     if own is None:
         print(f"left: {folder}: no signature")
@@ -257,6 +261,10 @@ def flat(text, fields, callee, own, args=("c",)):
         path = [p for p in path if p != "before"]
         if path:
             k = norm(path[0])
+            for n in range(len(path), 1, -1):
+                if ("arm", k, tuple(path[1:n])) in callee:
+                    path = callee[("arm", k, tuple(path[1:n]))] + path[n:]
+                    return ".".join(["c"] + path)
             if k in fields:
                 path[0] = fields[k]
             elif k == "well_formed":
@@ -289,7 +297,7 @@ def answer(new, d, fields, callee, own):
     text = flat(text, fields, callee, own)
     asked = own[2] if re.match(r"returns", new) else []
     for step, sig in callee.items():
-        if new == step + "-requires" or re.match(re.escape(step.split("-")[0]) + r"-.*requires", new):
+        if isinstance(step, str) and (new == step + "-requires" or re.match(re.escape(step.split("-")[0]) + r"-.*requires", new)):
             asked = asked or sig[1]
     if len(asked) > 1:
         text = recorded(text, asked)

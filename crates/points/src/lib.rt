@@ -21,7 +21,7 @@ use scan::{end_of, look};
 use store::ReaderAnswer;
 
 // What setting hands back. `opened`: `MARKS` was opened, and `appender` is its own; an appender from before is stale. Else the caller keeps its own.
-#[derive(Drop)]
+#[derive(Clone, Copy)]
 pub struct Marked {
     pub outcome: Outcome,
     pub number: u32,
@@ -31,7 +31,7 @@ pub struct Marked {
     pub appender: Appender,
 }
 
-#[derive(Drop)]
+#[derive(Clone, Copy)]
 pub struct UptoAnswer {
     pub outcome: Outcome,
     pub upto: Upto,
@@ -39,7 +39,7 @@ pub struct UptoAnswer {
 }
 
 // What one turn of a walk over a file met.
-#[derive(Drop)]
+#[derive(Clone, Copy)]
 pub enum Sight {
     Refused(Error),
     Passed,
@@ -47,27 +47,27 @@ pub enum Sight {
     End,
 }
 
-#[derive(Drop)]
+#[derive(Clone, Copy)]
 pub struct Turn {
     pub sight: Sight,
     pub reader: Reader,
 }
 
 // Where a walk came to: what the record there says, or nothing at the file's end.
-#[derive(Drop)]
+#[derive(Clone, Copy)]
 pub struct Seen {
     pub mark: Mark,
     pub reader: Reader,
 }
 
-#[derive(Drop)]
+#[derive(Clone, Copy)]
 pub enum Walked {
     Refused(Error),
     To(Seen),
 }
 
 // What `MARKS` says of a point.
-#[derive(Drop)]
+#[derive(Clone, Copy)]
 pub enum Place {
     Refused(Error),
     Absent,
@@ -76,7 +76,7 @@ pub enum Place {
 }
 
 // Where a file ends.
-#[derive(Drop)]
+#[derive(Clone, Copy)]
 pub enum Ended {
     Refused(Error),
     At { id: u32, number: u32 },

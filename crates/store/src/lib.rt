@@ -35,7 +35,7 @@ fn asked(volume: &[u8], store: Store, fine: bool) -> Outcome
     Outcome::Done
 }
 
-#[derive(Drop)]
+#[derive(Clone, Copy)]
 pub struct StoreAnswer {
     pub outcome: Outcome,
     pub store: Store,
@@ -94,7 +94,7 @@ pub fn mount(volume: &[u8], medium: Medium) -> StoreAnswer
     }
 }
 
-#[derive(Drop)]
+#[derive(Clone, Copy)]
 pub struct FreeCountAnswer {
     pub count: FreeCount,
     pub medium: Medium,
@@ -123,7 +123,7 @@ pub fn format(volume: &mut [u8], medium: Medium, size: u32, seed: u64) -> StoreA
     committed(format::format(volume, medium, size, seed))
 }
 
-#[derive(Drop)]
+#[derive(Clone, Copy)]
 pub struct FindAnswer {
     pub found: Found,
     pub medium: Medium,
@@ -144,7 +144,7 @@ pub fn find(volume: &[u8], medium: Medium, store: Store, name: &[u8]) -> FindAns
     FindAnswer { found, medium }
 }
 
-#[derive(Drop)]
+#[derive(Clone, Copy)]
 pub struct ListAnswer {
     pub outcome: Outcome,
     pub count: usize,
@@ -205,7 +205,7 @@ pub fn list(
     }
 }
 
-#[derive(Drop)]
+#[derive(Clone, Copy)]
 pub struct ReaderAnswer {
     pub outcome: Outcome,
     pub reader: Reader,

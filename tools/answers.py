@@ -1,7 +1,7 @@
 #!/usr/bin/env python3
 """Turns the old walks of proofs/F/Proof.antt into proofs/F/Answers.antt and Invariants.antt.
 
-usage: answers.py CRATE NAMES      (CRATE: a crate's folder; NAMES: the names.json of `rt check --generated DIR --old-names` there)
+usage: answers.py CRATE NAMES [F..]      (F: a function, of which every answer stays; CRATE: a crate's folder; NAMES: the names.json of `rt check --generated DIR --old-names` there)
 
 An answer that only searches goes, since the check searches by itself. Of every other one the goal and the steps that it cites get today's
 names, and the way back over `before` goes, since a step is a field of c itself. What it cannot turn is written as it stands; the check tells.
@@ -94,8 +94,10 @@ def signatures(crates):
     return found
 
 
-def main(crate, names):
-    global SIGS
+def main(crate, names, keep=()):
+    """Turns all, but with keep only these functions, and of them every answer."""
+    global SIGS, KEEP
+    KEEP = keep
     SIGS = signatures(os.path.join(crate, ".."))
     with open(names, encoding="utf-8") as f:
         table = json.load(f)
@@ -105,6 +107,8 @@ def main(crate, names):
         if "Proof.antt" not in files:
             continue
         fn = os.path.relpath(folder, os.path.join(crate, "proofs")).replace(os.sep, ".")
+        if keep and fn not in keep:
+            continue
         key = f"Rattle-{name}-proofs.{fn}.Lts"
         if key not in table:
             print(f"left: {folder}: no {key}")
@@ -148,7 +152,7 @@ def turn(folder, crate, fn, entry):
             if rhs == "search rules" and not any(l.startswith("unfolding") for l in d["lines"]):
                 continue
             new = goal_name(m[1], needs)
-            if new and re.match(r"(overflow|bounds|slice_bounds|shape_of|offset_bounds|nonzero)[_-]", new):
+            if new and not KEEP and re.match(r"(overflow|bounds|slice_bounds|shape_of|offset_bounds|nonzero)[_-]", new):
                 continue
             answers.append((m[1], d))
         elif re.match(r"tie\.(invariant|decreases)", t) and t.split()[0].startswith(("tie.invariant", "tie.decreases")):
@@ -275,6 +279,8 @@ def flat(text, fields, callee, own, args=("c",)):
                     path[1] = own[0][int(n[1]) - 1]
             if path[0] == "requires" and len(path) > 1 and path[1].isdigit() and len(own[1]) > 1:
                 path[1] = own[1][int(path[1])]
+            if path[0] in callee and len(path) > 2 and path[1] in ("new", "auto") and path[2].isdigit() and int(path[2]) < len(callee[path[0]][0]):
+                path[2] = callee[path[0]][0][int(path[2])]
             if path[0] in callee and len(path) > 2 and path[1] == "ensures" and path[2].isdigit() and len(callee[path[0]][2]) > 1:
                 path[2] = callee[path[0]][2][int(path[2])]
         return ".".join(["c"] + path)
@@ -286,6 +292,14 @@ def flat(text, fields, callee, own, args=("c",)):
             way = "" if m[3] or m[2] == "requires" else r"\.ensures"
             put = ".ensures." if way else "."
             text = re.sub(rf"(?<![\w.]){re.escape(m[1])}{way}\.(\d+)", lambda k: m[1] + put + (names[int(k[1])] if int(k[1]) < len(names) else k[1]), text)
+        if m[2] in callee and not m[3]:
+            params = callee[m[2]][0]
+            text = re.sub(rf"(?<![\w.]){re.escape(m[1])}\.(new|auto)\.(\d+)", lambda k: f"{m[1]}.{k[1]}.{params[int(k[2])] if int(k[2]) < len(params) else k[2]}", text)
+    for m in re.finditer(r"let ([^\s:]+) = c\.args in\b", text):
+        text = re.sub(rf"(?<![\w.]){re.escape(m[1])}\.t(\d+)", lambda k: f"{m[1]}.{own[0][int(k[1]) - 1] if int(k[1]) <= len(own[0]) else 't' + k[1]}", text)
+    # a test of `not b` is told as b itself now
+    text = re.sub(r"\(not[-_](?:true|false) _ (c\.[^\s()]+\.(?:true|false))\)", r"\1", text)
+    text = re.sub(r"(?<![\w-])not[-_](?:true|false) _ (c\.[^\s()]+\.(?:true|false))", r"\1", text)
     return text
 
 
@@ -348,4 +362,4 @@ def write_invariants(folder, crate, fn, invariants, entry, uses):
 
 
 if __name__ == "__main__":
-    main(sys.argv[1], sys.argv[2])
+    main(sys.argv[1], sys.argv[2], sys.argv[3:])

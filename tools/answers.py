@@ -166,7 +166,15 @@ def turn(folder, crate, fn, entry):
             print(f"left: {folder}: no goal for {old}: {[n for n in needs]}")
             new = "UNKNOWN-" + old
         out.append(answer(new, d, fields, callee, own))
-    helped = [helper(d, fields, places, callee, own) for d in helpers]
+    placed, plain = {}, []
+    for d in helpers:
+        h = place_helper(d, fields, callee, own)
+        if h:
+            placed[d["name"]] = h
+        else:
+            plain.append(d)
+    out = [inlined(text, placed, lambda s: flat(s, fields, callee, own, aliases_alone=True)) for text in out]
+    helped = [helper(d, fields, places, callee, own) for d in plain]
     keep = [u for u in uses if ".Statement." not in u and ".Tie as tie" not in u]
     os.remove(os.path.join(folder, "Proof.antt"))
     body = "\n\n".join(helped + out)
@@ -249,7 +257,7 @@ def recorded(text, names):
     return body[:i] + "record { " + "; ".join(f"{n} = {q.strip()}" for n, q in zip(names, parts)) + " }"
 
 
-def flat(text, fields, callee, own, args=("c",)):
+def flat(text, fields, callee, own, args=("c",), aliases_alone=False):
     """Paths from c without `before`, and steps by today's names."""
     alias = set(args)
     while True:
@@ -261,6 +269,8 @@ def flat(text, fields, callee, own, args=("c",)):
     pat = re.compile(r"(?<![\w.«»'-])(" + "|".join(re.escape(a) for a in sorted(alias, key=len, reverse=True)) + r")((?:\.before)+|(?=\.)|(?![\w.«»'-]))((?:\.[^\s(){}.;,@\"]+)*)")
 
     def one(m):
+        if aliases_alone and m[1] in args:
+            return m[0]
         path = m[3].split(".")[1:]
         path = [p for p in path if p != "before"]
         if path:
@@ -269,6 +279,10 @@ def flat(text, fields, callee, own, args=("c",)):
                 if ("arm", k, tuple(path[1:n])) in callee:
                     path = callee[("arm", k, tuple(path[1:n]))] + path[n:]
                     return ".".join(["c"] + path)
+            if k not in fields and k.endswith("_lem") and k[:-4] in fields:
+                k = k[:-4]
+            if path[0] == "pre":
+                path[0] = "requires"
             if k in fields:
                 path[0] = fields[k]
             elif k == "well_formed":
@@ -281,6 +295,8 @@ def flat(text, fields, callee, own, args=("c",)):
                 path[1] = own[1][int(path[1])]
             if path[0] in callee and len(path) > 2 and path[1] in ("new", "auto") and path[2].isdigit() and int(path[2]) < len(callee[path[0]][0]):
                 path[2] = callee[path[0]][0][int(path[2])]
+                if path[1] == "auto" and len(path) > 3 and path[3] == "0":
+                    del path[3]
             if path[0] in callee and len(path) > 2 and path[1] == "ensures" and path[2].isdigit() and len(callee[path[0]][2]) > 1:
                 path[2] = callee[path[0]][2][int(path[2])]
         return ".".join(["c"] + path)
@@ -295,6 +311,7 @@ def flat(text, fields, callee, own, args=("c",)):
         if m[2] in callee and not m[3]:
             params = callee[m[2]][0]
             text = re.sub(rf"(?<![\w.]){re.escape(m[1])}\.(new|auto)\.(\d+)", lambda k: f"{m[1]}.{k[1]}.{params[int(k[2])] if int(k[2]) < len(params) else k[2]}", text)
+            text = re.sub(rf"(?<![\w.])({re.escape(m[1])}\.auto\.\w+)\.0", r"\1", text)
     for m in re.finditer(r"let ([^\s:]+) = c\.args in\b", text):
         text = re.sub(rf"(?<![\w.]){re.escape(m[1])}\.t(\d+)", lambda k: f"{m[1]}.{own[0][int(k[1]) - 1] if int(k[1]) <= len(own[0]) else 't' + k[1]}", text)
     # a test of `not b` is told as b itself now
@@ -316,6 +333,73 @@ def answer(new, d, fields, callee, own):
     if len(asked) > 1:
         text = recorded(text, asked)
     return "\n".join(d["note"] + [f"pub {new} : goal.{new}", text])
+
+
+def place_helper(d, fields, callee, own):
+    """A lemma over a place of the walk: its type, its body and what it unfolds, with the place as c."""
+    m = re.match(rf"\(([^\s:()]+) : tie\.{NAME}\) → ?(.*)$", d["type"], re.S) or re.match(rf"()tie\.{NAME} → ?(.*)$", d["type"], re.S)
+    if not m:
+        return None
+    kind = m[2]
+    lines = [l for l in d["lines"]]
+    while lines and not lines[0].startswith(("unfolding", d["name"] + " ")):
+        kind += "\n" + lines.pop(0)
+    opened = []
+    while lines and lines[0].startswith("unfolding"):
+        opened += lines.pop(0).split()[1:]
+    body = "\n".join(lines)
+    head = re.match(rf"{re.escape(d['name'])} ([^\s=]+) =", body)
+    if not head:
+        print(f"left: the helper {d['name']} has more arguments")
+        return None
+    body = body[head.end() :].strip()
+    trivial = re.match(r"tie\.", kind.strip())
+    kind = flat(kind, fields, callee, own, (m[1], "c") if m[1] else ("c",))
+    body = flat(body, fields, callee, own, (head[1], "c"))
+    return {"type": kind.strip(), "body": body, "opened": opened, "same": bool(trivial)}
+
+
+def inlined(text, placed, again):
+    """An answer with each lemma over a place that it cites as a let of its own."""
+    lines = text.split("\n")
+    at = next(i for i, l in enumerate(lines) if re.match(rf"(?:{NAME})(?: {NAME})* =", l) and not l.startswith(("pub ", "unfolding", "abbrev ", "--")))
+    head, first = lines[at].split(" =", 1)
+    body = first + "\n" + "\n".join(lines[at + 1 :])
+    used, opened = [], []
+
+    def cite(text):
+        for name, h in placed.items():
+            spot = re.compile(rf"(?<![^\s(){{}};,])(\()?{re.escape(name)} c(?![^\s(){{}};,.])(?(1)\)|)|\({re.escape(name)} c\)")
+            if not spot.search(text):
+                continue
+            if h["same"]:
+                text = spot.sub("c", text)
+                continue
+            text = spot.sub(name, text)
+            if name not in used:
+                inner_body, inner_type = cite(h["body"]), cite(h["type"])
+                used.append(name)
+                opened.extend(o for o in h["opened"] if o not in opened)
+                lets.append(f"let {name} : {inner_type} = {inner_body} in")
+        return text
+
+    lets = []
+    for _ in range(3):
+        for name, h in placed.items():
+            if h["same"]:
+                body = re.sub(rf"\({re.escape(name)} c\)|(?<![^\s(){{}};,]){re.escape(name)} c(?![^\s(){{}};,.])", "c", body)
+        body = again(body)
+    body = cite(body)
+    while any(h["same"] and re.search(rf"(?<![\w-]){re.escape(n)} c(?![\w-])", body) for n, h in placed.items()):
+        body = cite(body)
+    if opened:
+        k = next((i for i, l in enumerate(lines[:at]) if l.startswith("unfolding")), None)
+        if k is None:
+            lines.insert(at, "unfolding " + " ".join(opened))
+            at += 1
+        else:
+            lines[k] += "".join(" " + o for o in opened if o not in lines[k].split())
+    return "\n".join(lines[:at] + [head + " =" + ("".join("\n    " + l.replace("\n", "\n    ") for l in lets)) + ("\n    " + body.lstrip() if lets else body)])
 
 
 def helper(d, fields, places, callee, own):

@@ -435,7 +435,7 @@ def write_invariants(folder, crate, fn, invariants, entry, uses):
             print(f"left: {folder}: {kind} of {was}: {bound} and {paths}")
         rest = text[head.end():]
         put = dict(zip(bound, paths))
-        rest = re.sub(rf"(?<![^\s(){{}};,@\"])([^\s(){{}}.;,@\"]+)", lambda m: put.get(m[1], m[1]), text[head.end():])
+        rest = re.sub(rf"(?<![^\s(){{}};,@\"])([^\s(){{}}.;,@\"]+)(?![^\s(){{}}.;,@\"])(?! = )", lambda m: put.get(m[1], m[1]), text[head.end():])
         name = f"{kind}-{now}"
         body.append("\n".join(d["note"] + [f"abbrev pub {name} : goal.{name}", f"{name} l ={rest}"]))
     if not body:

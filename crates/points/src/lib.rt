@@ -113,7 +113,7 @@ fn set_from(
 {
     let e = end_of(&volume[..], medium, store, name);
     match e {
-        Ended::Refused(e) => marking::not_set_lem(e, medium, store),
+        Ended::Refused(e) => marking::not_set(e, medium, store),
         Ended::At { id, number } => {
             marking::mark(volume, medium, store, point, id, number, fresh)
         }
@@ -133,14 +133,14 @@ pub fn set_point(
 {
     let o = asked(&volume[..], store, names::name_ok(name), point);
     if let Outcome::No(e) = o {
-        return marking::not_set_lem(e, medium, store);
+        return marking::not_set(e, medium, store);
     }
     let p = look(&volume[..], medium, store, point);
     match p {
-        Place::Refused(e) => marking::not_set_lem(e, medium, store),
+        Place::Refused(e) => marking::not_set(e, medium, store),
         Place::Absent => set_from(volume, medium, store, point, name, true),
         Place::Unset => set_from(volume, medium, store, point, name, false),
-        Place::Line { id: _, number: _ } => marking::not_set_lem(Error::Known, medium, store),
+        Place::Line { id: _, number: _ } => marking::not_set(Error::Known, medium, store),
     }
 }
 

@@ -152,7 +152,7 @@ pub struct ListAnswer {
 }
 
 // Refused with no row made.
-fn not_listed_lem(e: Error, medium: Medium) -> ListAnswer
+fn not_listed(e: Error, medium: Medium) -> ListAnswer
     ensures { result ≡ not_listed medium e }
 {
     ListAnswer {
@@ -185,16 +185,16 @@ pub fn list(
         ≡ list_call volume.now medium store dir.now counts.old rows.old }
 {
     if (rows.len() < 3072) | (counts.len() < 64) {
-        return not_listed_lem(Error::Range, medium);
+        return not_listed(Error::Range, medium);
     }
     let o = asked(volume, store, names::dir_ok(dir));
     if let Outcome::No(e) = o {
-        return not_listed_lem(e, medium);
+        return not_listed(e, medium);
     }
     clear_counts(counts);
     let c = table::count(volume, medium, store, counts);
     if let Outcome::No(e) = c {
-        return not_listed_lem(e, medium);
+        return not_listed(e, medium);
     }
     let made = directory::list_rows(volume, medium, store, dir, counts, rows);
     let outcome = made.outcome;

@@ -317,8 +317,10 @@ def flat(text, fields, callee, own, args=("c",), aliases_alone=False):
     for m in re.finditer(r"let ([^\s:]+) = c\.args in\b", text):
         text = re.sub(rf"(?<![\w.]){re.escape(m[1])}\.t(\d+)", lambda k: f"{m[1]}.{own[0][int(k[1]) - 1] if int(k[1]) <= len(own[0]) else 't' + k[1]}", text)
     # a test of `not b` is told as b itself now
-    text = re.sub(r"\(not[-_](?:true|false) _ (c\.[^\s()]+\.(?:true|false))\)", r"\1", text)
-    text = re.sub(r"(?<![\w-])not[-_](?:true|false) _ (c\.[^\s()]+\.(?:true|false))", r"\1", text)
+    said = r"(?:_|\((?:[^()]|\([^()]*\))*\)|[^\s()]+)"
+    text = re.sub(r"\(c\)", "c", text)
+    text = re.sub(r"\(not[-_](?:true|false) " + said + r" (c\.[^\s()]+\.(?:true|false))\)", r"\1", text)
+    text = re.sub(r"(?<![\w-])not[-_](?:true|false) " + said + r" (c\.[^\s()]+\.(?:true|false))", r"\1", text)
     return text
 
 

@@ -153,7 +153,7 @@ def turn(folder, crate, fn, entry):
             rhs = body.split("=", 1)[1].strip() if "=" in body else ""
             if rhs == "search rules" and not any(l.startswith("unfolding") for l in d["lines"]):
                 continue
-            new = goal_name(m[1], needs)
+            new = goal_name(m[1], needs, d["name"])
             if new and not KEEP and re.match(r"(overflow|bounds|slice_bounds|shape_of|offset_bounds|nonzero)[_-]", new):
                 continue
             answers.append((m[1], d))
@@ -163,7 +163,7 @@ def turn(folder, crate, fn, entry):
             helpers.append(d)
     out = []
     for old, d in answers:
-        new = goal_name(old, needs)
+        new = goal_name(old, needs, d["name"])
         if new is None:
             print(f"left: {folder}: no goal for {old}: {[n for n in needs]}")
             new = "UNKNOWN-" + old
@@ -219,7 +219,12 @@ def wanted(uses, body):
     return out
 
 
-def goal_name(old, needs):
+def goal_name(old, needs, own):
+    o = norm(own)
+    if o not in ("returns",):
+        for pair in needs:
+            if norm(pair[0]) == o:
+                return pair[1]
     o = norm(old)
     for at in (0, 1):
         for pair in needs:

@@ -8,8 +8,8 @@ use Rattle.remove.specs.Remove.{remove_of}
 use Rattle.remove.proofs.Ways.{whole_name, gone_refused, gone_done}
 use Rattle.remove.proofs.take_away.Goals as goal
 
-pub slice_bounds-put_bytes-end : goal.slice_bounds-put_bytes-end
-slice_bounds-put_bytes-end c = omega (arith, (store_facts _ _ c.requires.0).enough, c.entry_place-a.ensures.1)
+pub slice_bounds-put_bytes-end-2 : goal.slice_bounds-put_bytes-end-2
+slice_bounds-put_bytes-end-2 c = omega (arith, (store_facts _ _ c.requires.0).enough, c.entry_place-a.ensures.1)
 
 
 pub put_bytes-requires : goal.put_bytes-requires

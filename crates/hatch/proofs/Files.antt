@@ -45,6 +45,7 @@ pub record Owner (id : ℕ) (fs : List File) : Type 0 where
   pub there : has_name marks_name fs ≡ true
 
 apart_same : (fs : List File) → Apart fs → (f g : File) → Mem f fs → Mem g fs → f.id ≡ g.id → f ≡ g
+apart_same [] a f g m _ e = elim m [ ]
 apart_same (x ∷ fs) a f g (Memᴰ.head p) (Memᴰ.head q) e = p ∙ sym q
 apart_same (x ∷ fs) a f g (Memᴰ.head p) (Memᴰ.tail m) e = absurd (a.0 g m (ap (λ (h : File). h.id) (sym p) ∙ e))
 apart_same (x ∷ fs) a f g (Memᴰ.tail m) (Memᴰ.head q) e = absurd (a.0 f m (ap (λ (h : File). h.id) (sym q) ∙ sym e))

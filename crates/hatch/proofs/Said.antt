@@ -78,6 +78,7 @@ says_none p (q ∷ qs) d h =
 
 says_pin : (qs : List Pin) → Differ qs → (q : Pin) → Memᴰ q qs → first_of (says_of q.name) (map pin_line qs) ≡ At q.id q.number
 unfolding first_of or_next
+says_pin [] d q m = elim m [ ]
 says_pin (x ∷ qs) d q (Memᴰ.head e) =
     let t : Fits q = subst Fits (sym e) d.0 in
     rw (← e, line_back q.name t.name q.id q.number t.id t.number)

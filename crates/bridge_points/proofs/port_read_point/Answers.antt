@@ -1,0 +1,16 @@
+use Rattle.bridge_points.specs.Points.{point_at}
+use Rattle.bridge_points.proofs.port_read_point.Goals as goal
+
+pub returns : goal.returns
+unfolding point_at
+returns c =
+    let u = c.put_upto.ensures in
+    rw (
+      ← c.medium_in.ensures,
+      ← c.store_in.ensures,
+      ← c.read_point-r.ensures,
+      c.code.ensures,
+      u.0,
+      u.1,
+      c.medium_words.ensures,
+    )

@@ -1,0 +1,23 @@
+use Rattle.bridge_points.specs.Points.{set_at}
+use Rattle.bridge_points.proofs.port_set_point.Goals as goal
+
+pub returns : goal.returns
+unfolding set_at
+returns c =
+    let a = c.put_appender.ensures in
+    let p = c.put_store.ensures in
+    let d = c.set_point-r.ensures in
+    rw (
+      ← c.medium_in.ensures,
+      ← c.store_in.ensures,
+      ← d.0,
+      ← d.1,
+      c.code.ensures,
+      c.flag-opened.ensures,
+      a.0,
+      a.1,
+      a.2,
+      p.0,
+      p.1,
+      c.medium_words.ensures,
+    )

@@ -1,0 +1,7 @@
+use Rattle.bridge_points.specs.Points.{upto_of}
+use Rattle.bridge_points.proofs.uptos.upto_in.Goals as goal
+
+pub returns : goal.returns
+unfolding upto_of
+returns c = rw (c.reader_in-rd.ensures, c.narrow.ensures)
+

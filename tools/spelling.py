@@ -5,7 +5,7 @@ usage: python3 tools/spelling.py [ROOT]      (ROOT: the top of a checkout; run i
 
 A row of a table is an old name, a tab and a new one. It turns whole words alone. By spelling.tsv, from what port.py leaves:
   .antt           every word, but not one that the file imports from a library that is not ours
-  .rt             every word: clauses, ghost items and comments (the code itself has no such word)
+  .rt             clauses, ghost items and comments; a name with plain underscores may be a function's, and stays
 By landed-names.tsv, from the texts as they had landed, since port.py leaves these alone:
   .edit           every word
   .md             code spans
@@ -18,6 +18,7 @@ import sys
 
 HERE = os.path.dirname(os.path.realpath(__file__))
 WORD = re.compile(r'[^\s(){}\[\].;,:@"«»`|]+')
+PLAIN = re.compile(r"[a-z0-9_]+")
 USE = re.compile(r"^(?:pub )?use ([^\s;{]+)\{([^}]*)\}", re.M)
 
 
@@ -67,8 +68,10 @@ def main():
                 new = spans(text, landed)
             elif kind == "antt":
                 new = turned(text, rows, foreign(text, crates))
+                if path.endswith("Proof.antt"):
+                    new = re.sub(r"\.([a-z_]+[0-9]*)_lem\b", r".\1", new)
             else:
-                new = turned(text, landed if kind == "edit" else rows)
+                new = turned(text, landed if kind == "edit" else {o: n for o, n in rows.items() if not PLAIN.fullmatch(o)})
             if new != text:
                 changed += 1
                 with open(path, "w", encoding="utf-8") as f:

@@ -16,21 +16,21 @@ use handles::Store;
 use medium::{Error, Medium, Outcome};
 
 // The directory of a rollover: the first `length` of its bytes.
-#[derive(Drop)]
+#[derive(Clone, Copy)]
 pub struct Dir {
     pub bytes: [u8; 40],
     pub length: usize,
 }
 
 // Where the next record goes: at an index, or in a further chunk where the last one was reopened with so many records.
-#[derive(Drop)]
+#[derive(Clone, Copy)]
 pub enum Tail {
     At(u32),
     Reopened(u32),
     Closed,
 }
 
-#[derive(Drop)]
+#[derive(Clone, Copy)]
 pub struct Appender {
     pub token: u32,
     pub slot: usize,
@@ -45,7 +45,7 @@ pub struct Appender {
 }
 
 // What a call of an appender hands back, refused or not: append, sync, create and open_append.
-#[derive(Drop)]
+#[derive(Clone, Copy)]
 pub struct Handed {
     pub outcome: Outcome,
     pub medium: Medium,
@@ -54,7 +54,7 @@ pub struct Handed {
 }
 
 // Bytes that append takes before it writes a record.
-#[derive(Drop)]
+#[derive(Clone, Copy)]
 pub enum Room {
     Refused(Error),
     Is(usize),

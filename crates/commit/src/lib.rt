@@ -30,7 +30,7 @@ fn same_crcs(a: [u32; 24], b: [u32; 24]) -> bool
     true
 }
 
-fn same_head_lem(a: Header, b: Header) -> bool
+fn same_head(a: Header, b: Header) -> bool
     ensures { result ≡ same_head a b }
 {
     let x = a.crcs;
@@ -47,7 +47,7 @@ fn is_current(found: Current, store: Store) -> bool
 {
     let x = found.head;
     let y = store.head;
-    (found.copy == store.copy) & same_head_lem(x, y)
+    (found.copy == store.copy) & same_head(x, y)
 }
 
 // The checksum of a sector: an array's length is known, so that a caller owes nothing.

@@ -5,7 +5,7 @@ ghost use Rattle.std.specs.Prelude.{◌≡◌, ◌∷◌, ◌+◌, ◌≤◌, �
 ghost use Rattle.decimal.specs.Fields.{field_len};
 ghost use Rattle.decimal.specs.Decimal.{is_digit, decimal_of, leading_zero, plain_of, decimal_text, Put};
 
-#[derive(Drop)]
+#[derive(Clone, Copy)]
 pub enum Number {
     Nothing,
     Value(u64),

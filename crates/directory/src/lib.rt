@@ -15,7 +15,7 @@ use handles::Store;
 use medium::{Error, Medium, Outcome};
 
 // What a slot holds: the name of a file is the first `len` bytes of its entry.
-#[derive(Drop)]
+#[derive(Clone, Copy)]
 pub enum Slot {
     Refused(Error),
     Free,
@@ -96,7 +96,7 @@ pub fn is_in(volume: &[u8], store: Store, slot: usize, len: usize, dir: &[u8]) -
     names::in_dir(dir, &volume[a..a + len])
 }
 
-#[derive(Drop)]
+#[derive(Clone, Copy)]
 pub enum Found {
     Refused(Error),
     At { slot: usize, id: u32 },
@@ -153,14 +153,14 @@ pub fn find_id(volume: &[u8], medium: Medium, store: Store, id: u32) -> Found
 }
 
 // What create looks for: the name, and the lowest free slot.
-#[derive(Drop)]
+#[derive(Clone, Copy)]
 pub struct Seen {
     pub exists: bool,
     pub free: bool,
     pub slot: usize,
 }
 
-#[derive(Drop)]
+#[derive(Clone, Copy)]
 pub enum Looked {
     Refused(Error),
     Done(Seen),
@@ -223,7 +223,7 @@ pub fn look(volume: &[u8], medium: Medium, store: Store, name: &[u8]) -> Looked
 }
 
 // The oldest file so far.
-#[derive(Drop)]
+#[derive(Clone, Copy)]
 pub struct Old {
     pub any: bool,
     pub slot: usize,
@@ -231,7 +231,7 @@ pub struct Old {
     pub len: usize,
 }
 
-#[derive(Drop)]
+#[derive(Clone, Copy)]
 pub enum OldestFile {
     Refused(Error),
     Done(Old),
@@ -303,7 +303,7 @@ fn put_row(rows: &mut [u8], count: usize, name: &[u8], id: u32, chunks: u16)
     le::put_u32(rows, at + 44, chunks as u32);
 }
 
-#[derive(Drop)]
+#[derive(Clone, Copy)]
 pub struct Rows {
     pub outcome: Outcome,
     pub count: usize,

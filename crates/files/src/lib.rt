@@ -17,7 +17,7 @@ use plan::Edit;
 use table::Pick;
 
 // The rollover of a call: whether there is one, and its directory.
-#[derive(Drop)]
+#[derive(Clone, Copy)]
 pub struct Rollover {
     pub rolls: bool,
     pub dir: Dir,
@@ -130,7 +130,7 @@ fn make(
 }
 
 // What a round comes to: the answer, or what stands for another round after the oldest file went.
-#[derive(Drop)]
+#[derive(Clone, Copy)]
 struct Turn {
     pub again: bool,
     pub answer: Handed,

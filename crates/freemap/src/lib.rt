@@ -5,7 +5,7 @@ ghost use Rattle.std.specs.Prelude.{◌≡◌, ◌*◌, ◌<◌, ◌≤◌, eqb,
 ghost use Rattle.freemap.specs.Map.{unfit_of, full_of, put_of, first_from, chosen_of, ones_of, map_ok};
 
 // A set bit for each free chunk. Where it is unfit no bit is set, and the table is walked instead.
-#[derive(Drop)]
+#[derive(Clone, Copy)]
 pub struct FreeMap {
     pub fit: bool,
     pub words: [u64; 32],

@@ -10,7 +10,7 @@ use freemap::FreeMap;
 use medium::{Error, Medium, Outcome};
 
 // One copy's header: store id, generation, next file id, allocation cursor, chunks, sectors per chunk, and one checksum for each body sector.
-#[derive(Drop)]
+#[derive(Clone, Copy)]
 pub struct Header {
     pub id: u64,
     pub generation: u64,
@@ -22,14 +22,14 @@ pub struct Header {
 }
 
 // The appender that the store opened last.
-#[derive(Drop)]
+#[derive(Clone, Copy)]
 pub enum Writer {
     Nobody,
     Open { token: u32, id: u32 },
 }
 
 // The mounted metadata: the current copy, its header, the open appender and the map of free chunks.
-#[derive(Drop)]
+#[derive(Clone, Copy)]
 pub struct Store {
     pub copy: u64,
     pub head: Header,

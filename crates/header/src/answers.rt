@@ -4,7 +4,7 @@ use handles::{Header, Store};
 use medium::Outcome;
 
 // Both copies: their headers and, beside them, their kinds. A copy that is not valid has a blank header.
-#[derive(Drop)]
+#[derive(Clone, Copy)]
 pub struct Copies {
     pub outcome: Outcome,
     pub heads: [Header; 2],
@@ -13,7 +13,7 @@ pub struct Copies {
 }
 
 // The copy that is current. With `known`, the other copy's body holds the sectors whose checksums are in `listed`.
-#[derive(Drop)]
+#[derive(Clone, Copy)]
 pub struct Current {
     pub outcome: Outcome,
     pub copy: u64,
@@ -22,7 +22,7 @@ pub struct Current {
     pub listed: [u32; 24],
 }
 
-#[derive(Drop)]
+#[derive(Clone, Copy)]
 pub struct Mounted {
     pub outcome: Outcome,
     pub store: Store,

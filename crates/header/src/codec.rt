@@ -8,7 +8,7 @@ ghost use Rattle.header.specs.Header.{magic, fields_of, words, encode_of, unmark
 use handles::Header;
 
 // What a header sector holds: a valid copy, one of another version or geometry, one whose CRC fails, none.
-#[derive(Drop)]
+#[derive(Clone, Copy)]
 pub enum Replica {
     Ours,
     Foreign,
@@ -17,7 +17,7 @@ pub enum Replica {
 }
 
 // The kind, and beside it the header: blank unless the copy is valid.
-#[derive(Drop)]
+#[derive(Clone, Copy)]
 pub struct Decoded {
     pub kind: Replica,
     pub head: Header,

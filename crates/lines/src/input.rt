@@ -18,7 +18,7 @@ fn keep(line: &mut [u8], fill: usize, b: u8) -> usize
 }
 
 // Where the next line starts, how many bytes are kept of this one, and whether its line feed came.
-#[derive(Drop)]
+#[derive(Clone, Copy)]
 pub struct Gathered {
     pub at: usize,
     pub fill: usize,

@@ -12,7 +12,7 @@ use libc::{STDIN_FILENO, STDOUT_FILENO};
 use session::Session;
 
 // What is held after a line, and how many bytes its answer has.
-#[derive(Drop)]
+#[derive(Clone, Copy)]
 struct Answered {
     session: Session,
     count: usize,
@@ -38,7 +38,7 @@ fn answer(volume: &mut [u8], session: Session, line: &[u8], out: &mut [u8]) -> A
 }
 
 // What stands after a piece of the input: where the next one starts, how many bytes of a line are kept, and how many bytes are to be written.
-#[derive(Drop)]
+#[derive(Clone, Copy)]
 struct Passed {
     session: Session,
     at: usize,
@@ -85,7 +85,7 @@ fn piece(
 }
 
 // What is held after a part of the input.
-#[derive(Drop)]
+#[derive(Clone, Copy)]
 struct FedPart {
     session: Session,
     fill: usize,

@@ -12,7 +12,7 @@ use decimal::Number;
 pub const LINE: usize = 39;
 
 // What a record of `MARKS` says of a point's name.
-#[derive(Drop)]
+#[derive(Clone, Copy)]
 pub enum Mark {
     Nothing,
     At { id: u32, number: u32 },

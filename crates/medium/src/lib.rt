@@ -8,7 +8,7 @@ ghost use Rattle.medium.specs.Refusal.{number_of, on_done};
 ghost use Rattle.medium.specs.Sector.{sectors_of, sector_at, read_of, spend_of, write_of};
 
 // Kept by the caller and handed back in every answer. Only `left` and `token` ever change.
-#[derive(Drop)]
+#[derive(Clone, Copy)]
 pub struct Medium {
     pub left: u32,
     pub unreadable: u64,
@@ -17,7 +17,7 @@ pub struct Medium {
 }
 
 // The Rust's refusals, the port's own Handle and Spent, and those of document 02.
-#[derive(Drop)]
+#[derive(Clone, Copy)]
 pub enum Error {
     Media,
     Uninitialized,
@@ -37,13 +37,13 @@ pub enum Error {
     Dotted,
 }
 
-#[derive(Drop)]
+#[derive(Clone, Copy)]
 pub enum Outcome {
     Done,
     No(Error),
 }
 
-#[derive(Drop)]
+#[derive(Clone, Copy)]
 pub struct Written {
     pub outcome: Outcome,
     pub medium: Medium,

@@ -16,7 +16,7 @@ use table::Link;
 
 // A new store; a file's entry and its first link; a file's next link, and where `partial` the mark of its last chunk with its records; a file
 // removed, with every link of its slot.
-#[derive(Drop)]
+#[derive(Clone, Copy)]
 pub enum Edit {
     Format,
     Create {
@@ -38,7 +38,7 @@ pub enum Edit {
 }
 
 // Body sectors written, or left: the header so far.
-#[derive(Drop)]
+#[derive(Clone, Copy)]
 pub struct BodyWritten {
     pub outcome: Outcome,
     pub medium: Medium,
@@ -46,7 +46,7 @@ pub struct BodyWritten {
 }
 
 // A copy written: the store of the last finished commit.
-#[derive(Drop)]
+#[derive(Clone, Copy)]
 pub struct Committed {
     pub outcome: Outcome,
     pub medium: Medium,

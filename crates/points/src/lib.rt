@@ -21,7 +21,7 @@ use scan::{end_of, look};
 use store::ReaderAnswer;
 
 // What setting hands back. `opened`: `MARKS` was opened, and `appender` is its own; an appender from before is stale. Else the caller keeps its own.
-#[derive(Drop)]
+#[derive(Clone, Copy)]
 pub struct Marked {
     pub outcome: Outcome,
     pub number: u32,
@@ -31,7 +31,7 @@ pub struct Marked {
     pub appender: Appender,
 }
 
-#[derive(Drop)]
+#[derive(Clone, Copy)]
 pub struct UptoAnswer {
     pub outcome: Outcome,
     pub upto: Upto,
@@ -39,7 +39,7 @@ pub struct UptoAnswer {
 }
 
 // What one turn of a walk over a file met.
-#[derive(Drop)]
+#[derive(Clone, Copy)]
 pub enum Sight {
     Refused(Error),
     Passed,
@@ -47,27 +47,27 @@ pub enum Sight {
     End,
 }
 
-#[derive(Drop)]
+#[derive(Clone, Copy)]
 pub struct Turn {
     pub sight: Sight,
     pub reader: Reader,
 }
 
 // Where a walk came to: what the record there says, or nothing at the file's end.
-#[derive(Drop)]
+#[derive(Clone, Copy)]
 pub struct Seen {
     pub mark: Mark,
     pub reader: Reader,
 }
 
-#[derive(Drop)]
+#[derive(Clone, Copy)]
 pub enum Walked {
     Refused(Error),
     To(Seen),
 }
 
 // What `MARKS` says of a point.
-#[derive(Drop)]
+#[derive(Clone, Copy)]
 pub enum Place {
     Refused(Error),
     Absent,
@@ -76,7 +76,7 @@ pub enum Place {
 }
 
 // Where a file ends.
-#[derive(Drop)]
+#[derive(Clone, Copy)]
 pub enum Ended {
     Refused(Error),
     At { id: u32, number: u32 },
@@ -113,7 +113,7 @@ fn set_from(
 {
     let e = end_of(&volume[..], medium, store, name);
     match e {
-        Ended::Refused(e) => marking::not_set_lem(e, medium, store),
+        Ended::Refused(e) => marking::not_set(e, medium, store),
         Ended::At { id, number } => {
             marking::mark(volume, medium, store, point, id, number, fresh)
         }
@@ -133,14 +133,14 @@ pub fn set_point(
 {
     let o = asked(&volume[..], store, names::name_ok(name), point);
     if let Outcome::No(e) = o {
-        return marking::not_set_lem(e, medium, store);
+        return marking::not_set(e, medium, store);
     }
     let p = look(&volume[..], medium, store, point);
     match p {
-        Place::Refused(e) => marking::not_set_lem(e, medium, store),
+        Place::Refused(e) => marking::not_set(e, medium, store),
         Place::Absent => set_from(volume, medium, store, point, name, true),
         Place::Unset => set_from(volume, medium, store, point, name, false),
-        Place::Line { id: _, number: _ } => marking::not_set_lem(Error::Known, medium, store),
+        Place::Line { id: _, number: _ } => marking::not_set(Error::Known, medium, store),
     }
 }
 

@@ -11,7 +11,7 @@ use handles::Store;
 use medium::{Error, Medium, Outcome};
 
 // Refused before `MARKS` is opened: all handles as given, and no appender.
-pub(crate) fn not_set_lem(e: Error, medium: Medium, store: Store) -> Marked
+pub(crate) fn not_set(e: Error, medium: Medium, store: Store) -> Marked
     ensures { marked_answer result ≡ (not_set [] medium store (number_of e)).call }
 {
     let appender = append::no_appender();

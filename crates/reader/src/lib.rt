@@ -18,14 +18,14 @@ use medium::{Error, Medium, Outcome};
 use table::ChainParts;
 
 // The records of a reader's chunk when it is not the file's last.
-#[derive(Drop)]
+#[derive(Clone, Copy)]
 pub enum End {
     Last,
     Records(u32),
 }
 
 // A sequential reader of one file's records.
-#[derive(Drop)]
+#[derive(Clone, Copy)]
 pub struct Reader {
     pub store: u64,
     pub generation: u64,
@@ -39,7 +39,7 @@ pub struct Reader {
 }
 
 // What stands at a reader's place.
-#[derive(Drop)]
+#[derive(Clone, Copy)]
 pub enum Found {
     Refused(Error),
     // A record of this many payload bytes, copied to the output.
@@ -51,7 +51,7 @@ pub enum Found {
 }
 
 // What `next` answers: what was found, and of a hole how many of its sectors are blank (S-4).
-#[derive(Drop)]
+#[derive(Clone, Copy)]
 pub enum Next {
     Refused(Error),
     Payload(usize),
@@ -59,7 +59,7 @@ pub enum Next {
     End,
 }
 
-#[derive(Drop)]
+#[derive(Clone, Copy)]
 pub struct Read {
     pub next: Next,
     pub reader: Reader,
@@ -67,48 +67,48 @@ pub struct Read {
 }
 
 // S-1: a reader, and the record number at which it ends.
-#[derive(Drop)]
+#[derive(Clone, Copy)]
 pub struct Upto {
     pub reader: Reader,
     pub limit: u32,
 }
 
-#[derive(Drop)]
+#[derive(Clone, Copy)]
 pub struct UptoRead {
     pub next: Next,
     pub upto: Upto,
     pub medium: Medium,
 }
 
-#[derive(Drop)]
+#[derive(Clone, Copy)]
 pub struct Sought {
     pub outcome: Outcome,
     pub reader: Reader,
     pub medium: Medium,
 }
 
-#[derive(Drop)]
+#[derive(Clone, Copy)]
 pub enum Numbered {
     Refused(Error),
     Is(u32),
 }
 
 // A reader moved to another record, where that was not refused.
-#[derive(Drop)]
+#[derive(Clone, Copy)]
 pub struct Entered {
     pub outcome: Outcome,
     pub reader: Reader,
 }
 
 // What a reader found, and the reader behind it.
-#[derive(Drop)]
+#[derive(Clone, Copy)]
 pub struct Taken {
     pub next: Found,
     pub reader: Reader,
 }
 
 // A reader that stands in a chunk it has not passed, or past its chunks; `more`: a record may stand at its index.
-#[derive(Drop)]
+#[derive(Clone, Copy)]
 pub struct Arrived {
     pub outcome: Outcome,
     pub reader: Reader,
@@ -116,7 +116,7 @@ pub struct Arrived {
 }
 
 // A search in a chunk for the next valid record.
-#[derive(Drop)]
+#[derive(Clone, Copy)]
 pub enum Searched {
     Refused(Error),
     At(u32),

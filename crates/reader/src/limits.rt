@@ -11,7 +11,7 @@ use medium::{Error, Medium, Outcome};
 
 impl Reader {
     // The number of the record that comes next.
-    fn stands_at_lem(self, volume: &[u8], store: Store) -> u32
+    fn stands_at(self, volume: &[u8], store: Store) -> u32
         requires { (store_ok store (sectors_of volume.now) ≡ true) × (reader_ok self store ≡ true) }
         ensures { result ≡ stands_at store self }
     {
@@ -55,7 +55,7 @@ impl Reader {
         ensures { (out.new ≡ (below_of limit volume.now medium store self out.old).out)
             × (result ≡ (below_of limit volume.now medium store self out.old).ans) }
     {
-        let here = self.stands_at_lem(volume, store);
+        let here = self.stands_at(volume, store);
         if limit <= here {
             return Taken {
                 next: Found::End,
@@ -71,7 +71,7 @@ impl Reader {
                 reader,
             };
         }
-        let there = reader.stands_at_lem(volume, store);
+        let there = reader.stands_at(volume, store);
         if !(a.more & (there < limit)) {
             return Taken {
                 next: Found::End,

@@ -9,7 +9,7 @@ use handles::Store;
 use medium::{Error, Medium, Outcome, Written};
 
 // What a data sector is found to be: unread, a record with so many bytes of payload, or anything else.
-#[derive(Drop)]
+#[derive(Clone, Copy)]
 pub enum Judged {
     Refused(Error),
     Valid(usize),
@@ -17,7 +17,7 @@ pub enum Judged {
 }
 
 // S-4: what the bytes of a data sector are: a record with so many bytes of payload, blank, or anything else.
-#[derive(Drop)]
+#[derive(Clone, Copy)]
 pub enum Verdict {
     Valid(usize),
     Blank,

@@ -14,7 +14,7 @@ use medium::{Medium, Outcome};
 use plan::{Committed, Edit};
 
 // What removing the oldest gives: whether a file went, and its name, with zeros to 40, where one did.
-#[derive(Drop)]
+#[derive(Clone, Copy)]
 pub struct Gone {
     pub outcome: Outcome,
     pub medium: Medium,

@@ -16,7 +16,7 @@ use record::Judged;
 use table::Chained;
 
 // The records of a chunk, up to the last valid one.
-#[derive(Drop)]
+#[derive(Clone, Copy)]
 pub enum Records {
     Refused(Error),
     Are(u32),

@@ -16,7 +16,7 @@ use medium::{Error, Medium, Outcome};
 use words::Parsed;
 
 // What is held from line to line, beside the volume. `formatted`, `created`: a format, a create was accepted.
-#[derive(Drop)]
+#[derive(Clone, Copy)]
 pub struct Session {
     pub store: Store,
     pub appender: Appender,
@@ -26,14 +26,14 @@ pub struct Session {
 }
 
 // What a line is answered: `ok` and a number, for a list with so many rows after it, or `no` and a refusal.
-#[derive(Drop)]
+#[derive(Clone, Copy)]
 pub enum Reply {
     Number(u64),
     Rows(usize),
     No(Error),
 }
 
-#[derive(Drop)]
+#[derive(Clone, Copy)]
 pub struct Told {
     pub session: Session,
     pub reply: Reply,

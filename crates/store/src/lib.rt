@@ -35,7 +35,7 @@ fn asked(volume: &[u8], store: Store, fine: bool) -> Outcome
     Outcome::Done
 }
 
-#[derive(Drop)]
+#[derive(Clone, Copy)]
 pub struct StoreAnswer {
     pub outcome: Outcome,
     pub store: Store,
@@ -94,7 +94,7 @@ pub fn mount(volume: &[u8], medium: Medium) -> StoreAnswer
     }
 }
 
-#[derive(Drop)]
+#[derive(Clone, Copy)]
 pub struct FreeCountAnswer {
     pub count: FreeCount,
     pub medium: Medium,
@@ -123,7 +123,7 @@ pub fn format(volume: &mut [u8], medium: Medium, size: u32, seed: u64) -> StoreA
     committed(format::format(volume, medium, size, seed))
 }
 
-#[derive(Drop)]
+#[derive(Clone, Copy)]
 pub struct FindAnswer {
     pub found: Found,
     pub medium: Medium,
@@ -144,7 +144,7 @@ pub fn find(volume: &[u8], medium: Medium, store: Store, name: &[u8]) -> FindAns
     FindAnswer { found, medium }
 }
 
-#[derive(Drop)]
+#[derive(Clone, Copy)]
 pub struct ListAnswer {
     pub outcome: Outcome,
     pub count: usize,
@@ -152,7 +152,7 @@ pub struct ListAnswer {
 }
 
 // Refused with no row made.
-fn not_listed_lem(e: Error, medium: Medium) -> ListAnswer
+fn not_listed(e: Error, medium: Medium) -> ListAnswer
     ensures { result ≡ not_listed medium e }
 {
     ListAnswer {
@@ -185,16 +185,16 @@ pub fn list(
         ≡ list_call volume.now medium store dir.now counts.old rows.old }
 {
     if (rows.len() < 3072) | (counts.len() < 64) {
-        return not_listed_lem(Error::Range, medium);
+        return not_listed(Error::Range, medium);
     }
     let o = asked(volume, store, names::dir_ok(dir));
     if let Outcome::No(e) = o {
-        return not_listed_lem(e, medium);
+        return not_listed(e, medium);
     }
     clear_counts(counts);
     let c = table::count(volume, medium, store, counts);
     if let Outcome::No(e) = c {
-        return not_listed_lem(e, medium);
+        return not_listed(e, medium);
     }
     let made = directory::list_rows(volume, medium, store, dir, counts, rows);
     let outcome = made.outcome;
@@ -205,7 +205,7 @@ pub fn list(
     }
 }
 
-#[derive(Drop)]
+#[derive(Clone, Copy)]
 pub struct ReaderAnswer {
     pub outcome: Outcome,
     pub reader: Reader,

@@ -14,7 +14,7 @@ use handles::Store;
 use medium::{Error, Medium, Outcome};
 
 // What a chunk's link says: its file's slot, its place in the file, and the records of a chunk that the file left before it was full.
-#[derive(Drop)]
+#[derive(Clone, Copy)]
 pub struct Link {
     pub slot: usize,
     pub position: u32,
@@ -23,7 +23,7 @@ pub struct Link {
 }
 
 // What the table says of a chunk; `Past`: a zero link past the last chunk.
-#[derive(Drop)]
+#[derive(Clone, Copy)]
 pub enum LinkAt {
     Refused(Error),
     Past,
@@ -143,7 +143,7 @@ fn links(chunks: u32) -> u32
 }
 
 // The chunk that is linked to a slot at a position, with its link.
-#[derive(Drop)]
+#[derive(Clone, Copy)]
 pub enum Place {
     Refused(Error),
     At { chunk: u32, link: Link },
@@ -179,7 +179,7 @@ pub fn locate(volume: &[u8], medium: Medium, store: Store, slot: usize, position
 }
 
 // What a walk has seen of a slot's chain: how many chunks, the chunk of position 0, the largest position and the lowest chunk that has it.
-#[derive(Drop)]
+#[derive(Clone, Copy)]
 pub struct ChainState {
     pub count: u32,
     pub first: Place,
@@ -188,7 +188,7 @@ pub struct ChainState {
 }
 
 // A file's chunks: how many, the first with its partial mark and records, and the last.
-#[derive(Drop)]
+#[derive(Clone, Copy)]
 pub struct ChainParts {
     pub count: u32,
     pub first: u32,
@@ -197,7 +197,7 @@ pub struct ChainParts {
     pub last: u32,
 }
 
-#[derive(Drop)]
+#[derive(Clone, Copy)]
 pub enum Chained {
     Refused(Error),
     Whole(ChainParts),
@@ -294,7 +294,7 @@ pub fn chain(volume: &[u8], medium: Medium, store: Store, slot: usize) -> Chaine
 }
 
 // A free chunk.
-#[derive(Drop)]
+#[derive(Clone, Copy)]
 pub enum Pick {
     Refused(Error),
     Nothing,
@@ -302,7 +302,7 @@ pub enum Pick {
 }
 
 // How many chunks are free.
-#[derive(Drop)]
+#[derive(Clone, Copy)]
 pub enum FreeCount {
     Refused(Error),
     Is(u32),

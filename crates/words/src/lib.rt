@@ -10,7 +10,7 @@ use decimal::Number;
 pub const LINE: usize = 600;
 
 // What a line says. A part of it is given by the places where it starts and ends, or by its start alone where it ends with the line.
-#[derive(Drop)]
+#[derive(Clone, Copy)]
 pub enum Parsed {
     Other,
     Format {

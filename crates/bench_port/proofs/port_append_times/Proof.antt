@@ -19,7 +19,7 @@ returns : tie.Need-returns
 unfolding times_of
 returns c =
     let at-open-append = c.before.before.before.before in
-    rw (c.before.before.appends.ensures, ← at-open-append.before.before.mount.ensures, ← at-open-append.open_append_lem.ensures)
+    rw (c.before.before.appends.ensures, ← at-open-append.before.before.mount.ensures, ← at-open-append.open_append.ensures)
 
 pub port-append-times-spec : {M : Type 1} → statement M
 port-append-times-spec =

@@ -36,7 +36,7 @@ returns c =
     let at-medium-words = c.before.before.before in
     let at-store-in = at-medium-words.before.before.before.before.before.before.before in
     let p = at-medium-words.before.put-store.ensures in
-    let d = at-medium-words.before.before.before.before.before.before.delete_oldest_lem.ensures in
+    let d = at-medium-words.before.before.before.before.before.before.delete_oldest.ensures in
     rw (
       ← at-store-in.before.medium-in.ensures,
       ← at-store-in.store_in.ensures,

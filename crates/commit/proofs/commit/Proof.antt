@@ -44,7 +44,7 @@ returns-2 c =
     let at-enum-told = c.before.before.before in
     let a = at-enum-told.before.before.before.before.before.before.args in
     made_of c.refused2.ensures (stale a.edit a.name.now a.volume.now a.medium a.store at-enum-told.before.before.current.ensures
-    at-enum-told.enum_told.given.1 c.before.before.is_current_lem.ensures (not-true _ c.before.if1.true))
+    at-enum-told.enum_told.given.1 c.before.before.is_current.ensures (not-true _ c.before.if1.true))
 
 refused-requires-3 : tie.Need-refused-requires-3
 refused-requires-3 c κs = search rules
@@ -58,7 +58,7 @@ returns-3 c =
     let at-current = at-if1.before.before.before.before in
     let a = at-current.before.before.before.before.args in
     made_of c.refused3.ensures (spent a.edit a.name.now a.volume.now a.medium a.store at-current.current.ensures
-    at-if1.before.before.enum_told.given.1 at-if1.before.is_current_lem.ensures (not-false _ at-if1.if1.false) c.before.if2.true)
+    at-if1.before.before.enum_told.given.1 at-if1.before.is_current.ensures (not-false _ at-if1.if1.false) c.before.if2.true)
 
 rewrite-requires : tie.Need-rewrite-requires
 rewrite-requires c κs =
@@ -79,7 +79,7 @@ returns-4 c =
     let at-current = at-if1.before.before.before.before in
     let a = at-current.before.before.before.before.args in
     rewritten a.edit a.name.now a.volume.now a.medium a.store at-current.current.ensures at-if1.before.before.enum_told.given.1
-    at-if1.before.is_current_lem.ensures (not-false _ at-if1.if1.false) at-if2.if2.false c.before.before.rewrite.ensures
+    at-if1.before.is_current.ensures (not-false _ at-if1.if1.false) at-if2.if2.false c.before.before.rewrite.ensures
 
 pub commit-spec : {M : Type 1} → statement M
 commit-spec =

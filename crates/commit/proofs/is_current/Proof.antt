@@ -8,7 +8,7 @@ same-head-requires c κs = search rules
 
 returns : tie.Need-returns
 unfolding is_current
-returns c = rw c.same_head_lem.ensures
+returns c = rw c.same_head.ensures
 
 pub is-current-spec : {M : Type 1} → statement M
 is-current-spec =

@@ -1,7 +1,7 @@
 use borrow.Author.Rules.{rules}
 use Rattle.commit.specs.Commit.{same_head}
-use Rattle.commit.proofs.same_head_lem.Statement.{statement}
-use Rattle.commit.proofs.same_head_lem.Tie as tie
+use Rattle.commit.proofs.same_head.Statement.{statement}
+use Rattle.commit.proofs.same_head.Tie as tie
 
 same-crcs-requires : tie.Need-same-crcs-requires
 same-crcs-requires c κs = search rules

@@ -47,7 +47,7 @@ returns-3 c =
     let at-if1 = at-enum-told.before.before.before.before in
     let a = at-if1.before.before.args in
     whole a.size a.seed a.volume.now a.medium at-if1.if1.false at-enum-told.before.before.headers.ensures
-    at-enum-told.enum_told.given.1 c.before.before.format_over_lem.ensures
+    at-enum-told.enum_told.given.1 c.before.before.format_over.ensures
 
 pub format-spec : {M : Type 1} → statement M
 format-spec =

@@ -82,8 +82,8 @@ returns-5 c =
     let at-look = at-p2.before.before in
     let at-asked = at-look.before.before.before in
     let a = at-asked.before.before.before.args in
-    point_found a.volume.now a.medium a.store a.point.now at-asked.asked.ensures c.up_to_lem.result at-look.before.enum_told.given.1 _
-    at-look.look.ensures c.before.reader-of-id.result at-p2.p2.given.1 c.before.reader-of-id.ensures c.up_to_lem.ensures
+    point_found a.volume.now a.medium a.store a.point.now at-asked.asked.ensures c.up_to.result at-look.before.enum_told.given.1 _
+    at-look.look.ensures c.before.reader-of-id.result at-p2.p2.given.1 c.before.reader-of-id.ensures c.up_to.ensures
 
 pub read-point-spec : {M : Type 1} → statement M
 read-point-spec =

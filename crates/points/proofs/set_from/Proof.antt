@@ -25,8 +25,8 @@ returns : tie.Need-returns
 returns c =
     let at_end_of = c.before.before.before.before in
     let a = at_end_of.before.before.before.before.before.args in
-    from_refused a.fresh a.volume.now a.medium a.store a.point.now a.name.now _ at_end_of.end_of_lem.ensures c.not_set_lem.result
-    c.before.before.e.given.1 c.not_set_lem.ensures
+    from_refused a.fresh a.volume.now a.medium a.store a.point.now a.name.now _ at_end_of.end_of.ensures c.not_set.result
+    c.before.before.e.given.1 c.not_set.ensures
 
 same-length-2 : tie.Need-same-length-2
 same-length-2 c = search rules
@@ -37,7 +37,7 @@ returns-2 c =
     let at-e2 = at_mark.before.before.before in
     let at_end_of = at-e2.before.before in
     let a = at_end_of.before.before.before.before.before.args in
-    from_marked a.fresh a.volume.now a.medium a.store a.point.now a.name.now _ at_end_of.end_of_lem.ensures at_mark.mark.result
+    from_marked a.fresh a.volume.now a.medium a.store a.point.now a.name.now _ at_end_of.end_of.ensures at_mark.mark.result
     at-e2.e2.given.1 at_mark.mark.ensures.0 at_mark.mark.ensures.1
 
 pub set-from-spec : {M : Type 1} → statement M

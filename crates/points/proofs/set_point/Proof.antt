@@ -23,7 +23,7 @@ returns c =
     let at-asked = c.before.before.before.before in
     let a = at-asked.before.before.before.before.before.before.args in
     set_refused a.volume.now a.medium a.store a.point.now a.name.now at-asked.before.name-ok.ensures at-asked.asked.ensures
-    c.not_set_lem.result c.before.before.o.given.1 c.not_set_lem.ensures
+    c.not_set.result c.before.before.o.given.1 c.not_set.ensures
 
 enum_told : tie.Need-enum-told
 enum_told c = search rules

@@ -11,7 +11,7 @@ not-listed-requires c κs = search rules
 returns : tie.Need-returns
 returns c =
     let a = c.before.before.before.before.before.before.args in
-    short_refused a.volume.now a.medium a.store a.dir.now a.counts.now a.rows.now c.before.if1.true c.not_listed_lem.ensures
+    short_refused a.volume.now a.medium a.store a.dir.now a.counts.now a.rows.now c.before.if1.true c.not_listed.ensures
 
 dir-ok-requires : tie.Need-dir-ok-requires
 dir-ok-requires c κs = search rules

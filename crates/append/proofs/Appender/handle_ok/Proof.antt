@@ -15,7 +15,7 @@ tail-ok-requires c κs = search rules
 returns : tie.Need-returns
 unfolding appender_ok
 returns c =
-    rw (c.before.before.before.before.before.before.before.before.dir-ok.ensures, c.before.before.fill-ok.ensures, c.before.tail_ok_lem.ensures)
+    rw (c.before.before.before.before.before.before.before.before.dir-ok.ensures, c.before.before.fill-ok.ensures, c.before.tail_ok.ensures)
 
 pub handle-ok-spec : {M : Type 1} → statement M
 handle-ok-spec =

@@ -7,7 +7,7 @@ store-words-requires : tie.Need-store-words-requires
 store-words-requires c κs = search rules
 
 returns : tie.Need-returns
-returns c = (c.store_words_lem.ensures, refl)
+returns c = (c.store_words.ensures, refl)
 
 pub put-store-spec : {M : Type 1} → statement M
 put-store-spec =

@@ -31,7 +31,7 @@ returns c =
     let at-store-in = at-medium-words.before.before.before.before.before in
     let a = c.before.put-appender.ensures in
     let p = at-medium-words.before.put-store.ensures in
-    let d = at-medium-words.before.before.before.before.open_append_lem.ensures in
+    let d = at-medium-words.before.before.before.before.open_append.ensures in
     rw (
       ← at-store-in.before.medium-in.ensures,
       ← at-store-in.store_in.ensures,

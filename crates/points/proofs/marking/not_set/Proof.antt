@@ -1,6 +1,6 @@
 use borrow.Author.Rules.{rules}
-use Rattle.points.proofs.marking.not_set_lem.Statement.{statement}
-use Rattle.points.proofs.marking.not_set_lem.Tie as tie
+use Rattle.points.proofs.marking.not_set.Statement.{statement}
+use Rattle.points.proofs.marking.not_set.Tie as tie
 
 no-appender-requires : tie.Need-no-appender-requires
 no-appender-requires c κs = search rules

@@ -39,7 +39,7 @@ returns-2 : tie.Need-returns-2
 returns-2 c =
     let at-if1 = c.before.before.before.before in
     let a = at-if1.before.before.args in
-    opens_there a.volume.now a.medium a.store c.open_append_lem.result at-if1.if1.false c.open_append_lem.ensures
+    opens_there a.volume.now a.medium a.store c.open_append.result at-if1.if1.false c.open_append.ensures
 
 pub open_spec : {M : Type 1} → statement M
 open_spec =

@@ -13,7 +13,7 @@ stands-at-requires c κs = search rules
 returns : tie.Need-returns
 returns c =
     let a = c.before.before.before.before.args in
-    below_given a.limit a.volume.now a.medium a.store a.self a.out.now c.before.stands_at_lem.ensures c.if1.true
+    below_given a.limit a.volume.now a.medium a.store a.self a.out.now c.before.stands_at.ensures c.if1.true
 
 arrive-requires : tie.Need-arrive-requires
 arrive-requires c κs =
@@ -27,7 +27,7 @@ returns-2 : tie.Need-returns-2
 returns-2 c =
     let at-arrive = c.before.before.before.before in
     let a = at-arrive.before.before.before.before.before.args in
-    below_refused a.limit a.volume.now a.medium a.store a.self a.out.now at-arrive.before.before.stands_at_lem.ensures
+    below_refused a.limit a.volume.now a.medium a.store a.self a.out.now at-arrive.before.before.stands_at.ensures
     at-arrive.before.if1.false at-arrive.arrive.ensures c.before.o.given.1
 
 enum_told : tie.Need-enum-told
@@ -46,7 +46,7 @@ returns-3 c =
     let at-enum-told = c.before.before.before in
     let at-arrive = at-enum-told.before.before.before in
     let a = at-arrive.before.before.before.before.before.args in
-    below_end a.limit a.volume.now a.medium a.store a.self a.out.now at-arrive.before.before.stands_at_lem.ensures
+    below_end a.limit a.volume.now a.medium a.store a.self a.out.now at-arrive.before.before.stands_at.ensures
     at-arrive.before.if1.false at-arrive.arrive.ensures at-enum-told.enum_told.given.1 c.before.before.stands-at2.ensures
     (not-true _ c.if2.true)
 
@@ -81,7 +81,7 @@ returns-4 c =
     let at-stands-at2 = at_take.before.before.before.before in
     let at-arrive = at-stands-at2.before.before.before.before in
     let a = at-arrive.before.before.before.before.before.args in
-    below_taken a.limit a.volume.now a.medium a.store a.self a.out.now at-arrive.before.before.stands_at_lem.ensures
+    below_taken a.limit a.volume.now a.medium a.store a.self a.out.now at-arrive.before.before.stands_at.ensures
     at-arrive.before.if1.false at-arrive.arrive.ensures at-stands-at2.before.enum_told.given.1 at-stands-at2.stands-at2.ensures
     (not-false _ at_take.before.before.if2.false) at_take.take.ensures.0 at_take.take.ensures.1 c.cut.ensures
 

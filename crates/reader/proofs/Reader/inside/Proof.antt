@@ -8,7 +8,7 @@ end-of-requires c κs = search rules
 
 returns : tie.Need-returns
 unfolding inside_of
-returns c = rw c.end_of_lem.ensures
+returns c = rw c.end_of.ensures
 
 pub inside-spec : {M : Type 1} → statement M
 inside-spec = tie.close (tie.spec end-of-requires returns)

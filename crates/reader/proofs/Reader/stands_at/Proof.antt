@@ -1,7 +1,7 @@
 use Rattle.reader.specs.Upto.{stands_at}
 use Rattle.reader.proofs.Facts.{reader_facts, number_needs}
-use Rattle.reader.proofs.Reader.stands_at_lem.Statement.{statement}
-use Rattle.reader.proofs.Reader.stands_at_lem.Tie as tie
+use Rattle.reader.proofs.Reader.stands_at.Statement.{statement}
+use Rattle.reader.proofs.Reader.stands_at.Tie as tie
 
 number-at-requires : tie.Need-number-at-requires
 number-at-requires c κs =

@@ -8,7 +8,7 @@ end-of-requires c κs = search rules
 
 returns : tie.Need-returns
 unfolding start_of
-returns c = rw c.end_of_lem.ensures
+returns c = rw c.end_of.ensures
 
 pub start_spec : {M : Type 1} → statement M
 start_spec = tie.close (tie.spec end-of-requires returns)

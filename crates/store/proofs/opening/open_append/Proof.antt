@@ -39,7 +39,7 @@ returns-2 c =
     let at-admitted = c.before.before.before.before in
     let a = at-admitted.before.before.before.before.args in
     open_told a.volume.now a.medium a.store a.name.now a.rolls a.dir.now at-admitted.admitted.ensures
-    c.before.before.enum_told.given.1 c.before.rollover-of.ensures c.open_append_lem.ensures
+    c.before.before.enum_told.given.1 c.before.rollover-of.ensures c.open_append.ensures
 
 pub open-append-spec : {M : Type 1} → statement M
 open-append-spec =

@@ -1,0 +1,13 @@
+use Rattle.medium.specs.Refusal.{on_done}
+use Rattle.header.specs.Copies.{mount_of}
+use Rattle.header.proofs.mount.Goals as goal
+
+pub returns-in-No : goal.returns-in-No
+unfolding mount_of on_done
+returns-in-No c = rw (← c.current-c.ensures, c.in-No.is, c.no_store-store.ensures)
+
+
+pub returns : goal.returns
+unfolding mount_of on_done
+returns c = rw (← c.current-c.ensures, c.in_default.is, c.unfit-free.ensures)
+

@@ -1,0 +1,16 @@
+use Rattle.le.specs.Part.{zeros}
+use Rattle.medium.specs.Sector.{write_at}
+use Rattle.medium.proofs.Laws.{write_refused, write_done}
+use Rattle.medium.proofs.zero_sector.Goals as goal
+
+pub returns-in-No : goal.returns-in-No
+returns-in-No c =
+    let a = c.args in
+    write_refused a.volume.now a.medium a.at (zeros 512) c.spend-w.ensures c.in-No.is
+
+pub returns : goal.returns
+unfolding write_at
+returns c =
+    let a = c.args in
+    write_done a.volume.now a.medium a.at (zeros 512) c.spend-w.ensures c.in_default.is
+    c.put_zeros.ensures

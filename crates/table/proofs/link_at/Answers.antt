@@ -1,0 +1,16 @@
+use mathlib.Core.Path.{ap}
+use Prim.Native.Nat.{◌+◌, ◌*◌}
+use Rattle.table.proofs.Numbers.{link_refused, link_read}
+use Rattle.table.proofs.link_at.Goals as goal
+
+pub returns-in-No : goal.returns-in-No
+returns-in-No c =
+    let args = c.args in
+    link_refused args.volume.now args.medium args.store args.chunk c.due-o.ensures c.in-No.is
+
+pub returns : goal.returns
+returns c =
+    let args = c.args in
+    link_read args.volume.now args.medium args.store args.chunk c.due-o.ensures c.in_default.is
+    (ap (λ x. 512 * (x + 9) + 4 * args.chunk) c.base.ensures.0) c.get_u16-owner.ensures c.get_u16-place.ensures
+    c.link_of.ensures

@@ -91,6 +91,8 @@ def signatures(crates):
                 req = re.findall(r"(?m)^ *requires\*? ?(\w*) ?\{", whole)
                 ens = re.findall(r"(?m)^ *ensures\*? ?(\w*) ?\{", whole)
                 found[f"{crate}::{mod}{kind if m[1] else ''}{m[2]}"] = (params, req, ens)
+                if m[1] and kind:
+                    found.setdefault(f"{crate}::{kind}{m[2]}", (params, req, ens))
     return found
 
 

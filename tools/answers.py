@@ -153,7 +153,7 @@ def turn(folder, crate, fn, entry):
             rhs = body.split("=", 1)[1].strip() if "=" in body else ""
             if rhs == "search rules" and not any(l.startswith("unfolding") for l in d["lines"]):
                 continue
-            new = goal_name(m[1], needs)
+            new = goal_name(m[1], needs, d["name"])
             if new and not KEEP and re.match(r"(overflow|bounds|slice_bounds|shape_of|offset_bounds|nonzero)[_-]", new):
                 continue
             answers.append((m[1], d))
@@ -163,7 +163,7 @@ def turn(folder, crate, fn, entry):
             helpers.append(d)
     out = []
     for old, d in answers:
-        new = goal_name(old, needs)
+        new = goal_name(old, needs, d["name"])
         if new is None:
             print(f"left: {folder}: no goal for {old}: {[n for n in needs]}")
             new = "UNKNOWN-" + old
@@ -175,7 +175,7 @@ def turn(folder, crate, fn, entry):
             placed[d["name"]] = h
         else:
             plain.append(d)
-    out = [inlined(text, placed, lambda s: flat(s, fields, callee, own, aliases_alone=True)) for text in out]
+    out = [inlined(text, placed, lambda s: flat(s, fields, callee, own, ("c·",))) for text in out]
     helped = [helper(d, fields, places, callee, own) for d in plain]
     keep = [u for u in uses if ".Statement." not in u and ".Tie as tie" not in u]
     os.remove(os.path.join(folder, "Proof.antt"))
@@ -219,7 +219,12 @@ def wanted(uses, body):
     return out
 
 
-def goal_name(old, needs):
+def goal_name(old, needs, own):
+    o = norm(own)
+    if o not in ("returns",):
+        for pair in needs:
+            if norm(pair[0]) == o:
+                return pair[1]
     o = norm(old)
     for at in (0, 1):
         for pair in needs:
@@ -259,7 +264,7 @@ def recorded(text, names):
     return body[:i] + "record { " + "; ".join(f"{n} = {q.strip()}" for n, q in zip(names, parts)) + " }"
 
 
-def flat(text, fields, callee, own, args=("c",), aliases_alone=False):
+def flat(text, fields, callee, own, args=("c",)):
     """Paths from c without `before`, and steps by today's names."""
     alias = set(args)
     while True:
@@ -271,8 +276,6 @@ def flat(text, fields, callee, own, args=("c",), aliases_alone=False):
     pat = re.compile(r"(?<![\w.«»'-])(" + "|".join(re.escape(a) for a in sorted(alias, key=len, reverse=True)) + r")((?:\.before)+|(?=\.)|(?![\w.«»'-]))((?:\.[^\s(){}.;,@\"]+)*)")
 
     def one(m):
-        if aliases_alone and m[1] in args:
-            return m[0]
         path = m[3].split(".")[1:]
         path = [p for p in path if p != "before"]
         if path:
@@ -295,8 +298,9 @@ def flat(text, fields, callee, own, args=("c",), aliases_alone=False):
                     path[1] = own[0][int(n[1]) - 1]
             if path[0] == "requires" and len(path) > 1 and path[1].isdigit() and len(own[1]) > 1:
                 path[1] = own[1][int(path[1])]
-            if path[0] in callee and len(path) > 2 and path[1] in ("new", "auto") and path[2].isdigit() and int(path[2]) < len(callee[path[0]][0]):
+            if path[0] in callee and len(path) > 2 and path[1] in ("new", "auto", "last", "kept") and path[2].isdigit() and int(path[2]) < len(callee[path[0]][0]):
                 path[2] = callee[path[0]][0][int(path[2])]
+                path[1] = {"last": "new", "kept": "auto"}.get(path[1], path[1])
                 if path[1] == "auto" and len(path) > 3 and path[3] == "0":
                     del path[3]
             if path[0] in callee and len(path) > 2 and path[1] == "ensures" and path[2].isdigit() and len(callee[path[0]][2]) > 1:
@@ -317,8 +321,10 @@ def flat(text, fields, callee, own, args=("c",), aliases_alone=False):
     for m in re.finditer(r"let ([^\s:]+) = c\.args in\b", text):
         text = re.sub(rf"(?<![\w.]){re.escape(m[1])}\.t(\d+)", lambda k: f"{m[1]}.{own[0][int(k[1]) - 1] if int(k[1]) <= len(own[0]) else 't' + k[1]}", text)
     # a test of `not b` is told as b itself now
-    text = re.sub(r"\(not[-_](?:true|false) _ (c\.[^\s()]+\.(?:true|false))\)", r"\1", text)
-    text = re.sub(r"(?<![\w-])not[-_](?:true|false) _ (c\.[^\s()]+\.(?:true|false))", r"\1", text)
+    said = r"(?:_|\((?:[^()]|\([^()]*\))*\)|[^\s()]+)"
+    text = re.sub(r"\(c\)", "c", text)
+    text = re.sub(r"\(not[-_](?:true|false) " + said + r" (c\.[^\s()]+\.(?:true|false))\)", r"\1", text)
+    text = re.sub(r"(?<![\w-])not[-_](?:true|false) " + said + r" (c\.[^\s()]+\.(?:true|false))", r"\1", text)
     return text
 
 
@@ -375,25 +381,26 @@ def inlined(text, placed, again):
             if not spot.search(text):
                 continue
             if h["same"]:
-                text = spot.sub("c", text)
                 continue
             text = spot.sub(name, text)
             if name not in used:
-                inner_body, inner_type = cite(h["body"]), cite(h["type"])
+                inner_body, inner_type = cite(same(h["body"])), cite(same(h["type"]))
                 used.append(name)
                 opened.extend(o for o in h["opened"] if o not in opened)
                 lets.append(f"let {name} : {inner_type} = {inner_body} in")
         return text
 
+    def same(text):
+        for _ in range(4):
+            for name, h in placed.items():
+                if h["same"]:
+                    text = re.sub(rf"\({re.escape(name)} c·?\)|(?<![^\s(){{}};,]){re.escape(name)} c·?(?![^\s(){{}};,.])", "c·", text)
+            text = again(text)
+        return text
+
     lets = []
-    for _ in range(3):
-        for name, h in placed.items():
-            if h["same"]:
-                body = re.sub(rf"\({re.escape(name)} c\)|(?<![^\s(){{}};,]){re.escape(name)} c(?![^\s(){{}};,.])", "c", body)
-        body = again(body)
+    body = same(body)
     body = cite(body)
-    while any(h["same"] and re.search(rf"(?<![\w-]){re.escape(n)} c(?![\w-])", body) for n, h in placed.items()):
-        body = cite(body)
     if opened:
         k = next((i for i, l in enumerate(lines[:at]) if l.startswith("unfolding")), None)
         if k is None:

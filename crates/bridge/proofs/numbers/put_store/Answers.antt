@@ -1,0 +1,6 @@
+use mathlib.Core.Path.{refl}
+use Rattle.bridge.proofs.numbers.put_store.Goals as goal
+
+pub returns : goal.returns
+returns c = (c.store_words.ensures, refl)
+

@@ -1,0 +1,14 @@
+use Rattle.bridge.specs.Calls.{reader_at}
+use Rattle.bridge.proofs.port_reader.Goals as goal
+
+pub returns : goal.returns
+unfolding reader_at
+returns c =
+    rw (
+      ← c.medium_in.ensures,
+      ← c.store_in.ensures,
+      ← c.reader-r.ensures,
+      c.code.ensures,
+      c.reader_words.ensures,
+      c.medium_words.ensures,
+    )

@@ -1,0 +1,38 @@
+use Rattle.handles.proofs.Laws.{store_facts}
+use Rattle.reopen.proofs.Ways.{no_chain_lem, last_placed, no_count, file_opened}
+use Rattle.reopen.proofs.open_file.Goals as goal
+
+pub chain-c-requires : goal.chain-c-requires
+chain-c-requires c = let h = store_facts _ _ c.requires in (h.enough, h.head.chunks_most)
+
+
+pub overflow_sub-position : goal.overflow_sub-position
+overflow_sub-position c =
+    let a = c.args in
+    (last_placed a.rollover a.volume.now a.medium a.store a.slot a.id c.chain-c.ensures c.in-Whole.is
+    c.requires).0
+
+pub count_records-n-requires : goal.count_records-n-requires
+count_records-n-requires c =
+    let a = c.args in
+    let l = last_placed a.rollover a.volume.now a.medium a.store a.slot a.id c.chain-c.ensures c.in-Whole.is
+    c.requires in
+    (c.requires, l.1, l.2)
+
+pub returns-in-Refused : goal.returns-in-Refused
+returns-in-Refused c =
+    let a = c.args in
+    no_chain_lem a.rollover a.volume.now a.medium a.store a.slot a.id c.chain-c.ensures c.in-Refused.is
+    c.refused.ensures
+
+pub returns-in-Refused-n : goal.returns-in-Refused-n
+returns-in-Refused-n c =
+    let a = c.args in
+    no_count a.rollover a.volume.now a.medium a.store a.slot a.id c.chain-c.ensures c.in-Whole.is
+    c.count_records-n.ensures c.in-Refused-n.is c.refused-in-Refused-n.ensures
+
+pub returns-in-Are : goal.returns-in-Are
+returns-in-Are c =
+    let a = c.args in
+    file_opened a.rollover a.volume.now a.medium a.store a.slot a.id c.chain-c.ensures c.in-Whole.is
+    c.count_records-n.ensures c.in-Are.is c.tail_for-tail.ensures c.opened.ensures

@@ -1,0 +1,35 @@
+use Rattle.directory.proofs.Ranges.{find_name}
+use Rattle.le.proofs.Turns.{told}
+use Rattle.store.proofs.Laws.{asked_done}
+use Rattle.store.proofs.Deletes.{input_refused, not_found, removed}
+use Rattle.store.proofs.delete.Goals as goal
+
+pub returns-in-No : goal.returns-in-No
+returns-in-No c =
+    let a = c.args in
+    input_refused a.volume.now a.medium a.store a.name.now c.name_ok.ensures c.asked-o.ensures
+    c.in-No.is c.as_given.ensures
+
+pub find-f-requires : goal.find-f-requires
+find-f-requires c =
+    let args = c.args in
+    (asked_done args.volume.now args.store _ c.asked-o.ensures c.in_default.is).held.enough
+
+pub remove-requires : goal.remove-requires
+remove-requires c =
+    let a = c.args in (
+      (asked_done a.volume.now a.store _ c.asked-o.ensures c.in_default.is).ok,
+      (find_name a.volume.now a.medium a.store a.name.now (told c.find-f.ensures c.in-At.is)).below,
+    )
+
+pub returns-in-Refused : goal.returns-in-Refused
+returns-in-Refused c =
+    let a = c.args in
+    not_found a.volume.now a.medium a.store a.name.now c.name_ok.ensures c.asked-o.ensures
+    c.in_default.is c.find-f.ensures c.in-Refused.is c.as_given-in-Refused.ensures
+
+pub returns-in-At : goal.returns-in-At
+returns-in-At c =
+    let a = c.args in
+    removed a.volume.now a.medium a.store a.name.now c.name_ok.ensures c.asked-o.ensures
+    c.in_default.is c.find-f.ensures c.in-At.is c.remove.ensures c.committed.ensures

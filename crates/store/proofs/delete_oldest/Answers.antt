@@ -1,0 +1,21 @@
+use Rattle.store.proofs.Laws.{asked_done}
+use Rattle.store.proofs.Deletes.{dir_refused, oldest_told_lem}
+use Rattle.store.proofs.delete_oldest.Goals as goal
+
+pub returns-in-No : goal.returns-in-No
+returns-in-No c =
+    let a = c.args in
+    dir_refused a.volume.now a.medium a.store a.dir.now c.dir_ok.ensures c.asked-o.ensures
+    c.in-No.is c.none_gone.ensures
+
+pub remove_oldest-requires : goal.remove_oldest-requires
+remove_oldest-requires c =
+    let args = c.args in
+    (asked_done args.volume.now args.store _ c.asked-o.ensures c.in_default.is).ok
+
+pub returns : goal.returns
+returns c =
+    let a = c.args in
+    oldest_told_lem a.volume.now a.medium a.store a.dir.now c.dir_ok.ensures c.asked-o.ensures
+    c.in_default.is c.is_open-keeping.ensures c.open_id-keep.ensures
+    c.remove_oldest.ensures

@@ -52,7 +52,7 @@ Differ (q ∷ qs) = Fits q × ((r : Pin) → Memᴰ r qs → r.name ≢ q.name) 
 
 more_mem : (r : Pin) (qs : List Pin) (q : Pin) → Memᴰ r (qs ++ (q ∷ [])) → Memᴰ r qs ⊎ (r ≡ q)
 more_mem r [] q (Memᴰ.head e) = inr e
-more_mem r [] q (Memᴰ.tail m) = absurd (Memᴰ.not_nil m)
+more_mem r [] q (Memᴰ.tail m) = absurd (Memᴰ.not-nil m)
 more_mem r (x ∷ qs) q (Memᴰ.head e) = inl (Memᴰ.head e)
 more_mem r (x ∷ qs) q (Memᴰ.tail m) = go (more_mem r qs q m)
   where
@@ -61,7 +61,7 @@ more_mem r (x ∷ qs) q (Memᴰ.tail m) = go (more_mem r qs q m)
     go (inr e) = inr e
 
 pub differ_more : (qs : List Pin) (q : Pin) → Differ qs → Fits q → ((r : Pin) → Memᴰ r qs → r.name ≢ q.name) → Differ (qs ++ (q ∷ []))
-differ_more [] q d t h = (t, λ r m. absurd (Memᴰ.not_nil m), tt)
+differ_more [] q d t h = (t, λ r m. absurd (Memᴰ.not-nil m), tt)
 differ_more (x ∷ qs) q d t h = (d.0, λ r m. go r (more_mem r qs q m), differ_more qs q d.2 t (λ r m. h r (Memᴰ.tail m)))
   where
     go : (r : Pin) → Memᴰ r qs ⊎ (r ≡ q) → r.name ≢ x.name
@@ -109,7 +109,7 @@ module _ (vol : List ℕ) (m : Medium) (st : Store) (G : ℕ → List Segment) (
   pub look_set : (q : Pin) → Memᴰ q pins → look_of vol m st q.name ≡ ok (line q.id q.number)
   unfolding place_of
   look_set q has =
-      let o = found_by q.name (λ l. l ≡ line q.id q.number) (λ e. absurd (Memᴰ.not_nil (subst (Memᴰ q) e has))) (rw (says_pin pins d q has)) in
+      let o = found_by q.name (λ l. l ≡ line q.id q.number) (λ e. absurd (Memᴰ.not-nil (subst (Memᴰ q) e has))) (rw (says_pin pins d q has)) in
       o.1 ∙ ap ok o.2
 
   -- ---- reading

@@ -82,6 +82,7 @@ chunks_kept p (x ∷ fs) =
 -- where a file with a chunk went they are fewer
 pub chunks_fewer : (p : File → Bool) (f : File) (fs : List File) → Mem f fs → p f ≡ false → 1 ≤ f.chunks → chunks_in (keep p fs) < chunks_in fs
 unfolding chunks_in keep
+chunks_fewer p f [] m gone some = elim m [ ]
 chunks_fewer p f (x ∷ fs) (Memᴰ.head e) gone some =
     let n : f.chunks ≡ x.chunks = ap (λ (g : File). g.chunks) e in
     rw (pick_false (x ∷ keep p fs) (keep p fs) (ap p (sym e) ∙ gone)) (omega (arith, n, chunks_kept p fs))
@@ -143,7 +144,7 @@ module _ {D : Disk} {G : ℕ → List Segment} {files : List File} (d : Good D G
   held_most [] sub p h = rw (tally_none p D.chunks (λ c l. none c l (p c) refl)) (omega arith)
     where
       none : (c : ℕ) → c < D.chunks → (s : Bool) → p c ≡ s → s ≡ false
-      none c l true e = absurd (Memᴰ.not_nil (h c l e).among)
+      none c l true e = absurd (Memᴰ.not-nil (h c l e).among)
       none c l false e = refl
   held_most (x ∷ fs) sub p h =
       let o = t.from x (sub x (Memᴰ.head refl)) in

@@ -112,7 +112,7 @@ module _ (name : List ℕ) (l : List (List ℕ)) where
 
   pub holding_entered : (t : Terms) (k : Kind) (b : Book) → Holding name l b.files → Quiet name l t k b → Holding name l (entered t k b).files
   unfolding entered Quiet without_name
-  holding_entered t formatted b h q f m e = absurd (Memᴰ.not_nil m)
+  holding_entered t formatted b h q f m e = absurd (Memᴰ.not-nil m)
   holding_entered t rolled_over b h q f m e = h f (oldest_mem t.dir t.spared f b.files m) e
   holding_entered t deleted_oldest b h q f m e = h f (oldest_mem t.dir t.spared f b.files m) e
   holding_entered t deleted b h q f m e = h f (keep_mem _ f b.files m).0 e

@@ -22,11 +22,12 @@ Mem f fs = Memᴰ f fs
 -- ---- one file changed
 
 mem_map : (u : File → File) (f : File) (fs : List File) → Mem f fs → Mem (u f) (map u fs)
+mem_map u f [] m = elim m [ ]
 mem_map u f (x ∷ fs) (Memᴰ.head e) = Memᴰ.head (ap u e)
 mem_map u f (x ∷ fs) (Memᴰ.tail m) = Memᴰ.tail (mem_map u f fs m)
 
 map_mem : (u : File → File) (g : File) (fs : List File) → Mem g (map u fs) → (f : File) × Mem f fs × (g ≡ u f)
-map_mem u g [] m = absurd (Memᴰ.not_nil m)
+map_mem u g [] m = absurd (Memᴰ.not-nil m)
 map_mem u g (x ∷ fs) m = go (Memᴰ.cases_cons m) (λ t. map_mem u g fs t)
   where
     go : (g ≡ u x) ⊎ Mem g (map u fs) → (Mem g (map u fs) → (f : File) × Mem f fs × (g ≡ u f)) → (f : File) × Mem f (x ∷ fs) × (g ≡ u f)
@@ -70,13 +71,14 @@ module _ (id : ℕ) (u : File → File) where
 module _ (p : File → Bool) where
   pub mem_keep : (f : File) (fs : List File) → Mem f fs → p f ≡ true → Mem f (keep p fs)
   unfolding keep
+  mem_keep f [] m q = elim m [ ]
   mem_keep f (x ∷ fs) (Memᴰ.head e) q = rw (pick_true (x ∷ keep p fs) (keep p fs) (ap p (sym e) ∙ q)) (Memᴰ.head e)
   mem_keep f (x ∷ fs) (Memᴰ.tail m) q =
       pick_keeps (Mem f) (p x) (x ∷ keep p fs) (keep p fs) (Memᴰ.tail (mem_keep f fs m q)) (mem_keep f fs m q)
 
   pub keep_mem : (f : File) (fs : List File) → Mem f (keep p fs) → Mem f fs × (p f ≡ true)
   unfolding keep
-  keep_mem f [] = λ m. absurd (Memᴰ.not_nil m)
+  keep_mem f [] = λ m. absurd (Memᴰ.not-nil m)
   keep_mem f (x ∷ fs) =
       pick_keeps_by (λ (l : List File). Mem f l → Mem f (x ∷ fs) × (p f ≡ true)) (p x) (x ∷ keep p fs) (keep p fs)
       (λ e m. step e (λ t. keep_mem f fs t) (Memᴰ.cases_cons m))
@@ -117,6 +119,7 @@ not_other id f e = rw (ne_eqb f.id id e)
 
 pub length_without : (f : File) (fs : List File) → Apart fs → Mem f fs → length (keep (is_not f.id) fs) + 1 ≡ length fs
 unfolding keep
+length_without f [] a m = elim m [ ]
 length_without f (x ∷ fs) a (Memᴰ.head e) =
     let all : keep (is_not f.id) fs ≡ fs = keep_all (is_not f.id) fs (λ g m. not_other f.id g (λ q. a.0 g m (ap (λ (h : File). h.id) (sym e) ∙ sym q))) in
     rw (pick_false (x ∷ keep (is_not f.id) fs) (keep (is_not f.id) fs) (not_here f.id x (ap (λ (h : File). h.id) (sym e))), all) (omega arith)
@@ -127,7 +130,7 @@ length_without f (x ∷ fs) a (Memᴰ.tail m) =
 -- ---- a file added
 
 pub apart_more : (fs : List File) (f : File) → Apart fs → ((g : File) → Mem g fs → g.id ≢ f.id) → Apart (fs ++ (f ∷ []))
-apart_more [] f a h = (λ g m. absurd (Memᴰ.not_nil m), tt)
+apart_more [] f a h = (λ g m. absurd (Memᴰ.not-nil m), tt)
 apart_more (x ∷ fs) f a h = (λ g m. go g (Memᴰ.append_cases fs m), apart_more fs f a.1 (λ g m. h g (Memᴰ.tail m)))
   where
     go : (g : File) → Mem g fs ⊎ Mem g (f ∷ []) → x.id ≢ g.id
@@ -183,7 +186,7 @@ smallest_more x fs = go (smallest fs) refl
 
 least_smallest : (fs : List File) → Least fs (smallest fs)
 unfolding smallest
-least_smallest [] = λ g m. Memᴰ.not_nil m
+least_smallest [] = λ g m. Memᴰ.not-nil m
 least_smallest (x ∷ fs) = subst (Least (x ∷ fs)) (sym (smallest_more x fs)) (least_more x fs (smallest fs) (least_smallest fs))
 
 pub smallest_is : (fs : List File) (f : File) → Mem f fs → ((g : File) → Mem g fs → f.id ≤ g.id) → smallest fs ≡ some f.id

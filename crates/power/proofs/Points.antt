@@ -62,6 +62,7 @@ has_some name (f ∷ fs) h = go (λ k. has_some name fs k) (same_bytes name f.na
 
 pub has_none : (name : List ℕ) (fs : List File) → has_name name fs ≡ false → (f : File) → Mem f fs → f.name ≢ name
 unfolding has_name
+has_none name [] h f m e = elim m [ ]
 has_none name (x ∷ fs) h f (Memᴰ.head q) e =
     let s : same_bytes name x.name ≡ true = ap (same_bytes name) (ap (λ (y : File). y.name) (sym q) ∙ e) ∙ same_self name in
     absurd (true≢false (sym (ap (λ (t : Bool). t || has_name name fs) s) ∙ h))
@@ -220,7 +221,7 @@ module _ (name : List ℕ) (some : name ≢ []) (line_of : Pin → List ℕ) whe
       b' = written c (fed_by w c) b
 
       empty : (files : List File) → files ≡ [] → has_name name files ≡ true → ⊥
-      empty files e h = let o = has_some name files h in Memᴰ.not_nil (subst (Mem o.0) e o.1)
+      empty files e h = let o = has_some name files h in Memᴰ.not-nil (subst (Mem o.0) e o.1)
 
       go : (t : Bool) → begins c (ran w c).accepted ≡ t → Points b' (forgotten name b'.files pins)
       go true e = settled b' pins (has_name name b'.files) refl (λ h. absurd (empty b'.files (begins_empty c w b e) h))

@@ -29,6 +29,7 @@ use Rattle.power.proofs.Points.{Each, Points, history_points, pin_new, pin_found
 use Rattle.power.proofs.Sets.{still_points, unmade_points, set_opened, set_made}
 
 pub each_pin : (b : Fine) (qs : List Pin) → Each b qs → (q : Pin) → Memᴰ q qs → Pinned b q
+each_pin b [] h q m = elim m [ ]
 each_pin b (x ∷ qs) h q (Memᴰ.head e) = subst (Pinned b) (sym e) h.0
 each_pin b (x ∷ qs) h q (Memᴰ.tail m) = each_pin b qs h.1 q m
 
@@ -46,7 +47,7 @@ module _ (name : List ℕ) (some : name ≢ []) (line_of : Pin → List ℕ) whe
         fine = new_fine size;
         same = refl;
         keeps = started_fine vol m size seed ap bytes a r clean;
-        points = record { each = tt; lines = λ f mem e. absurd (Memᴰ.not_nil mem); none = λ _. refl };
+        points = record { each = tt; lines = λ f mem e. absurd (Memᴰ.not-nil mem); none = λ _. refl };
       }
 
   -- calls that put no record into a file of the name

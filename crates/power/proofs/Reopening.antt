@@ -69,6 +69,7 @@ use Rattle.power.proofs.Queries.{keeps_medium}
 
 pub id_of_lem : (name : List ℕ) (fs : List File) (x : File) → Mem x fs → x.name ≡ name → ((f : File) → Mem f fs → f.name ≡ name → f.id ≡ x.id) → id_of name fs ≡ x.id
 unfolding id_of
+id_of_lem name [] x m n one = elim m [ ]
 id_of_lem name (y ∷ fs) x (Memᴰ.head e) n one =
     pick_true _ _ (ap (same_bytes name) (ap (λ (f : File). f.name) (sym e) ∙ n) ∙ same_self name) ∙ ap (λ (f : File). f.id) (sym e)
 id_of_lem name (y ∷ fs) x (Memᴰ.tail m) n one =

@@ -210,7 +210,7 @@ module _ (rules : Rules) (name_a : List ℕ) (allows : Allows rules name_a) (fin
 
         next₁ : Next w₀ new_book create_a (created ∷ []) 0 0 2
         unfolding chunks_in
-        next₁ = create_next stage₀ rules name_a false [] allows fine_a (omega arith) (omega arith) (λ f mem. absurd (Memᴰ.not_nil mem)) (omega arith) (omega arith)
+        next₁ = create_next stage₀ rules name_a false [] allows fine_a (omega arith) (omega arith) (λ f mem. absurd (Memᴰ.not-nil mem)) (omega arith) (omega arith)
 
         book₁ : written create_a (fed_by w₀ create_a) new_book ≡ with_a [] []
         unfolding written terms_of entered_all entered before_steps after_steps pick

@@ -61,7 +61,7 @@ pub ties_fresh : {E : Disk} → Fresh E → Ties E (λ s. []) []
 ties_fresh {E} w =
     record {
       into = λ s n i h e. absurd (vacant≢named (w.entries s h) e);
-      from = λ f m. absurd (Memᴰ.not_nil m);
+      from = λ f m. absurd (Memᴰ.not-nil m);
       apart = tt;
       many = sym (tally_none (counts E) 64 (λ s h. vacant_counts (w.entries s h)));
     }

@@ -12,6 +12,8 @@ import sys
 sys.path.insert(0, os.path.join(os.path.dirname(os.path.abspath(__file__)), "..", "..", "docs"))
 from sources import ROOT, declarations, files, imported, indent, module
 
+OF_FUNCTIONS = ("/Answers.antt", "/Invariants.antt", "/Proof.antt")
+
 
 def unused(sources, codes):
     takers = collections.Counter()  # (module, name) or module: how many files use it
@@ -21,11 +23,15 @@ def unused(sources, codes):
             takers.update((path, name) for name, called in imported(items) if called in words)
             if alias and any("%s.%s" % (alias, w) in line for line in f.bare for w in words):
                 takers[path] += 1
+        # of a tactic's list in the code: crate::proofs::Runs::law
+        crate = f.path.split("/")[1]
+        for path, name in re.findall(r"\bcrate((?:::\w+)+)::(\w+)", " ".join(f.bare)) if f.path.endswith(".rt") else ():
+            takers["Rattle." + crate + path.replace("::", "."), name] += 1
     for f in sources:
         for name, lines, _ in declarations(f):
-            asked = name.endswith("-spec") and f.path.endswith("/Proof.antt")  # by the checker, of each function
+            asked = f.path.endswith(OF_FUNCTIONS) and re.search(r" : (goal\.|.* statement )", f.bare[lines[0]])  # by the checker, of each function
             inside = name in f.words(k for k in range(len(f.bare)) if k not in lines)
-            if not (asked or inside or any(takers[m, name] or takers[m] for m in module(f.path))):
+            if not (asked or inside or takers[module(f.path), name] or takers[module(f.path)]):
                 yield "%s:%d: `%s`" % (f.path, lines[0] + 1, name), name
 
 
@@ -49,7 +55,7 @@ def statement(f, name, lines):
 def repeated(sources):
     laws = collections.defaultdict(list)
     for f in sources:
-        if "/proofs/" in f.path and not f.path.endswith("/Proof.antt"):
+        if "/proofs/" in f.path and not f.path.endswith(OF_FUNCTIONS):
             for name, lines, _ in declarations(f):
                 line = f.bare[lines[0]]
                 if indent(line) == 0 and " : " in line and re.search("[≡≤<⊥]", told := statement(f, name, lines)):

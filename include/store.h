@@ -3,7 +3,7 @@
  *
  * Four calls for firmware: mount, format, delete, list. The functions are
  * compiled from proved code (crates/firmware); this header is kept by hand.
- * Link target/staticlib/libfirmware.a (made by `rt staticlib firmware`).
+ * Link target/staticlib/libfirmware.a (made by `tools/archive firmware`).
  *
  * What the archive asks of the program that links it. tests/firmware reads it
  * off the machine code, and fails where more is asked than stands here:

@@ -1,6 +1,7 @@
 #!/usr/bin/env python3
 """Each law is there for something, and is stated once. Fails at a name declared in specs or proofs that nothing uses and docs/PROOFS.md does not
-give as a result, and at two laws whose statements are equal up to the names of their variables.
+give as a result, and at two laws whose statements are equal up to the names of their variables. Laws that had landed, and that today's check does
+without, are kept: docs/PORT.md lists them under "Laws that no proof cites any more".
 
 A use is a mention outside of the name's own declaration, comments and imports: in the same file, or in a file that imports it from there. So a name
 that only a variable shares counts as used."""
@@ -10,7 +11,7 @@ import re
 import sys
 
 sys.path.insert(0, os.path.join(os.path.dirname(os.path.abspath(__file__)), "..", "..", "docs"))
-from sources import ROOT, declarations, files, imported, indent, module
+from sources import declarations, files, imported, indent, module, read
 
 OF_FUNCTIONS = ("/Answers.antt", "/Invariants.antt", "/Proof.antt")
 
@@ -65,7 +66,7 @@ def repeated(sources):
 
 def main():
     sources = [f for f in files("crates", ".antt") if not f.path.endswith("/Lib.antt")]
-    results = open(os.path.join(ROOT, "docs", "PROOFS.md"), encoding="utf-8").read()
+    results = read("docs/PROOFS.md") + "".join(re.findall(r"^## Laws that no proof cites any more\n(.*?)(?=^## |\Z)", read("docs/PORT.md"), re.M | re.S))
     dead = [place for place, name in unused(sources, list(files("crates", ".rt"))) if "`%s`" % name not in results]
     twice = repeated(sources)
     print("laws: %d files read; %d names that nothing uses, %d laws stated twice" % (len(sources), len(dead), len(twice)))

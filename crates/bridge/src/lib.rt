@@ -1,5 +1,5 @@
 // The calls that only read, for a program in another language that keeps the handles between calls: the
-// comparison with the Rust links this crate, and bridge_write for the calls that write. A slice crosses as a
+// comparison with the Rust links bridge_c over this crate, and bridge_write_c for the calls that write. A slice crosses as a
 // pointer and a length, an array as a pointer. Each function returns 0 or the number of the refusal. Of a
 // number for a field of 32 bits the low 32 count.
 //   medium: left, unreadable, entropy, token.

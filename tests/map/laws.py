@@ -30,6 +30,8 @@ def unused(sources, codes):
             takers["Rattle." + crate + path.replace("::", "."), name] += 1
     for f in sources:
         for name, lines, _ in declarations(f):
+            if f.path.endswith("/Invariants.antt") and indent(f.bare[lines[0]]):
+                continue  # a part of an invariant, which the check reads
             asked = f.path.endswith(OF_FUNCTIONS) and re.search(r" : (goal\.|.* statement )", f.bare[lines[0]])  # by the checker, of each function
             inside = name in f.words(k for k in range(len(f.bare)) if k not in lines)
             if not (asked or inside or takers[module(f.path), name] or takers[module(f.path)]):

@@ -4,7 +4,7 @@
 #![tactic(auto)]
 
 pub mod appenders;
-mod opening;
+pub mod opening;
 
 ghost use Rattle.std.specs.Prelude.{◌≡◌};
 ghost use Rattle.bridge_write.specs.Writing.{format_at, delete_at, oldest_at, append_at, sync_at, room_at};

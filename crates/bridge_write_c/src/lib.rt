@@ -4,7 +4,7 @@
 #![tactic(auto)]
 
 ghost use Rattle.std.specs.Prelude.{◌≡◌};
-ghost use Rattle.bridge_write.specs.Writing.{format_at, delete_at, oldest_at, append_at, sync_at, room_at};
+ghost use Rattle.bridge_write.specs.Writing.{format_at, delete_at, oldest_at, append_at, sync_at, room_at, create_at, open_at};
 
 // The store is all zeros where it is refused.
 #[unsafe(no_mangle)]
@@ -100,4 +100,48 @@ pub extern "C" fn port_room(
         buffer.now dir.now }
 {
     bridge_write::port_room(appender, buffer, dir, answer)
+}
+
+// The calls that open a file to append: `rolls` is 0 or else, and `over` the 40 bytes of the appender's directory. Refused, the appender is all zeros and
+// closed.
+#[unsafe(no_mangle)]
+pub extern "C" fn port_create(
+    volume: &mut [u8],
+    medium: &mut [u64; 4],
+    store: &mut [u64; 43],
+    crcs: &mut [u32; 24],
+    name: &[u8],
+    rolls: u32,
+    dir: &[u8],
+    appender: &mut [u64; 10],
+    buffer: &mut [u8; 486],
+    over: &mut [u8; 40],
+) -> u32
+    ensures { (volume.new, result, store.new, crcs.new, appender.new, buffer.new, over.new, medium.new)
+        ≡ create_at volume.old medium.old store.old crcs.old name.now rolls dir.now }
+{
+    bridge_write::opening::port_create(
+        volume, medium, store, crcs, name, rolls, dir, appender, buffer, over,
+    )
+}
+
+#[unsafe(no_mangle)]
+pub extern "C" fn port_open_append(
+    volume: &[u8],
+    medium: &mut [u64; 4],
+    store: &mut [u64; 43],
+    crcs: &mut [u32; 24],
+    name: &[u8],
+    rolls: u32,
+    dir: &[u8],
+    appender: &mut [u64; 10],
+    buffer: &mut [u8; 486],
+    over: &mut [u8; 40],
+) -> u32
+    ensures { (result, store.new, crcs.new, appender.new, buffer.new, over.new, medium.new)
+        ≡ open_at volume.now medium.old store.old crcs.old name.now rolls dir.now }
+{
+    bridge_write::opening::port_open_append(
+        volume, medium, store, crcs, name, rolls, dir, appender, buffer, over,
+    )
 }

@@ -106,7 +106,7 @@ def main():
     print("| crate | fault | the prover |\n|---|---|---|")
     for crate, name, what in rows:
         verdict = said.get((crate, name), "no answer")
-        first = re.search(r": (?:\./)?(proofs/\S+:\d+:\d+): error", verdict)
+        first = re.search(r": (?:note: )?(?:\./)?(\S+:\d+:\d+): ", verdict)
         if verdict.startswith("refused") and (why := broken(verdict)):
             verdict = f"NO PROOF REFUSES IT: {why}"
         refused += verdict.startswith("refused")

@@ -1,4 +1,4 @@
-// Links the proved archives that `rt staticlib` writes of bridge, bridge_write and bench_port.
+// Links the proved archives that tools/archive makes of bridge, bridge_write and bench_port.
 fn main() {
     let root = std::path::Path::new(env!("CARGO_MANIFEST_DIR")).join("../target/staticlib");
     println!("cargo::rustc-link-search=native={}", root.display());

@@ -16,7 +16,7 @@ import re
 import sys
 
 sys.dont_write_bytecode = True
-from sources import ROOT, declarations, files, imported, module, usage
+from sources import ROOT, crates, declarations, files, imported, module, usage
 
 # who needs definitions: a title, and where it starts: functions of a crate by their contracts, or definitions by their file and name
 STARTS = [
@@ -25,17 +25,17 @@ STARTS = [
     ("old or new", {}, [("crates/power/specs/OldOrNew.antt", n) for n in ("AfterFormat", "ValidMounts")]),
     ("map", {}, [("crates/power/specs/Map.antt", "MapHolds")]),
     ("blank", {"record": ["judge"]}, [("crates/record/specs/Edges.antt", "Edges")]
-        + [("crates/reader/specs/Earlier.antt", n) for n in ("nextEarlier", "belowEarlier", "nextForgot", "belowForgot")]),
+        + [("crates/reader/specs/Earlier.antt", n) for n in ("next_earlier", "below_earlier", "next_forgot", "below_forgot")]),
     ("dots", {}, [("crates/store/specs/Dots.antt", "Dots"), ("crates/names/specs/Edges.antt", "Edges")]),
     ("widths", {}, [("crates/store/specs/Widths.antt", "Widths")]),
     ("tables", {}, [("crates/checksum/specs/Tables.antt", "Sixteen")]),
     ("points", {"points": ["set_point", "read_point"]}, [("crates/hatch/specs/Claim.antt", n) for n in ("CountsAsCalls", "SetByCalls", "Demand3Acts", "PowerStop")]
         + [("crates/hatch/specs/Pins.antt", "AsSet"), ("crates/marks/specs/Edges.antt", "Edges")]),
     ("edges", {}, [("crates/store/specs/Edges.antt", "Starred")]),
-    ("writes", {}, [("crates/writes/specs/Writes.antt", n) for n in ("Most", "commitMost", "createMost", "recordsMost")]
-        + [("crates/writes/specs/More.antt", n) for n in ("writeMore", "oldestMore", "appMore")]
+    ("writes", {}, [("crates/writes/specs/Writes.antt", n) for n in ("Most", "commit_most", "create_most", "records_most")]
+        + [("crates/writes/specs/More.antt", n) for n in ("write_more", "oldest_more", "app_more")]
         + [("crates/power/specs/Room.antt", n) for n in ("Tells", "Allows", "CanCommit", "HasRoom", "TakesChunk")]),
-    ("hosts", {"firmware": ["store_mount", "store_format", "store_delete", "store_list"], "lines": ["feed", "last"]}, [("crates/lines/specs/Program.antt", "printedOf")]),
+    ("hosts", {"firmware": ["store_mount", "store_format", "store_delete", "store_list"], "lines": ["feed", "last"]}, [("crates/lines/specs/Program.antt", "printed_of")]),
 ]
 
 
@@ -101,10 +101,9 @@ def table(known, groups):
             row = count.setdefault(key[0].split("/")[1], dict.fromkeys((t for t, _ in groups), 0))
             row[title] += size
     titles = [t for t, _ in groups]
-    order = [l.split(":")[0] for l in open(os.path.join(ROOT, "crates.txt"), encoding="utf-8") if ":" in l and l[0] != "#"]
     yield "| crate | " + " | ".join(titles) + " |"
     yield "|---" * (len(titles) + 1) + "|"
-    for crate in (c for c in order if c in count):
+    for crate in (c for c in crates() if c in count):
         yield "| %s | %s |" % (crate, " | ".join(str(count[crate][t] or "") for t in titles))
     yield "| all | %s |" % " | ".join(str(sum(row[t] for row in count.values())) for t in titles)
 
@@ -113,7 +112,7 @@ def main():
     if sys.argv[1:] not in ([], ["--names"], ["--check"]):
         usage("docs/believe.py [--names | --check]")
     known = definitions()
-    homes = {m: path for path, _ in known for m in module(path)}
+    homes = {module(path): path for path, _ in known}
     groups = needed(known, homes)
     rows = list(table(known, groups))
     if "--check" in sys.argv:

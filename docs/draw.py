@@ -7,6 +7,7 @@ import os
 import sys
 
 sys.dont_write_bytecode = True
+from sources import crates as listed
 from sources import usage
 
 SECTOR = 512  # bytes of a sector
@@ -247,7 +248,8 @@ def commit():
 # The crates in bands, the lowest last; docs/crates.svg. A crate leans only on crates of its own band or of lower ones.
 BANDS = [
     ("programs and hosts", ["lines", "session", "firmware"]),
-    ("for tests and bench", ["bridge_points", "bridge_write", "bridge", "bench_port", "checksum_vectors", "mix_vectors"]),
+    ("C for tests and bench", ["bridge_points", "bridge_write_c", "bridge_c", "bench_port"]),
+    ("for tests", ["bridge_write", "bridge", "checksum_vectors", "mix_vectors"]),
     ("demand 3, writes", ["hatch", "power", "writes"]),
     ("on offer", ["points", "store"]),
     ("laws for demand 3", ["reading", "folds", "views", "layout", "safe"]),
@@ -258,18 +260,10 @@ BANDS = [
     ("ground", ["seal", "medium", "walk", "mix", "checksum", "decimal", "freemap", "runs", "le"]),
 ]
 LAWS = {"hatch", "power", "writes", "reading", "folds", "views", "layout", "safe"}
-FROM_KIT = {"io", "libc"}
-
-
-def leaning():
-    """crates.txt: what each crate leans on."""
-    path = os.path.join(os.path.dirname(os.path.abspath(__file__)), "..", "crates.txt")
-    rows = [row.split(":") for row in open(path, encoding="utf-8") if ":" in row and not row.startswith("#")]
-    return {name.strip(): set(deps.split()) - FROM_KIT for name, deps in rows}
 
 
 def crates():
-    leans = leaning()
+    leans = {name: set(used) for name, (_, used) in listed().items()}
     band = {name: i for i, (_, names) in enumerate(BANDS) for name in names}
     assert set(band) == set(leans), "crates.txt and BANDS differ: %s" % (set(band) ^ set(leans))
     for name, deps in leans.items():

@@ -1,38 +1,42 @@
 """Edits that the check must refuse, as the scripts read them: crates/*/must-fail, crates/*/faults and the list of docs/faults.py.
 
-`rt must-fail` counts an edit as refused wherever the prover says no, also where a definition or a contract with a typo cannot be read. Such an edit
-shows nothing. Here an edit counts only where it is refused at a proof:
-- every error stands at a place below proofs/: code, contracts and definitions can be read, and each proof file still has its function (no file of
-  specs/ holds a proof, so an error there is never a promise that fails);
-- at one place at least a proof fails for its own sake: not since a name is gone, and not since another law was refused before it. A function
-  without a proof file of its own, which the checker no longer proves, is such a place too."""
+`rt must-fail` and `rt ci` say of each edit what the prover said first. They call an edit bad that cannot be applied, compiled or read, but count as
+refused also one that only takes a name away, or whose definition does not fit its type. Such an edit shows nothing. Here an edit counts only where it
+is refused at a proof: what is shown of the prover stands below proofs/, or says which goal of a function is left (no file of specs/ holds a proof, so
+an error there is never a promise that fails), and it is not only that a name is gone, of which rt says so."""
 import glob
 import os
 import re
+import subprocess
 
-ERROR = re.compile(r"^(\S+?)(:\d+:\d+)?: error(?:\[[\w-]+\])?: (.*)")
-NAME_GONE = re.compile(r"is not in scope|that can be named from here")
-FOLLOWS = "was not admitted"
-UNPROVED = re.compile(r"fn \S+: no proof: ")
+LINE = re.compile(r"(?:rt: )?must-fail (\w+)/(\S+)\.edit: (.*)")
+REFUSED = re.compile(r"refused, as it must be(?: \((.*?)\))?(?:: (.*))?$")
+PROOF = re.compile(r"(?:\./)?proofs/\S+:\d+:\d+: error|note: ")
 
 
-def said_to(place, crate, name):
-    """The lines that the prover said to an edit in the repository at `place`, files as they are named in the crate; none where it was not tried."""
-    path = os.path.join(place, "target/must-fail", crate, name, ".log")
-    if not os.path.exists(path):
-        return []
-    return re.sub(r"[^\s`]*/target/must-fail/%s/%s/" % (crate, name), "", open(path, encoding="utf-8", errors="replace").read()).split("\n")
+def said_in(text):
+    """What rt said of each edit in what it printed: by crate and name."""
+    return {(m[1], m[2]): m[3] for m in map(LINE.match, text.split("\n")) if m}
+
+
+def said_to(place, *crates):
+    """What rt says of each edit of the repository at `place`, of these crates or of all, and its whole answer. What it tried before it does not try again."""
+    run = subprocess.run(["rt", "must-fail", *crates], cwd=place, stdin=subprocess.DEVNULL, capture_output=True, text=True)
+    return said_in(run.stdout + run.stderr), run.stdout + run.stderr
 
 
 def broken(said):
-    """Why an edit to which the prover said this shows nothing; None where it was refused at a proof."""
-    errors = [m.groups() for m in map(ERROR.match, said) if m]
-    for where, line, what in errors:
-        if not (line and where.startswith("proofs/")):
-            return "broken at %s%s: %s" % (where, line or "", what[:120])
-    if any(map(UNPROVED.match, said)) or not all(NAME_GONE.search(what) or FOLLOWS in what for _, _, what in errors):
-        return None
-    return "no proof fails for its own sake: %s" % errors[0][2][:120] if errors else "the prover said nothing to it"
+    """Why an edit of which rt says this shows nothing; None where it was refused at a proof."""
+    if said is None:
+        return "not tried"
+    m = REFUSED.match(said)
+    if not m:
+        return said[:160]
+    if m[1] and m[1].startswith("only because"):
+        return "no proof fails for its own sake: %s" % said[:160]
+    if not (m[1] or m[2] and PROOF.match(m[2])):
+        return "broken at %s" % (m[2] or "no place that rt shows")[:160]
+    return None
 
 
 def edits(kind):

@@ -5,7 +5,7 @@
     docs/faults.py CRATE..         those of these crates
     docs/faults.py CRATE/NAME..    these alone, and below the table what the prover said first of each
 
-It proves what stands below the crates once, then each fault by itself, as a must-fail edit (`rt must-fail`). Beside the list below it takes
+It has what stands below the crates proved once, then each fault by itself, as a must-fail edit (`rt must-fail`). Beside the list below it takes
 the edits in crates/*/faults: those of docs/PROOFS.md that would make the gate too long. It is not part of ./test. Many of the list are
 also put into the Rust, by tests/oracle/mutants. An edit that is refused at no proof, but since it cannot be read, fails (docs/edits.py).
 """
@@ -13,7 +13,6 @@ import glob
 import os
 import re
 import shutil
-import subprocess
 import sys
 import tempfile
 
@@ -72,14 +71,6 @@ def told(path, name):
     return f"{first[2:].strip()} (`{name}`)" if first.startswith("# ") else f"`{name}`"
 
 
-def first_said(lines):
-    """The line in which the prover first says what fails, and the one after it."""
-    at = next((i for i, line in enumerate(lines) if ": error" in line), None)
-    if at is None:
-        at = next((i for i, line in enumerate(lines) if re.match(r"note: \S*:\d+:\d+:", line)), len(lines))
-    return "\n".join("  " + line.strip()[:400] for line in lines[at : at + 2])
-
-
 def main():
     root = os.path.dirname(os.path.dirname(os.path.abspath(__file__)))
     os.chdir(root)
@@ -91,12 +82,9 @@ def main():
     wanted = [f for f in FAULTS if not asked or f[0] in asked or f"{f[0]}/{f[1]}" in asked]
     further = [e for e in kept if not asked or e[0] in asked or f"{e[0]}/{e[1]}" in asked]
     with tempfile.TemporaryDirectory() as scratch:
-        for name in ("crates", "crates.txt"):
-            (shutil.copytree if os.path.isdir(name) else shutil.copy)(name, os.path.join(scratch, name))
-        if os.path.isdir("target/rlib"):
-            shutil.copytree("target", os.path.join(scratch, "target"), symlinks=True)
-        for crate in os.listdir(os.path.join(scratch, "crates")):
-            shutil.rmtree(os.path.join(scratch, "crates", crate, "must-fail"), ignore_errors=True)
+        # rt begins with what checks here have kept, wherever that lies
+        shutil.copytree("crates", os.path.join(scratch, "crates"), ignore=shutil.ignore_patterns("out", "must-fail"))
+        shutil.copy("crates.txt", scratch)
         for crate, name, _, old, new in wanted:
             file, count = source_of(crate, old)
             if count != 1:
@@ -111,23 +99,21 @@ def main():
             os.makedirs(folder, exist_ok=True)
             shutil.copy(path, folder)
         crates = sorted({f[0] for f in [*wanted, *further]})
-        run = subprocess.run(["rt", "must-fail", *crates], cwd=scratch, capture_output=True, text=True)
-        verdicts = dict(re.findall(r"must-fail (\S+): (.*)", run.stdout + run.stderr))
+        said, _ = said_to(scratch, *crates)
         rows = [(crate, name, f"{what} (`{name}`)") for crate, name, what, _, _ in wanted]
         rows += [(crate, name, told(path, name)) for crate, name, path in further]
-        said = {f"{c}/{n}": said_to(scratch, c, n) for c, n, _ in rows}
     refused = 0
     print("| crate | fault | the prover |\n|---|---|---|")
     for crate, name, what in rows:
-        verdict = verdicts.get(f"{crate}/{name}", "no answer")
-        first = re.search(r"first at ([^;)]*)", verdict)
-        if verdict.startswith("refused") and (why := broken(said[f"{crate}/{name}"])):
+        verdict = said.get((crate, name), "no answer")
+        first = re.search(r": (?:note: )?(?:\./)?(\S+:\d+:\d+): ", verdict)
+        if verdict.startswith("refused") and (why := broken(verdict)):
             verdict = f"NO PROOF REFUSES IT: {why}"
         refused += verdict.startswith("refused")
         print(f"| {crate} | {what} | {'refused, first at ' + first.group(1) if verdict.startswith('refused') and first else verdict} |")
     print(f"\n{refused} of {len(rows)} refused")
-    for key in (k for k in said if k in asked):
-        print(f"\n{key}:\n{first_said(said[key])}")
+    for crate, name in (k for k in said if "/".join(k) in asked):
+        print(f"\n{crate}/{name}:\n  {said[crate, name]}")
     return 0 if refused == len(rows) else 1
 
 

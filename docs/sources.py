@@ -44,6 +44,8 @@ def usage(how):
 
 def files(place, ending):
     for folder, _, names in sorted(os.walk(os.path.join(ROOT, place))):
+        if "/out/" in folder + "/":
+            continue
         for name in sorted(names):
             if name.endswith(ending):
                 yield File(os.path.relpath(os.path.join(folder, name), ROOT))
@@ -90,9 +92,28 @@ def declarations(f):
 
 
 def module(path):
-    """How others import it, in both forms: crates/a/specs/B.antt is Rattle·a.specs.B and Rattle·a·specs.specs.B."""
-    _, crate, kind, *rest = path[: -len(".antt")].split("/")
-    return {"Rattle·%s.%s.%s" % (crate, kind, ".".join(rest)), "Rattle·%s·%s.%s.%s" % (crate, kind, kind, ".".join(rest))}
+    """How others import it: crates/a/specs/B.antt is Rattle.a.specs.B."""
+    return "Rattle." + path[len("crates/") : -len(".antt")].replace("/", ".")
+
+
+def crates():
+    """The crates of crates.txt in its order: name -> kind ("" or "staticlib") and the libraries that it names."""
+    rows = re.findall(r"^(\w+)(?: +(staticlib))? *:(.*)", read("crates.txt"), re.M)
+    return {name: (kind, used.split()) for name, kind, used in rows}
+
+
+def read(path):
+    with open(os.path.join(ROOT, path), encoding="utf-8") as f:
+        return f.read()
+
+
+def newest(place):
+    """When a file of a folder was changed last; what rt makes in out/ is none of them."""
+    found = []
+    for folder, inside, names in os.walk(os.path.join(ROOT, place)):
+        inside[:] = [i for i in inside if i != "out"]
+        found += [os.path.getmtime(os.path.join(folder, name)) for name in names]
+    return max(found)
 
 
 def imported(items):

@@ -3,7 +3,7 @@
  *
  * Four calls for firmware: mount, format, delete, list. The functions are
  * compiled from proved code (crates/firmware); this header is kept by hand.
- * Link target/staticlib/libfirmware.a (made by `rt staticlib firmware`).
+ * Link target/staticlib/libfirmware.a (made by `tools/archive firmware`).
  *
  * What the archive asks of the program that links it. tests/firmware reads it
  * off the machine code, and fails where more is asked than stands here:
@@ -17,7 +17,7 @@
  *     entry first steps over those 128 bytes: give handlers a stack of their
  *     own, or make the calls with interrupts off.
  *   - Stack, at most, for any input, without what memcpy and memset use: mount
- *     2,816 bytes, format 928, delete 5,248, list 3,200.
+ *     3,136 bytes, format 992, delete 5,280, list 3,504.
  *
  * The whole volume is in memory. A medium that is not has to be read into an
  * array before a call and its changed sectors written back after it. What is

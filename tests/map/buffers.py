@@ -2,8 +2,14 @@
 """A header is filled in the volume's own sector (02, S-2): in the crates of format and commit, and in those below them, no array of a sector's size is made but one,
 for the body sector that `write_body_sector` takes from one copy to the other. A lent array is another's. So no table of 256 numbers is left in the checksum (02, S-10)."""
 import glob
+import os
 import re
 import sys
+
+sys.dont_write_bytecode = True
+os.chdir(os.path.join(os.path.dirname(os.path.abspath(__file__)), "..", ".."))
+sys.path.insert(0, "docs")
+from sources import crates as listed
 
 SECTOR = 512
 MADE = ["commit::write_body_sector"]
@@ -19,10 +25,9 @@ TRIED = {
 
 def below(*tops):
     """These crates and all that they name in crates.txt, and so on."""
-    named = dict(re.findall(r"^(\w+):(.*)", open("crates.txt", encoding="utf-8").read(), re.M))
     found = list(tops)
     for crate in found:
-        found += [c for c in named[crate].split() if c not in found]
+        found += [c for c in listed()[crate][1] if c not in found]
     return found
 
 

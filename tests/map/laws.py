@@ -1,6 +1,7 @@
 #!/usr/bin/env python3
 """Each law is there for something, and is stated once. Fails at a name declared in specs or proofs that nothing uses and docs/PROOFS.md does not
-give as a result, and at two laws whose statements are equal up to the names of their variables.
+give as a result, and at two laws whose statements are equal up to the names of their variables. Laws that had landed, and that today's check does
+without, are kept: docs/PORT.md lists them under "Laws that no proof cites any more".
 
 A use is a mention outside of the name's own declaration, comments and imports: in the same file, or in a file that imports it from there. So a name
 that only a variable shares counts as used."""
@@ -10,7 +11,9 @@ import re
 import sys
 
 sys.path.insert(0, os.path.join(os.path.dirname(os.path.abspath(__file__)), "..", "..", "docs"))
-from sources import ROOT, declarations, files, imported, indent, module
+from sources import declarations, files, imported, indent, module, read
+
+OF_FUNCTIONS = ("/Answers.antt", "/Invariants.antt", "/Proof.antt")
 
 
 def unused(sources, codes):
@@ -21,11 +24,17 @@ def unused(sources, codes):
             takers.update((path, name) for name, called in imported(items) if called in words)
             if alias and any("%s.%s" % (alias, w) in line for line in f.bare for w in words):
                 takers[path] += 1
+        # of a tactic's list in the code: crate::proofs::Runs::law
+        crate = f.path.split("/")[1]
+        for path, name in re.findall(r"\bcrate((?:::\w+)+)::(\w+)", " ".join(f.bare)) if f.path.endswith(".rt") else ():
+            takers["Rattle." + crate + path.replace("::", "."), name] += 1
     for f in sources:
         for name, lines, _ in declarations(f):
-            asked = name.endswith("-spec") and f.path.endswith("/Proof.antt")  # by the checker, of each function
+            if f.path.endswith("/Invariants.antt") and indent(f.bare[lines[0]]):
+                continue  # a part of an invariant, which the check reads
+            asked = f.path.endswith(OF_FUNCTIONS) and re.search(r" : (goal\.|.* statement )", f.bare[lines[0]])  # by the checker, of each function
             inside = name in f.words(k for k in range(len(f.bare)) if k not in lines)
-            if not (asked or inside or any(takers[m, name] or takers[m] for m in module(f.path))):
+            if not (asked or inside or takers[module(f.path), name] or takers[module(f.path)]):
                 yield "%s:%d: `%s`" % (f.path, lines[0] + 1, name), name
 
 
@@ -49,7 +58,7 @@ def statement(f, name, lines):
 def repeated(sources):
     laws = collections.defaultdict(list)
     for f in sources:
-        if "/proofs/" in f.path and not f.path.endswith("/Proof.antt"):
+        if "/proofs/" in f.path and not f.path.endswith(OF_FUNCTIONS):
             for name, lines, _ in declarations(f):
                 line = f.bare[lines[0]]
                 if indent(line) == 0 and " : " in line and re.search("[≡≤<⊥]", told := statement(f, name, lines)):
@@ -59,7 +68,7 @@ def repeated(sources):
 
 def main():
     sources = [f for f in files("crates", ".antt") if not f.path.endswith("/Lib.antt")]
-    results = open(os.path.join(ROOT, "docs", "PROOFS.md"), encoding="utf-8").read()
+    results = read("docs/PROOFS.md") + "".join(re.findall(r"^## Laws that no proof cites any more\n(.*?)(?=^## |\Z)", read("docs/PORT.md"), re.M | re.S))
     dead = [place for place, name in unused(sources, list(files("crates", ".rt"))) if "`%s`" % name not in results]
     twice = repeated(sources)
     print("laws: %d files read; %d names that nothing uses, %d laws stated twice" % (len(sources), len(dead), len(twice)))

@@ -1,6 +1,6 @@
 #!/usr/bin/env python3
 """Every name that the tables of docs/PROOFS.md give must stand in the sources: a definition, a law, a function, or a must-fail edit. A definition
-given with its file (le/Field `getLe`) must stand in that file, a law given with its file (Fields `get-put`, safe Copy `copy-frame`) be declared
+given with its file (le/Field `get_le`) must stand in that file, a law given with its file (Fields `get_put`, safe Copy `copy_frame`) be declared
 there, an edit in the column of edits (le `wrong_order`) be that crate's, and a function given with its crate (`store::mount`) be in it. A row of a
 table with that column names an edit there, or begins with "none:" or "by construction" and says why. Of docs/CHANGING.md and docs/WRITES.md each
 single word must stand somewhere in the sources, the scripts or tests/port, and each definition or law that is given with its file in that file."""

@@ -1,5 +1,5 @@
 #!/usr/bin/env python3
-"""README's table of numbers has each refusal of medium/Refusal `numberOf`, by number and name, and no other; include/store.h has the first twelve."""
+"""README's table of numbers has each refusal of medium/Refusal `number_of`, by number and name, and no other; include/store.h has the first twelve."""
 import os
 import re
 import sys
@@ -7,7 +7,7 @@ import sys
 os.chdir(os.path.join(os.path.dirname(os.path.abspath(__file__)), "..", ".."))
 read = lambda path: open(path, encoding="utf-8").read()
 
-defined = {int(n): name for name, n in re.findall(r"^numberOf no\.(\w+) = (\d+)$", read("crates/medium/specs/Refusal.antt"), re.M)}
+defined = {int(n): name for name, n in re.findall(r"^number_of no\.(\w+) = (\d+)$", read("crates/medium/specs/Refusal.antt"), re.M)}
 section = re.search(r"\n## The numbers of a refusal\n(.*?)\n## ", read("README.md"), re.S)
 told = [(int(n), name) for n, name in re.findall(r"^\| (\d+) \| (\w+) \|", section.group(1) if section else "", re.M)]
 in_c = [(int(n), name.replace("_", "").lower()) for name, n in re.findall(r"^    STORE_E_(\w+) = (\d+)", read("include/store.h"), re.M)]

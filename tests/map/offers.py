@@ -6,7 +6,7 @@ import re
 import sys
 
 HANDLES = {"handles": "Store", "append": "Appender", "reader": "(?:Reader|Upto)"}
-START = re.compile(r"^(?P<indent> *)(?P<kind>pub |#\[no_mangle\]\n *pub extern \"C\" )fn (?P<name>\w+)(?P<contract>.*?)^(?P=indent)\{", re.M | re.S)
+START = re.compile(r"^(?P<indent> *)(?P<kind>pub |#\[unsafe\(no_mangle\)\]\n *pub extern \"C\" )fn (?P<name>\w+)(?P<contract>.*?)^(?P=indent)\{", re.M | re.S)
 
 
 def offered(crate):

@@ -1,4 +1,4 @@
-// Links the proved archives that `rt staticlib` writes.
+// Links the proved archives that tools/archive makes.
 fn main() {
     let root = std::path::Path::new(env!("CARGO_MANIFEST_DIR")).join("../../target/staticlib");
     println!("cargo::rustc-link-search=native={}", root.display());

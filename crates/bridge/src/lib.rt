@@ -1,5 +1,5 @@
 // The calls that only read, for a program in another language that keeps the handles between calls: the
-// comparison with the Rust links this crate, and bridge_write for the calls that write. A slice crosses as a
+// comparison with the Rust links bridge_c over this crate, and bridge_write_c for the calls that write. A slice crosses as a
 // pointer and a length, an array as a pointer. Each function returns 0 or the number of the refusal. Of a
 // number for a field of 32 bits the low 32 count.
 //   medium: left, unreadable, entropy, token.
@@ -16,8 +16,7 @@ ghost use Rattle.std.specs.Prelude.{◌≡◌};
 ghost use Rattle.bridge.specs.Calls.{mount_at, free_count_at, find_at, list_at, reader_at, next_at, seek_at, record_at};
 
 // The store is all zeros where it is refused.
-#[unsafe(no_mangle)]
-pub extern "C" fn port_mount(
+pub fn port_mount(
     volume: &[u8],
     medium: &mut [u64; 4],
     store: &mut [u64; 43],
@@ -34,8 +33,7 @@ pub extern "C" fn port_mount(
 }
 
 // Answer: how many chunks are free (S-3).
-#[unsafe(no_mangle)]
-pub extern "C" fn port_free_count(
+pub fn port_free_count(
     volume: &[u8],
     medium: &mut [u64; 4],
     store: &[u64; 43],
@@ -56,8 +54,7 @@ pub extern "C" fn port_free_count(
 }
 
 // Answer: the slot and the file id.
-#[unsafe(no_mangle)]
-pub extern "C" fn port_find(
+pub fn port_find(
     volume: &[u8],
     medium: &mut [u64; 4],
     store: &[u64; 43],
@@ -79,8 +76,7 @@ pub extern "C" fn port_find(
 }
 
 // Answer: the number of rows, also where it is refused.
-#[unsafe(no_mangle)]
-pub extern "C" fn port_list(
+pub fn port_list(
     volume: &[u8],
     medium: &mut [u64; 4],
     store: &[u64; 43],
@@ -112,8 +108,7 @@ pub extern "C" fn port_list(
 }
 
 // The reader is all zeros where it is refused.
-#[unsafe(no_mangle)]
-pub extern "C" fn port_reader(
+pub fn port_reader(
     volume: &[u8],
     medium: &mut [u64; 4],
     store: &[u64; 43],
@@ -135,8 +130,7 @@ pub extern "C" fn port_reader(
 }
 
 // Answer: 0 the end; 1 and the payload's length; 2 and a hole's first record, the one past it and how many of its sectors are blank.
-#[unsafe(no_mangle)]
-pub extern "C" fn port_next(
+pub fn port_next(
     volume: &[u8],
     medium: &mut [u64; 4],
     store: &[u64; 43],
@@ -161,8 +155,7 @@ pub extern "C" fn port_next(
     numbers::next_code(n)
 }
 
-#[unsafe(no_mangle)]
-pub extern "C" fn port_seek(
+pub fn port_seek(
     volume: &[u8],
     medium: &mut [u64; 4],
     store: &[u64; 43],
@@ -191,8 +184,7 @@ pub extern "C" fn port_seek(
 }
 
 // Answer: the number of the record that comes next.
-#[unsafe(no_mangle)]
-pub extern "C" fn port_record(
+pub fn port_record(
     store: &[u64; 43],
     crcs: &[u32; 24],
     reader: &[u64; 10],

@@ -4,7 +4,7 @@
 #![tactic(auto)]
 
 pub mod appenders;
-mod opening;
+pub mod opening;
 
 ghost use Rattle.std.specs.Prelude.{◌≡◌};
 ghost use Rattle.bridge_write.specs.Writing.{format_at, delete_at, oldest_at, append_at, sync_at, room_at};
@@ -12,8 +12,7 @@ ghost use Rattle.bridge_write.specs.Writing.{format_at, delete_at, oldest_at, ap
 use bridge::numbers;
 
 // The store is all zeros where it is refused.
-#[unsafe(no_mangle)]
-pub extern "C" fn port_format(
+pub fn port_format(
     volume: &mut [u8],
     medium: &mut [u64; 4],
     size: u32,
@@ -32,8 +31,7 @@ pub extern "C" fn port_format(
     numbers::code(o)
 }
 
-#[unsafe(no_mangle)]
-pub extern "C" fn port_delete(
+pub fn port_delete(
     volume: &mut [u8],
     medium: &mut [u64; 4],
     store: &mut [u64; 43],
@@ -54,8 +52,7 @@ pub extern "C" fn port_delete(
 }
 
 // Answer: 1 and the length of the name that went, its bytes in `gone`; or 0.
-#[unsafe(no_mangle)]
-pub extern "C" fn port_delete_oldest(
+pub fn port_delete_oldest(
     volume: &mut [u8],
     medium: &mut [u64; 4],
     store: &mut [u64; 43],
@@ -79,8 +76,7 @@ pub extern "C" fn port_delete_oldest(
     appenders::gone_code(r)
 }
 
-#[unsafe(no_mangle)]
-pub extern "C" fn port_append(
+pub fn port_append(
     volume: &mut [u8],
     medium: &mut [u64; 4],
     store: &mut [u64; 43],
@@ -114,8 +110,7 @@ pub extern "C" fn port_append(
     numbers::code(o)
 }
 
-#[unsafe(no_mangle)]
-pub extern "C" fn port_sync(
+pub fn port_sync(
     volume: &mut [u8],
     medium: &mut [u64; 4],
     store: &mut [u64; 43],
@@ -144,8 +139,7 @@ pub extern "C" fn port_sync(
 }
 
 // Answer: the bytes until a record is written.
-#[unsafe(no_mangle)]
-pub extern "C" fn port_room(
+pub fn port_room(
     appender: &[u64; 10],
     buffer: &[u8; 486],
     dir: &[u8; 40],

@@ -6,8 +6,7 @@ ghost use Rattle.bridge_write.specs.Writing.{create_at, open_at};
 use crate::appenders;
 use bridge::numbers;
 
-#[unsafe(no_mangle)]
-pub extern "C" fn port_create(
+pub fn port_create(
     volume: &mut [u8],
     medium: &mut [u64; 4],
     store: &mut [u64; 43],
@@ -40,8 +39,7 @@ pub extern "C" fn port_create(
     numbers::code(o)
 }
 
-#[unsafe(no_mangle)]
-pub extern "C" fn port_open_append(
+pub fn port_open_append(
     volume: &[u8],
     medium: &mut [u64; 4],
     store: &mut [u64; 43],

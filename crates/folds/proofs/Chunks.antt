@@ -21,7 +21,6 @@ use Rattle.medium.specs.declared.Outcome.TheVariants.{Done}
 use Rattle.handles.specs.declared.Store.{Store}
 use Rattle.handles.proofs.Laws.{Held}
 use Rattle.table.specs.declared.Link.{Link}
-use Rattle.table.specs.declared.LinkAt.{LinkAt}
 use Rattle.table.specs.declared.LinkAt.TheVariants as link
 use Rattle.table.specs.declared.Pick.{Pick}
 use Rattle.table.specs.declared.Pick.TheVariants as free

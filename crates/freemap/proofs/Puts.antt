@@ -12,7 +12,7 @@ use lib.Pow.{pow-lt}
 use lib.Seq.{get_or-set_same, get_or-set_other}
 use Rattle.le.specs.Choice.{pick}
 use Rattle.le.proofs.Choices.{pick_keeps_by}
-use Rattle.freemap.specs.Map.{marks, words_of, put_of}
+use Rattle.freemap.specs.Map.{marks, put_of}
 use Rattle.freemap.proofs.Digits.{digit, turn_here, turn_other}
 use Rattle.freemap.proofs.Words.{words_told}
 

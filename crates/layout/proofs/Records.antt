@@ -7,7 +7,6 @@ use native.Mathlib.Omega.{arith}
 use lib.ListN.{length, get_or, set, length-append, get_or-append}
 use lib.Seq.{get_or-set_same, get_or-set_other, get_or_at}
 use Rattle.le.proofs.Tallies.{tally_ext}
-use Rattle.table.specs.declared.LinkAt.TheVariants as link
 use Rattle.layout.specs.Views.{named, stored, Disk}
 use Rattle.layout.specs.Segments.{Segment, no_segment, segment_at, link_for, is_of, Good}
 use Rattle.layout.specs.Changes.{replaced, with_payload, Recorded}

@@ -5,7 +5,6 @@ use mathlib.Core.List.{List, []}
 use Prim.Native.Nat.{ℕ, ◌≤◌, ◌<◌}
 use native.Mathlib.Omega.{arith}
 use Rattle.le.proofs.Tallies.{tally_ext, tally_none}
-use Rattle.table.specs.declared.LinkAt.TheVariants as link
 use Rattle.layout.specs.Views.{Disk}
 use Rattle.layout.specs.Segments.{Segment, segment_at, is_of, Good}
 use Rattle.layout.specs.Changes.{Unchanged, Fresh}

@@ -1,10 +1,10 @@
 -- What each step of the calls changes of the views, D before it and E after it, index by index; and the layout after it. Assumes nothing.
-use Rattle.std.specs.Prelude.{ℕ, ◌+◌, ◌*◌, ◌≤◌, ◌<◌, ◌≡◌, ◌≢◌, true, false, List, [], ◌∷◌, ◌++◌, eqb, length, set}
+use Rattle.std.specs.Prelude.{ℕ, ◌+◌, ◌≤◌, ◌<◌, ◌≡◌, ◌≢◌, true, false, List, [], ◌∷◌, ◌++◌, eqb, set}
 use Rattle.le.specs.Choice.{pick}
 use Rattle.table.specs.declared.Link.{Link}
 use Rattle.table.specs.declared.LinkAt.TheVariants as link
 use Rattle.table.specs.Table.{links_of}
-use Rattle.layout.specs.Views.{Entry, vacant, named, Rec, blank, stored, Disk}
+use Rattle.layout.specs.Views.{vacant, named, blank, stored, Disk}
 use Rattle.layout.specs.Segments.{Segment, segment_at, is_of}
 
 -- the layout with the file of slot s replaced

@@ -7,7 +7,7 @@ use Rattle.table.specs.declared.Link.{Link}
 use Rattle.table.specs.declared.LinkAt.{LinkAt}
 use Rattle.table.specs.declared.LinkAt.TheVariants as link
 use Rattle.table.specs.Table.{links_of}
-use Rattle.layout.specs.Views.{Entry, vacant, broken, named, Rec, stored, Disk}
+use Rattle.layout.specs.Views.{vacant, broken, named, stored, Disk}
 
 -- a chunk of a file, with the payloads in it
 pub record Segment : Type 0 where

@@ -3,3 +3,4 @@ pub mod Gathers
 pub mod Counts
 pub mod Feeds
 pub mod Whole
+pub mod Streams

@@ -164,3 +164,7 @@ feed_parts h (x ∷ xs) b =
         → feed_of h (x ∷ (xs ++ b)) ≡ saying (feed_of h (x ∷ xs)).text (feed_of (feed_of h (x ∷ xs)).held b)
     go true e p q = rw (e, p, append_assoc (line_text h.vol h.session h.line) (feed_of h1 xs).text (feed_of (feed_of h1 xs).held b).text)
     go false e p q = rw (e, q)
+
+-- over any volume and session, before a line's first byte
+pub printed_any : (vol : List ℕ) (s : Session) (input : List ℕ) → (feed_of (held vol s []) input).text ++ last_text (feed_of (held vol s []) input).held ≡ printed_from vol s (lines_of input)
+printed_any vol s input = said_lines vol s [] input ∙ ap (printed_from vol s) (after_none (lines_of input))

@@ -4,12 +4,16 @@
 mod input;
 mod text;
 
-ghost use Rattle.std.specs.Prelude.{◌≡◌, ◌≤◌, ◌<◌, length, take, drop};
+ghost use Rattle.std.specs.Prelude.{◌≡◌, ◌-◌, ◌^◌, ◌≤◌, ◌<◌, length, take, drop, IfOk, OnOk, IfSome};
+ghost use Rattle.std.specs.Io.KnownBytes.{Appends, ReadConsumes};
 ghost use Rattle.decimal.specs.Decimal.{Put};
-ghost use Rattle.lines.specs.Program.{line_turn, line_text, held, piece_of, PassedAt, feed_of, last_text, turns_after};
+ghost use Rattle.session.specs.Session.{start_of};
+ghost use Rattle.lines.specs.Input.{lines_of};
+ghost use Rattle.lines.specs.Program.{line_turn, line_text, printed_from, printed_of, held, piece_of, PassedAt, feed_of, last_text, turns_after};
 
-use libc::{STDIN_FILENO, STDOUT_FILENO};
 use session::Session;
+use std::io;
+use std::io::{Read, Write};
 
 // What is held after a line, and how many bytes its answer has.
 #[derive(Clone, Copy)]
@@ -92,18 +96,21 @@ struct FedPart {
 }
 
 // A part of the input, piece by piece, each answer written before the next piece.
-fn feed(
+fn feed<W: Write>(
     volume: &mut [u8],
     session: Session,
     bytes: &[u8],
     line: &mut [u8],
     fill: usize,
     out: &mut [u8],
-) -> FedPart
+    output: &mut W,
+) -> io::Result<FedPart>
     requires { (fill ≤ 601) × (601 ≤ length line.old) × (8192 ≤ length out.old) }
-    ensures { (held volume.new result.session (take result.fill line.new)
+    ensures held_after { IfOk result (λ r. (held volume.new r.session (take r.fill line.new)
         ≡ (feed_of (held volume.old session (take fill line.old)) bytes.now).held)
-        × (result.fill ≤ 601) }
+        × (r.fill ≤ 601)) }
+    ensures written { OnOk result (Appends (W.contents output.old) (W.contents output.new)
+        (feed_of (held volume.old session (take fill line.old)) bytes.now).text) }
 {
     let mut s = session;
     let mut kept = fill;
@@ -111,15 +118,15 @@ fn feed(
     while at < bytes.len() {
         let p = piece(&mut *volume, s, bytes, at, &mut *line, kept, &mut *out);
         let n = p.count;
-        io::write_all(STDOUT_FILENO, &out[0..n]);
+        output.write_all(&out[0..n])?;
         s = p.session;
         kept = p.fill;
         at = p.at;
     }
-    FedPart {
+    Ok(FedPart {
         session: s,
         fill: kept,
-    }
+    })
 }
 
 // The end of the input ends a last line, unless it is empty.
@@ -134,12 +141,12 @@ fn last(volume: &mut [u8], session: Session, line: &[u8], out: &mut [u8]) -> usi
     a.count
 }
 
-// Some bytes of the input at the start of the buffer, and how many: 0 at its end, or where it cannot be read.
-fn read_some(bytes: &mut [u8]) -> usize
-    ensures { result ≤ length bytes.new }
+// Some bytes of the input at the start of the buffer, and how many: 0 at its end.
+fn read_some<R: Read>(input: &mut R, bytes: &mut [u8]) -> io::Result<usize>
+    ensures within { IfOk result (λ n. n ≤ length bytes.new) }
+    ensures taken { ReadConsumes (R.remaining input.old) (R.remaining input.new) result bytes.new }
 {
-    let got = libc::read(STDIN_FILENO, &mut *bytes);
-    io::count(got, &bytes[..])
+    input.read(bytes)
 }
 
 // The turns left after a read of n bytes: none at the end of the input. A proved loop has to end, and nothing says that the input does; so the turns
@@ -154,28 +161,54 @@ fn left_after(turns: u64, n: usize) -> u64
     turns - 1
 }
 
-fn run(volume: &mut [u8], bytes: &mut [u8], line: &mut [u8], out: &mut [u8])
+// The input to its end: where its bytes are known, and those that the output holds, what its lines ask for is written.
+fn run<R: Read, W: Write>(
+    input: &mut R,
+    output: &mut W,
+    volume: &mut [u8],
+    bytes: &mut [u8],
+    line: &mut [u8],
+    out: &mut [u8],
+) -> io::Result<()>
     requires { (601 ≤ length line.old) × (8192 ≤ length out.old) }
+    ensures { OnOk result (IfSome (R.remaining input.old) (λ given. 0 < length bytes.old → length given < 2 ^ 64 - 1
+        → Appends (W.contents output.old) (W.contents output.new) (printed_from volume.old start_of (lines_of given)))) }
 {
     let mut s = session::start();
     let mut fill = 0;
-    let mut n = read_some(&mut *bytes);
+    let mut n = read_some(&mut *input, &mut *bytes)?;
     let mut turns = left_after(0xffff_ffff_ffff_ffff, n);
     while turns > 0 {
-        let f = feed(&mut *volume, s, &bytes[0..n], &mut *line, fill, &mut *out);
+        let f = feed(
+            &mut *volume,
+            s,
+            &bytes[0..n],
+            &mut *line,
+            fill,
+            &mut *out,
+            &mut *output,
+        )?;
         s = f.session;
         fill = f.fill;
-        n = read_some(&mut *bytes);
+        n = read_some(&mut *input, &mut *bytes)?;
         turns = left_after(turns, n);
     }
     let k = last(volume, s, &line[0..fill], &mut *out);
-    io::write_all(STDOUT_FILENO, &out[0..k]);
+    output.write_all(&out[0..k])
 }
 
-fn main() {
+// Over a zeroed volume.
+fn answer_all<R: Read, W: Write>(input: &mut R, output: &mut W) -> io::Result<()>
+    ensures { OnOk result (IfSome (R.remaining input.old) (λ given. length given < 2 ^ 64 - 1
+        → Appends (W.contents output.old) (W.contents output.new) (printed_of given))) }
+{
     let mut volume = [0u8; 65536];
     let mut bytes = [0u8; 4096];
     let mut line = [0u8; 601];
     let mut out = [0u8; 8192];
-    run(&mut volume, &mut bytes, &mut line, &mut out);
+    run(input, output, &mut volume, &mut bytes, &mut line, &mut out)
+}
+
+fn main(rt: HostRuntime) -> io::Result<()> {
+    answer_all(&mut rt.stdin(), &mut rt.stdout())
 }

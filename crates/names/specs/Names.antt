@@ -16,7 +16,7 @@ is_slash b = eqb b 47
 unfoldable pub plain_byte : ℕ → Bool
 plain_byte b = between 65 90 b || between 97 122 b || between 48 57 b || eqb b 46 || eqb b 95 || eqb b 45
 
--- every byte is of `A-Z a_z 0-9 . _ - /`
+-- every byte is of `A-Z a-z 0-9 . _ - /`
 unfoldable pub every_byte : List ℕ → Bool
 every_byte [] = true
 every_byte (b ∷ bs) = (plain_byte b || is_slash b) && every_byte bs

@@ -41,7 +41,7 @@ turn_of says vol m st rd =
     let c : NextCall = next_call vol m st rd (zeros 486) in
     on_ok c.answer (after_item says c.out c.reader) (λ n. stop (refused n))
 
--- a reader goes forward, and a file has at most 2,048 chunks of 512 records: the walk has ended before its turns are up (proofs/Ends `Walk-Ends`)
+-- a reader goes forward, and a file has at most 2,048 chunks of 512 records: the walk has ended before its turns are up (proofs/Ends `walk_ends`)
 abbrev pub turns : ℕ
 turns = 1048577
 

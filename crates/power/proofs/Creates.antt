@@ -34,7 +34,6 @@ use Rattle.files.specs.declared.Rollover.{Rollover}
 use Rattle.files.specs.Opened.{refused_at, next_token, with_token, written_by, new_appender, opened_out}
 use Rattle.files.specs.Create.{Next, make_out, over_out, round_out, create_from}
 use Rattle.store.specs.Opening.{rollover_of}
-use Rattle.layout.specs.Views.{vacant}
 use Rattle.folds.proofs.Named.{Look, look_view}
 use Rattle.folds.proofs.Chunks.{free_chunk}
 use Rattle.power.specs.Calls.{Rules, create}

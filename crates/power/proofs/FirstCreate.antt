@@ -14,7 +14,7 @@ use Rattle.names.specs.Names.{name_ok}
 use Rattle.names.proofs.Laws.{name_short}
 use Rattle.medium.specs.declared.Medium.{Medium}
 use Rattle.medium.specs.declared.Outcome.TheVariants.{Done}
-use Rattle.medium.specs.Refusal.{ok, refused}
+use Rattle.medium.specs.Refusal.{refused}
 use Rattle.medium.proofs.Laws.{on_done_no, on_done_done}
 use Rattle.medium.specs.Sector.{Readable}
 use Rattle.handles.specs.declared.Header.{Header}

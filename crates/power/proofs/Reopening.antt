@@ -31,7 +31,6 @@ use Rattle.record.specs.declared.Judged.TheVariants.{Valid, Other}
 use Rattle.record.specs.Record.{judge_of, on_judged, data_at, number_at, read_record_of, record_at}
 use Rattle.append.specs.declared.Appender.{Appender}
 use Rattle.append.specs.declared.Tail.{Tail}
-use Rattle.append.specs.declared.Tail.TheVariants.{At}
 use Rattle.append.specs.Calls.{call_of}
 use Rattle.append.specs.Flush.{AppOut}
 use Rattle.files.specs.declared.Rollover.{Rollover}

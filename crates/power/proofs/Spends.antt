@@ -1,6 +1,6 @@
 -- The number of writes of a copy of whose body nothing is known: each body sector is written, and the header twice. With fewer left it is refused with
 -- 4; and none of its sectors is left unwritten. And of one whose body sectors are all left: two. Assumes nothing.
-use Prim.Native.Nat.{ℕ, zero, suc, ◌+◌, ◌-◌, ◌≤◌, ◌<◌}
+use Prim.Native.Nat.{ℕ, zero, suc, ◌+◌, ◌≤◌, ◌<◌}
 use mathlib.Core.Path.{◌≡◌, refl, ap, subst, ◌∙◌}
 use mathlib.Core.Bool.{Bool, true, false}
 use mathlib.Core.List.{List, []}

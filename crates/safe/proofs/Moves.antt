@@ -7,7 +7,6 @@ use Rattle.le.specs.Choice.{pick}
 use Rattle.le.specs.Part.{zeros}
 use Rattle.le.proofs.Choices.{pick_true}
 use Rattle.medium.specs.declared.Medium.{Medium}
-use Rattle.handles.proofs.Laws.{base_most}
 use Rattle.medium.specs.Frame.{Kept}
 use Rattle.header.proofs.Range.{no_way}
 use Rattle.plan.specs.declared.Edit.{Edit}

@@ -10,7 +10,6 @@ use Rattle.le.specs.Choice.{pick}
 use Rattle.le.specs.Part.{part}
 use Rattle.le.proofs.Choices.{pick_keeps_by, pick_true}
 use Rattle.names.specs.Names.{name_ok}
-use Rattle.names.proofs.Laws.{name_short}
 use Rattle.medium.specs.Sector.{sectors_of, sector_at}
 use Rattle.handles.specs.declared.Store.{Store}
 use Rattle.handles.specs.Body.{body_at}

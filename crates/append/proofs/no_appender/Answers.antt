@@ -6,4 +6,3 @@ use Rattle.append.proofs.no_appender.Goals as goal
 pub returns : goal.returns
 unfolding no_appender zeros
 returns c = refl
-

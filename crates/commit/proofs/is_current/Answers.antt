@@ -4,4 +4,3 @@ use Rattle.commit.proofs.is_current.Goals as goal
 pub returns : goal.returns
 unfolding is_current
 returns c = rw c.same_head.ensures
-

@@ -14,10 +14,8 @@ use Rattle.commit.proofs.rewrite.Goals as goal
 pub map_after-free-requires : goal.map_after-free-requires
 map_after-free-requires c = let f = store_facts c.args.store _ c.requires.0 in (f.enough, f.head.chunks_most, c.requires.2, c.requires.3)
 
-
 pub overflow_sub-copy : goal.overflow_sub-copy
 overflow_sub-copy c = omega (arith, (store_facts c.args.store _ c.requires.0).copy)
-
 
 pub zero_sector-z-requires : goal.zero_sector-z-requires
 zero_sector-z-requires c =
@@ -35,14 +33,13 @@ returns-in-No c =
     c.zero_sector-z.ensures c.in-No.is)
 
 pub write_body-b-requires : goal.write_body-b-requires
-write_body-b-requires c =
-    (
-      fits_still c.args.store c.args.volume.now c.zero_sector-z.new.volume c.zero_sector-z.auto.volume c.requires.0,
-      c.requires.1,
-      c.requires.2,
-      c.requires.3,
-      c.requires.4,
-    )
+write_body-b-requires c = (
+  fits_still c.args.store c.args.volume.now c.zero_sector-z.new.volume c.zero_sector-z.auto.volume c.requires.0,
+  c.requires.1,
+  c.requires.2,
+  c.requires.3,
+  c.requires.4,
+)
 
 pub returns-in-No-bo : goal.returns-in-No-bo
 unfolding commit_plan head_after
@@ -57,11 +54,10 @@ write_head-w-requires c =
     let plan : Plan = commit_plan c.args.found c.args.edit c.args.name.now c.args.store in
     let Ranges : Type 0 = (64 ≤ sectors_of c.write_body-b.new.volume) × (c.write_body-b.result.head.chunks ≤ 2048) in
     let ranges : Ranges = let f = store_facts c.args.store _ c.requires.0 in
-        let e : 64 ≤ sectors_of c.zero_sector-z.new.volume = omega (arith, f.enough, c.zero_sector-z.auto.volume) in
-        let q = body_chunks plan _ _ c.write_body-b.ensures (record { short = c.requires.4; enough = e }) f.head.chunks_most in
-        (omega (arith, e, c.write_body-b.auto.volume), omega (arith, f.head.chunks_most, q)) in
+    let e : 64 ≤ sectors_of c.zero_sector-z.new.volume = omega (arith, f.enough, c.zero_sector-z.auto.volume) in
+    let q = body_chunks plan _ _ c.write_body-b.ensures (record { short = c.requires.4; enough = e }) f.head.chunks_most in
+    (omega (arith, e, c.write_body-b.auto.volume), omega (arith, f.head.chunks_most, q)) in
     ranges
-
 
 pub shape_of-volume-in-No-wo : goal.shape_of-volume-in-No-wo
 shape_of-volume-in-No-wo c =

@@ -8,7 +8,6 @@ use Rattle.commit.proofs.same_crcs.Goals as goal
 pub loop-i-init : goal.loop-i-init
 loop-i-init c = (search rules, refl)
 
-
 pub returns-then-a-i : goal.returns-then-a-i
 returns-then-a-i c =
     let n : length c.args.a ≡ 24 = search (rules, c.well_formed) in

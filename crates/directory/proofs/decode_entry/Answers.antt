@@ -5,7 +5,6 @@ use Rattle.directory.proofs.decode_entry.Goals as goal
 pub returns-then-all_zero : goal.returns-then-all_zero
 returns-then-all_zero c = entry_free c.args.entry.now c.all_zero.ensures c.if-all_zero.true
 
-
 pub returns-then-not-name_ok : goal.returns-then-not-name_ok
 returns-then-not-name_ok c =
     name_fails c.args.entry.now c.all_zero.ensures c.if-all_zero.false c.text_len-len.ensures.0

@@ -7,8 +7,6 @@ pub returns-then-same : goal.returns-then-same
 unfolding file_seen
 returns-then-same c = sym (pick_true _ _ c.if-same.true)
 
-
 pub returns : goal.returns
 unfolding file_seen
 returns c = sym (pick_false _ _ c.if-same.false)
-

@@ -11,7 +11,6 @@ pub loop-next-init : goal.loop-next-init
 unfolding find_of
 loop-next-init c = at_start _ _ _ _ _
 
-
 pub returns-in-Refused : goal.returns-in-Refused
 returns-in-Refused c =
     at_stop c.loop-next.invariant c.loop-next-test.true c.slot_at-s.ensures c.in-Refused.is refl
@@ -22,7 +21,6 @@ loop-next-preserved-in-Free c =
 
 pub named-requires : goal.named-requires
 named-requires c = (search rules, search rules, (found_file _ _ _ _ c.slot_at-s.ensures c.in-File.is).short)
-
 
 pub returns-then-named : goal.returns-then-named
 returns-then-named c =
@@ -36,4 +34,3 @@ loop-next-preserved c =
 
 pub returns : goal.returns
 returns c = at_end c.loop-next.invariant c.loop-next-test.false
-

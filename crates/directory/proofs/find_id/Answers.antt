@@ -9,7 +9,6 @@ pub loop-next-init : goal.loop-next-init
 unfolding find_id_of
 loop-next-init c = at_start _ _ _ _ _
 
-
 pub returns-in-Refused : goal.returns-in-Refused
 returns-in-Refused c =
     at_stop c.loop-next.invariant c.loop-next-test.true c.slot_at-s.ensures c.in-Refused.is refl
@@ -30,4 +29,3 @@ loop-next-preserved c =
 
 pub returns : goal.returns
 returns c = at_end c.loop-next.invariant c.loop-next-test.false
-

@@ -7,8 +7,6 @@ pub returns-then-s : goal.returns-then-s
 unfolding free_seen
 returns-then-s c = sym (pick_true _ _ c.if-s.true)
 
-
 pub returns : goal.returns
 unfolding free_seen
 returns c = sym (pick_false _ _ c.if-s.false)
-

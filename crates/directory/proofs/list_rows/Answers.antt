@@ -12,26 +12,22 @@ pub loop-next-init : goal.loop-next-init
 unfolding rows_of
 loop-next-init c = (at_start _ _ _ _ _, search rules, refl)
 
-
 pub shape_of-rows-in-Refused : goal.shape_of-rows-in-Refused
 shape_of-rows-in-Refused c = c.loop-next.invariant.2
-
 
 pub returns-in-Refused : goal.returns-in-Refused
 returns-in-Refused c =
     at_stop c.loop-next.invariant.0 c.loop-next-test.true c.slot_at-s.ensures c.in-Refused.is refl
 
 pub loop-next-preserved-in-Free : goal.loop-next-preserved-in-Free
-loop-next-preserved-in-Free c =
-    (
-      at_next c.loop-next.invariant.0 c.loop-next-test.true c.slot_at-s.ensures c.in-Free.is refl,
-      omega arith,
-      c.loop-next.invariant.2,
-    )
+loop-next-preserved-in-Free c = (
+  at_next c.loop-next.invariant.0 c.loop-next-test.true c.slot_at-s.ensures c.in-Free.is refl,
+  omega arith,
+  c.loop-next.invariant.2,
+)
 
 pub is_in-requires : goal.is_in-requires
 is_in-requires c = (search rules, search rules, (found_file _ _ _ _ c.slot_at-s.ensures c.in-File.is).short)
-
 
 pub overflow_add-a : goal.overflow_add-a
 overflow_add-a c =
@@ -49,7 +45,6 @@ slice_bounds-put_row-end c =
 
 pub put_row-requires : goal.put_row-requires
 put_row-requires c = (omega arith, omega arith, slice_short _ _ _ (found_file _ _ _ _ c.slot_at-s.ensures c.in-File.is).short)
-
 
 pub loop-next-preserved-then-is_in : goal.loop-next-preserved-then-is_in
 loop-next-preserved-then-is_in c =
@@ -75,7 +70,5 @@ loop-next-preserved c = let l = c.loop-next in
 pub shape_of-rows : goal.shape_of-rows
 shape_of-rows c = c.loop-next.invariant.2
 
-
 pub returns : goal.returns
 returns c = at_end c.loop-next.invariant.0 c.loop-next-test.false
-

@@ -1,5 +1,4 @@
 use Prim.Native.Nat.{◌-◌}
-use Rattle.walk.specs.Walk.{next}
 use Rattle.directory.specs.Scan.{looking, look_of}
 use Rattle.directory.proofs.Scans.{ScanAt}
 use Rattle.directory.proofs.look.Given as goal

@@ -7,8 +7,6 @@ pub returns-then-counts-s : goal.returns-then-counts-s
 unfolding older_of
 returns-then-counts-s c = sym (pick_true _ _ c.if-counts-s.true)
 
-
 pub returns : goal.returns
 unfolding older_of
 returns c = sym (pick_false _ _ c.if-counts-s.false)
-

@@ -9,7 +9,6 @@ pub loop-next-init : goal.loop-next-init
 unfolding oldest_of
 loop-next-init c = at_start _ _ _ _ _
 
-
 pub returns-in-Refused : goal.returns-in-Refused
 returns-in-Refused c =
     at_stop c.loop-next.invariant c.loop-next-test.true c.slot_at-s.ensures c.in-Refused.is refl
@@ -21,7 +20,6 @@ loop-next-preserved-in-Free c =
 pub is_in-within-requires : goal.is_in-within-requires
 is_in-within-requires c = (search rules, search rules, (found_file _ _ _ _ c.slot_at-s.ensures c.in-File.is).short)
 
-
 pub loop-next-preserved : goal.loop-next-preserved
 loop-next-preserved c =
     at_next c.loop-next.invariant c.loop-next-test.true c.slot_at-s.ensures c.in-File.is
@@ -29,4 +27,3 @@ loop-next-preserved c =
 
 pub returns : goal.returns
 returns c = at_end c.loop-next.invariant c.loop-next-test.false
-

@@ -3,4 +3,3 @@ use Rattle.files.proofs.refused.Goals as goal
 
 pub returns : goal.returns
 returns c = rw c.no_appender-appender.ensures refl
-

@@ -3,4 +3,3 @@ use Rattle.files.proofs.rolled_over.Goals as goal
 
 pub returns : goal.returns
 returns c = rw c.no_appender-appender.ensures refl
-

@@ -11,7 +11,6 @@ use Rattle.files.proofs.round.Goals as goal
 pub look-found-requires : goal.look-found-requires
 look-found-requires c = (store_facts _ _ c.requires.0).enough
 
-
 pub returns-then-seen : goal.returns-then-seen
 returns-then-seen c =
     let a = c.args in

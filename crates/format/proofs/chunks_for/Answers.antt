@@ -6,8 +6,6 @@ pub returns-then-fit-lt2048 : goal.returns-then-fit-lt2048
 unfolding chunks_of
 returns-then-fit-lt2048 c = search rules
 
-
 pub returns : goal.returns
 unfolding chunks_of
 returns c = search rules
-

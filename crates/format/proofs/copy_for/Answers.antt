@@ -6,13 +6,10 @@ pub returns-then-takes_b : goal.returns-then-takes_b
 unfolding copy_for pick
 returns-then-takes_b c = rw (← c.takes_b.ensures, c.if-takes_b.true)
 
-
 pub returns-then-is_ours : goal.returns-then-is_ours
 unfolding copy_for pick
 returns-then-is_ours c = rw (← c.takes_b.ensures, c.if-takes_b.false, ← c.is_ours.ensures, c.if-is_ours.true)
 
-
 pub returns : goal.returns
 unfolding copy_for pick
 returns c = rw (← c.takes_b.ensures, c.if-takes_b.false, ← c.is_ours.ensures, c.if-is_ours.false)
-

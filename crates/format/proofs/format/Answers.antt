@@ -5,7 +5,6 @@ use Rattle.format.proofs.format.Goals as goal
 pub returns-then-not-sized : goal.returns-then-not-sized
 returns-then-not-sized c = let a = c.args in wrong_size a.size a.seed a.volume.now a.medium (rw c.if-not-sized.true refl) c.refused.ensures
 
-
 pub returns-in-No : goal.returns-in-No
 returns-in-No c =
     let a = c.args in

@@ -6,7 +6,6 @@ use Rattle.format.proofs.id_from.Goals as goal
 pub loop-tried-init : goal.loop-tried-init
 loop-tried-init c = (omega arith, refl)
 
-
 pub returns-then-not-bad : goal.returns-then-not-bad
 returns-then-not-bad c =
     let l = c.loop-tried in
@@ -22,4 +21,3 @@ loop-tried-preserved c =
 
 pub returns : goal.returns
 returns c = let l = c.loop-tried in id_last c.args.c l.id l.tried c.spare.ensures (omega arith) l.invariant.1
-

@@ -33,7 +33,6 @@ returns-in-No-last c =
 pub full-free-requires : goal.full-free-requires
 full-free-requires c = omega (arith, c.requires.1)
 
-
 pub returns : goal.returns
 returns c =
     let a = c.args in

@@ -6,7 +6,6 @@ pub returns-then-not-has_id : goal.returns-then-not-has_id
 unfolding spare_of pick
 returns-then-not-has_id c = rw (← c.has_id.ensures, c.if-not-has_id.true)
 
-
 pub returns-then-not-has_id-2 : goal.returns-then-not-has_id-2
 unfolding spare_of pick
 returns-then-not-has_id-2 c =

@@ -6,7 +6,6 @@ pub returns-then-takes_b : goal.returns-then-takes_b
 unfolding choice_of pick
 returns-then-takes_b c = rw (← c.takes_b.ensures, c.if-takes_b.true, ← c.is_ours-a.ensures) c.taken.ensures
 
-
 pub returns-then-a : goal.returns-then-a
 unfolding choice_of pick
 returns-then-a c =

@@ -7,4 +7,3 @@ use Rattle.header.proofs.copy_at.Goals as goal
 pub returns : goal.returns
 unfolding copy_of sector_at part
 returns c = rw (← c.sectors.ensures) (simp add-sub_cancel_left at c.decode.ensures)
-

@@ -6,8 +6,6 @@ pub returns-in-No : goal.returns-in-No
 unfolding current_of on_done
 returns-in-No c = rw (← c.headers-c.ensures, c.in-No.is) c.no_current.ensures
 
-
 pub returns : goal.returns
 unfolding current_of on_done choice_of takes_b
 returns c = rw (← c.headers-c.ensures, c.in_default.is) c.choice.ensures
-

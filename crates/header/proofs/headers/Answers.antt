@@ -10,7 +10,6 @@ pub returns-then-sectors-lt64 : goal.returns-then-sectors-lt64
 unfolding headers_of pick
 returns-then-sectors-lt64 c = rw (← c.sectors.ensures, lt-ltb _ _ c.if-sectors-lt64.true) c.no_copies.ensures
 
-
 pub returns-in-No : goal.returns-in-No
 unfolding headers_of pick on_done
 returns-in-No c =
@@ -24,33 +23,32 @@ returns-in-No c =
 pub returns-then-is_foreign : goal.returns-then-is_foreign
 returns-then-is_foreign c =
     let seen : Seen c.args.volume.now c.args.medium c.copy_at-a.result c.is_foreign.result = record {
-          enough = rw c.sectors.ensures at (le-ltb _ _ c.if-sectors-lt64.false);
-          reads = told c.readable-ra.ensures c.in_default.is;
-          copy = c.copy_at-a.ensures;
-          foreign = c.is_foreign.ensures;
-        } in
+      enough = rw c.sectors.ensures at (le-ltb _ _ c.if-sectors-lt64.false);
+      reads = told c.readable-ra.ensures c.in_default.is;
+      copy = c.copy_at-a.ensures;
+      foreign = c.is_foreign.ensures;
+    } in
     foreign_a seen c.if-is_foreign.true c.no_copies-then-is_foreign.ensures
-
 
 pub returns-in-No-rb : goal.returns-in-No-rb
 returns-in-No-rb c =
     let seen : Seen c.args.volume.now c.args.medium c.copy_at-a.result c.is_foreign.result = record {
-          enough = rw c.sectors.ensures at (le-ltb _ _ c.if-sectors-lt64.false);
-          reads = told c.readable-ra.ensures c.in_default.is;
-          copy = c.copy_at-a.ensures;
-          foreign = c.is_foreign.ensures;
-        } in
+      enough = rw c.sectors.ensures at (le-ltb _ _ c.if-sectors-lt64.false);
+      reads = told c.readable-ra.ensures c.in_default.is;
+      copy = c.copy_at-a.ensures;
+      foreign = c.is_foreign.ensures;
+    } in
     unread_b seen c.if-is_foreign.false c.readable-rb.ensures c.in-No-rb.is
     c.no_copies-in-No-rb.ensures
 
 pub returns-then-is_foreign-2 : goal.returns-then-is_foreign-2
 returns-then-is_foreign-2 c =
     let seen : Seen c.args.volume.now c.args.medium c.copy_at-a.result c.is_foreign.result = record {
-          enough = rw c.sectors.ensures at (le-ltb _ _ c.if-sectors-lt64.false);
-          reads = told c.readable-ra.ensures c.in_default.is;
-          copy = c.copy_at-a.ensures;
-          foreign = c.is_foreign.ensures;
-        } in
+      enough = rw c.sectors.ensures at (le-ltb _ _ c.if-sectors-lt64.false);
+      reads = told c.readable-ra.ensures c.in_default.is;
+      copy = c.copy_at-a.ensures;
+      foreign = c.is_foreign.ensures;
+    } in
     foreign_b seen c.if-is_foreign.false c.readable-rb.ensures
     c.in_default-rb.is c.copy_at-b.ensures c.is_foreign-2.ensures c.if-is_foreign-2.true
     c.no_copies-then-is_foreign-2.ensures
@@ -58,11 +56,11 @@ returns-then-is_foreign-2 c =
 pub returns : goal.returns
 returns c =
     let seen : Seen c.args.volume.now c.args.medium c.copy_at-a.result c.is_foreign.result = record {
-          enough = rw c.sectors.ensures at (le-ltb _ _ c.if-sectors-lt64.false);
-          reads = told c.readable-ra.ensures c.in_default.is;
-          copy = c.copy_at-a.ensures;
-          foreign = c.is_foreign.ensures;
-        } in
+      enough = rw c.sectors.ensures at (le-ltb _ _ c.if-sectors-lt64.false);
+      reads = told c.readable-ra.ensures c.in_default.is;
+      copy = c.copy_at-a.ensures;
+      foreign = c.is_foreign.ensures;
+    } in
     both seen c.if-is_foreign.false c.readable-rb.ensures
     c.in_default-rb.is c.copy_at-b.ensures c.is_foreign-2.ensures
     c.if-is_foreign-2.false

@@ -6,8 +6,6 @@ pub returns-in-No : goal.returns-in-No
 unfolding mount_of on_done
 returns-in-No c = rw (← c.current-c.ensures, c.in-No.is, c.no_store-store.ensures)
 
-
 pub returns : goal.returns
 unfolding mount_of on_done
 returns c = rw (← c.current-c.ensures, c.in_default.is, c.unfit-free.ensures)
-

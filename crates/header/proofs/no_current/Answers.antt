@@ -5,4 +5,3 @@ use Rattle.header.proofs.no_current.Goals as goal
 pub returns : goal.returns
 unfolding no_current zeros
 returns c = rw c.blank-head.ensures
-

@@ -5,4 +5,3 @@ use Rattle.header.proofs.same_store.Goals as goal
 pub returns : goal.returns
 unfolding same_store
 returns c = refl
-

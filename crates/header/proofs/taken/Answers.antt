@@ -4,4 +4,3 @@ use Rattle.header.proofs.taken.Goals as goal
 pub returns : goal.returns
 unfolding taken_of
 returns c = rw c.same_store-same.ensures
-

@@ -4,4 +4,3 @@ use Rattle.header.proofs.takes_b.Goals as goal
 pub returns : goal.returns
 unfolding takes_b
 returns c = rw (c.is_ours-2.ensures, c.is_ours.ensures)
-

@@ -39,7 +39,6 @@ overflow_add-result c =
     let number-end : c.put_field-b.result ≤ 38 = omega (arith, id-end, short-number, c.put_field-b.ensures.1) in
     record { fits = omega (arith, number-end) }
 
-
 pub returns : goal.returns
 returns c =
     let short-id : length (decimal_text c.args.id) ≤ 10 = text_short c.args.id (omega (arith, c.ranges.id)) in

@@ -8,7 +8,6 @@ use Rattle.marks.proofs.numbers.Goals as goal
 pub returns-in_default : goal.returns-in_default
 returns-in_default c = sym (no_id _ _ (told c.plain.ensures c.in_default.is))
 
-
 pub returns-in_default-plain : goal.returns-in_default-plain
 returns-in_default-plain c =
     sym (no_number _ _ (told c.plain.ensures c.in-Value.is) (told c.plain-2.ensures c.in_default-plain.is))

@@ -8,7 +8,6 @@ use Rattle.marks.proofs.three.Goals as goal
 pub returns-then-first-text : goal.returns-then-first-text
 returns-then-first-text c = sym (no_tab _ _ _ c.field_end-first.ensures.0 c.if-first-text.true)
 
-
 pub returns-then-not-same : goal.returns-then-not-same
 returns-then-not-same c =
     sym (other_name _ _ _ c.field_end-first.ensures.0 (omega arith) (told c.same.ensures c.if-not-same.true))

@@ -67,4 +67,3 @@ returns-in-Extend c =
 pub returns-in-Remove : goal.returns-in-Remove
 unfolding edit_of
 returns-in-Remove c = rw c.in-Remove.is c.clear_slot.ensures
-

@@ -4,4 +4,3 @@ use Rattle.plan.proofs.head_after.Goals as goal
 pub returns : goal.returns
 unfolding head_after
 returns c = cc
-

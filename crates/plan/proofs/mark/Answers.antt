@@ -5,8 +5,6 @@ pub returns-then-partial : goal.returns-then-partial
 unfolding pick
 returns-then-partial c = rw c.if-partial.true c.put_link.ensures
 
-
 pub returns-else-partial : goal.returns-else-partial
 unfolding pick
 returns-else-partial c = rw c.if-partial.false
-

@@ -8,7 +8,6 @@ pub returns-then-k-slot : goal.returns-then-k-slot
 unfolding entry_put pick
 returns-then-k-slot c = rw (ne_eqb _ _ c.if-k-slot.true)
 
-
 pub returns : goal.returns
 unfolding entry_put pick
 returns c =

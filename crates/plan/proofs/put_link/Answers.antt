@@ -7,8 +7,6 @@ pub returns-then-k-chunk : goal.returns-then-k-chunk
 unfolding link_put pick
 returns-then-k-chunk c = rw (ne_eqb _ _ c.if-k-chunk.true)
 
-
 pub returns : goal.returns
 unfolding link_put pick
 returns c = rw (eq-eqb _ _ c.if-k-chunk.false) c.put_link.ensures
-

@@ -5,4 +5,3 @@ use Rattle.reader.proofs.no_reader.Goals as goal
 pub returns : goal.returns
 unfolding no_reader
 returns c = refl
-

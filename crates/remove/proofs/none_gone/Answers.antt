@@ -5,4 +5,3 @@ use Rattle.remove.proofs.none_gone.Goals as goal
 pub returns : goal.returns
 unfolding zeros
 returns c = refl
-

@@ -8,7 +8,6 @@ pub commit-c-requires : goal.commit-c-requires
 unfolding is_format
 commit-c-requires c = (c.requires.0, c.requires.1, refl, lit≤ tt)
 
-
 pub returns-in-No : goal.returns-in-No
 returns-in-No c =
     let a = c.args in

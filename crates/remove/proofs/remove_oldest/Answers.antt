@@ -10,7 +10,6 @@ use Rattle.remove.proofs.remove_oldest.Goals as goal
 pub oldest-found-requires : goal.oldest-found-requires
 oldest-found-requires c = (store_facts _ _ c.requires).enough
 
-
 pub returns-then-not-old : goal.returns-then-not-old
 returns-then-not-old c =
     let a = c.args in

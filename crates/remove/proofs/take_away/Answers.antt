@@ -11,10 +11,8 @@ use Rattle.remove.proofs.take_away.Goals as goal
 pub slice_bounds-put_bytes-end-2 : goal.slice_bounds-put_bytes-end-2
 slice_bounds-put_bytes-end-2 c = omega (arith, (store_facts _ _ c.requires.0).enough, c.entry_place-a.ensures.1)
 
-
 pub put_bytes-requires : goal.put_bytes-requires
 put_bytes-requires c = search (rules, (store_facts _ _ c.requires.0).enough)
-
 
 pub returns-in-No : goal.returns-in-No
 returns-in-No c =

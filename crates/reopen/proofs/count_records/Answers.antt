@@ -6,10 +6,8 @@ use Rattle.reopen.proofs.count_records.Goals as goal
 pub loop-left-init : goal.loop-left-init
 loop-left-init c = let a = c.args in counting_start a.volume.now a.medium a.store a.id a.chunk a.position
 
-
 pub record_at-j-requires : goal.record_at-j-requires
 record_at-j-requires c = let p = c.requires in (p.0, p.1, p.2, omega (arith, c.loop-left.invariant.most))
-
 
 pub returns-in-Refused : goal.returns-in-Refused
 returns-in-Refused c =
@@ -26,4 +24,3 @@ loop-left-preserved c =
 
 pub returns : goal.returns
 returns c = count_none c.loop-left.invariant c.loop-left-test.false
-

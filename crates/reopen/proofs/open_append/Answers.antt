@@ -5,10 +5,8 @@ use Rattle.reopen.proofs.open_append.Goals as goal
 pub find-f-requires : goal.find-f-requires
 find-f-requires c = (store_facts _ _ c.requires).enough
 
-
 pub open_file-requires : goal.open_file-requires
 open_file-requires c = c.requires
-
 
 pub returns-in-Refused : goal.returns-in-Refused
 returns-in-Refused c =

@@ -5,7 +5,6 @@ use Rattle.reopen.proofs.open_file.Goals as goal
 pub chain-c-requires : goal.chain-c-requires
 chain-c-requires c = let h = store_facts _ _ c.requires in (h.enough, h.head.chunks_most)
 
-
 pub overflow_sub-position : goal.overflow_sub-position
 overflow_sub-position c =
     let a = c.args in

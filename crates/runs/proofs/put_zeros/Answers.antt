@@ -14,8 +14,7 @@ loop-i-init c = (search rules, refl, paste-zero c.args.dst.now c.args.at (zeros 
 
 pub loop-i-preserved : goal.loop-i-preserved
 loop-i-preserved c =
-    let l = c.loop-i in
-    (
+    let l = c.loop-i in (
       omega arith,
       simp length-set l.invariant.1,
       ap (λ (d : List ℕ). set d (c.args.at + l.i) 0) l.invariant.2 ∙ zero_more c.args.dst.now c.args.at c.args.n l.i c.requires

@@ -5,4 +5,3 @@ use Rattle.session.proofs.allowed.Goals as goal
 pub returns : goal.returns
 unfolding allowed_of
 returns c = refl
-

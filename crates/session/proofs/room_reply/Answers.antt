@@ -4,7 +4,6 @@ use Rattle.session.proofs.room_reply.Goals as goal
 pub returns-in-No : goal.returns-in-No
 returns-in-No c = let args = c.args in room_not args.o args.appender c.in-No.is
 
-
 pub returns-in-Refused : goal.returns-in-Refused
 returns-in-Refused c =
     let args = c.args in

@@ -6,7 +6,6 @@ pub returns-then-not-s : goal.returns-then-not-s
 unfolding after_create
 returns-then-not-s c = let args = c.args in no_format args.volume.now args.s _ c.if-not-s.true c.refused.ensures _
 
-
 pub returns-then-not-s-2 : goal.returns-then-not-s-2
 returns-then-not-s-2 c =
     let args = c.args in

@@ -7,7 +7,6 @@ pub returns-then-not-handle_ok : goal.returns-then-not-handle_ok
 unfolding asked_of pick
 returns-then-not-handle_ok c = rw (← c.sectors.ensures, told c.handle_ok.ensures c.if-not-handle_ok.true)
 
-
 pub returns-then-not-fine : goal.returns-then-not-fine
 unfolding asked_of pick
 returns-then-not-fine c =

@@ -9,7 +9,6 @@ use Rattle.store.proofs.clear_counts.Goals as goal
 pub loop-i-init : goal.loop-i-init
 loop-i-init c = (search rules, refl, paste-zero c.args.counts.now 0 (zeros 64))
 
-
 pub loop-i-preserved : goal.loop-i-preserved
 loop-i-preserved c =
     let l = c.loop-i in (
@@ -20,4 +19,3 @@ loop-i-preserved c =
 
 pub returns : goal.returns
 returns c = let l = c.loop-i in cleared_all c.args.counts.now c.loop-i-test.false l.invariant.0 l.invariant.2
-

@@ -8,7 +8,6 @@ pub returns-in-No : goal.returns-in-No
 unfolding find_call on_done
 returns-in-No c = rw (← c.name_ok.ensures, told c.asked-o.ensures c.in-No.is)
 
-
 pub find-found-requires : goal.find-found-requires
 find-found-requires c =
     let args = c.args in

@@ -7,8 +7,7 @@ use Rattle.store.proofs.format.Goals as goal
 
 pub returns : goal.returns
 unfolding format_call
-returns c =
-    (
-      c.format.ensures.0,
-      ap (λ (r : StoreAnswer). store_answer r) c.committed.ensures ∙ ap (λ (z : Committed). store_answer (answer_of z)) c.format.ensures.1,
-    )
+returns c = (
+  c.format.ensures.0,
+  ap (λ (r : StoreAnswer). store_answer r) c.committed.ensures ∙ ap (λ (z : Committed). store_answer (answer_of z)) c.format.ensures.1,
+)

@@ -8,7 +8,6 @@ pub returns-in-No : goal.returns-in-No
 unfolding free_count_call on_done
 returns-in-No c = rw (told c.asked-o.ensures c.in-No.is)
 
-
 pub free_count-count-requires : goal.free_count-count-requires
 free_count-count-requires c =
     let args = c.args in
@@ -18,4 +17,3 @@ free_count-count-requires c =
 pub returns : goal.returns
 unfolding free_count_call on_done
 returns c = rw (told c.asked-o.ensures c.in_default.is, ← c.free_count-count.ensures)
-

@@ -10,7 +10,6 @@ pub returns-in-No : goal.returns-in-No
 unfolding mount_call on_done
 returns-in-No c = rw (← c.mount-m.ensures, c.in-No.is)
 
-
 pub filled-store-requires : goal.filled-store-requires
 filled-store-requires c =
     let a = c.args in
@@ -21,4 +20,3 @@ filled-store-requires c =
 pub returns : goal.returns
 unfolding mount_call on_done
 returns c = rw (← c.mount-m.ensures, c.in_default.is, c.filled-store.ensures)
-

@@ -5,14 +5,13 @@ use Rattle.le.proofs.Choices.{pick_true, pick_false}
 use Rattle.walk.specs.Walk as walk
 use Rattle.walk.proofs.Laws.{at_start, at_next, at_stop, at_end}
 use borrow.Author.Tests.{eq-eqb, ne_eqb}
-use Rattle.table.specs.Table.{chain_step, chain_end, chain_of}
+use Rattle.table.specs.Table.{chain_step, chain_of}
 use Rattle.table.proofs.Walks.{chain_below}
 use Rattle.table.proofs.chain.Goals as goal
 
 pub loop-next-init : goal.loop-next-init
 unfolding chain_of
 loop-next-init c = (at_start _ _ _ _ _, search rules)
-
 
 pub returns-in-Refused : goal.returns-in-Refused
 returns-in-Refused c =
@@ -46,4 +45,3 @@ loop-next-preserved c = (
 
 pub returns : goal.returns
 returns c = c.chain_end.ensures ∙ at_end c.loop-next.invariant.0 (omega arith)
-

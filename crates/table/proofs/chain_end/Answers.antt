@@ -7,13 +7,10 @@ pub returns-then-s : goal.returns-then-s
 unfolding chain_end pick
 returns-then-s c = rw (c.in-At.is, ne_eqb _ _ c.if-s.true)
 
-
 pub returns-in-Refused : goal.returns-in-Refused
 unfolding chain_end
 returns-in-Refused c = rw c.in-Refused.is
 
-
 pub returns-else-s : goal.returns-else-s
 unfolding chain_end pick
 returns-else-s c = rw (c.in-At.is, eq-eqb _ _ c.if-s.false)
-

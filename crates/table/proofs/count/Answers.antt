@@ -11,10 +11,8 @@ pub loop-next-init : goal.loop-next-init
 unfolding count_of
 loop-next-init c = (at_start _ _ _ _ _, refl, λ k h. omega (arith, c.requires.3 k h))
 
-
 pub shape_of-counts-in-Refused : goal.shape_of-counts-in-Refused
 shape_of-counts-in-Refused c = c.loop-next.invariant.1
-
 
 pub returns-in-Refused : goal.returns-in-Refused
 returns-in-Refused c =
@@ -39,10 +37,8 @@ loop-next-preserved-in-Free c = (
 pub offset_bounds-counts-s : goal.offset_bounds-counts-s
 offset_bounds-counts-s c = omega (arith, (found_link _ _ _ _ c.link_at-e.ensures c.in-Linked.is).1.slot)
 
-
 pub bounds-counts-s : goal.bounds-counts-s
 bounds-counts-s c = omega (arith, (found_link _ _ _ _ c.link_at-e.ensures c.in-Linked.is).1.slot)
-
 
 pub overflow_add-counts : goal.overflow_add-counts
 overflow_add-counts c =
@@ -52,10 +48,8 @@ overflow_add-counts c =
 pub offset_bounds-counts-s-in-Linked : goal.offset_bounds-counts-s-in-Linked
 offset_bounds-counts-s-in-Linked c = omega (arith, (found_link _ _ _ _ c.link_at-e.ensures c.in-Linked.is).1.slot)
 
-
 pub bounds-counts-s-in-Linked : goal.bounds-counts-s-in-Linked
 bounds-counts-s-in-Linked c = omega (arith, (found_link _ _ _ _ c.link_at-e.ensures c.in-Linked.is).1.slot)
-
 
 pub loop-next-preserved : goal.loop-next-preserved
 loop-next-preserved c =
@@ -68,7 +62,6 @@ loop-next-preserved c =
 
 pub shape_of-counts : goal.shape_of-counts
 shape_of-counts c = c.loop-next.invariant.1
-
 
 pub returns : goal.returns
 returns c =

@@ -7,8 +7,6 @@ pub returns-then-l-eq0 : goal.returns-then-l-eq0
 unfolding first_step pick
 returns-then-l-eq0 c = rw (eq-eqb _ _ c.if-l-eq0.true)
 
-
 pub returns : goal.returns
 unfolding first_step pick
 returns c = rw (ne_eqb _ _ c.if-l-eq0.false)
-

@@ -12,11 +12,9 @@ pub returns-in-Refused : goal.returns-in-Refused
 unfolding free_step
 returns-in-Refused c = rw c.in-Refused.is
 
-
 pub returns-in-Nothing : goal.returns-in-Nothing
 unfolding free_step
 returns-in-Nothing c = rw c.in-Nothing.is
-
 
 pub returns-else-b-cursor : goal.returns-else-b-cursor
 unfolding free_step

@@ -10,7 +10,6 @@ pub loop-next-init : goal.loop-next-init
 unfolding locate_of
 loop-next-init c = at_start _ _ _ _ _
 
-
 pub returns-in-Refused : goal.returns-in-Refused
 returns-in-Refused c =
     at_stop c.loop-next.invariant (omega arith) c.link_at-e.ensures c.in-Refused.is refl
@@ -18,10 +17,8 @@ returns-in-Refused c =
 pub loop-next-preserved-in-Past : goal.loop-next-preserved-in-Past
 loop-next-preserved-in-Past c = at_next c.loop-next.invariant (omega arith) c.link_at-e.ensures c.in-Past.is refl
 
-
 pub loop-next-preserved-in-Free : goal.loop-next-preserved-in-Free
 loop-next-preserved-in-Free c = at_next c.loop-next.invariant (omega arith) c.link_at-e.ensures c.in-Free.is refl
-
 
 pub loop-next-preserved-then-l-slot : goal.loop-next-preserved-then-l-slot
 unfolding locate_step
@@ -39,4 +36,3 @@ loop-next-preserved c =
 
 pub returns : goal.returns
 returns c = at_end c.loop-next.invariant (omega arith)
-

@@ -7,8 +7,6 @@ pub returns-then-link : goal.returns-then-link
 unfolding place_of pick
 returns-then-link c = rw c.if-link.true
 
-
 pub returns : goal.returns
 unfolding place_of pick
 returns c = rw (c.if-link.false, add-zero)
-

@@ -11,14 +11,13 @@ returns-in_default c = (rw (told c.read.ensures c.in_default.is), tt)
 
 pub returns-in_default-read : goal.returns-in_default-read
 unfolding both_of format_of meaning within
-returns-in_default-read c =
-    (
-      rw (
-        told c.read.ensures c.in-Value.is,
-        told (simp tail_part at c.read-2.ensures) c.in_default-read.is,
-      ),
-      tt,
-    )
+returns-in_default-read c = (
+  rw (
+    told c.read.ensures c.in-Value.is,
+    told (simp tail_part at c.read-2.ensures) c.in_default-read.is,
+  ),
+  tt,
+)
 
 pub overflow_cast-result : goal.overflow_cast-result
 overflow_cast-result c =
@@ -31,11 +30,10 @@ overflow_cast-result c =
 
 pub returns : goal.returns
 unfolding both_of format_of meaning within
-returns c =
-    (
-      rw (
-        told c.read.ensures c.in-Value.is,
-        told (simp tail_part at c.read-2.ensures) c.in-Value-read.is,
-      ),
-      tt,
-    )
+returns c = (
+  rw (
+    told c.read.ensures c.in-Value.is,
+    told (simp tail_part at c.read-2.ensures) c.in-Value-read.is,
+  ),
+  tt,
+)

@@ -14,14 +14,13 @@ returns-then-same c = (c.format_line.ensures.0 ∙ rw (told (simp sub-zero at c.
 
 pub returns-then-not-same : goal.returns-then-not-same
 unfolding with_two_of meaning within pick
-returns-then-not-same c =
-    (
-      rw (
-        told (simp sub-zero at c.same.ensures) c.if-same.false,
-        told (simp sub-zero at c.same-2.ensures) c.if-not-same.true,
-      ),
-      tt,
-    )
+returns-then-not-same c = (
+  rw (
+    told (simp sub-zero at c.same.ensures) c.if-same.false,
+    told (simp sub-zero at c.same-2.ensures) c.if-not-same.true,
+  ),
+  tt,
+)
 
 pub returns : goal.returns
 unfolding meaning within

@@ -4,4 +4,3 @@ use Rattle.append.proofs.Appender.is_live.Goals as goal
 pub returns : goal.returns
 unfolding live
 returns c = rw (c.writes.ensures, c.is_closed.ensures)
-

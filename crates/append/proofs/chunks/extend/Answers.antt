@@ -13,7 +13,6 @@ returns-then-appender-ge32767 c =
 pub free_chunk-p-requires : goal.free_chunk-p-requires
 free_chunk-p-requires c = let h = store_facts _ _ c.requires.0 in (h.enough, h.head.chunks_most, h.head.cursor)
 
-
 pub rolled-requires : goal.rolled-requires
 rolled-requires c =
     (c.requires.0, c.requires.1, c.if-appender-ge32767.false, c.requires.2, c.if-appender.true)
@@ -25,14 +24,13 @@ returns-then-appender c =
     c.free_chunk-p.ensures c.in-Nothing.is c.if-appender.true c.rolled.ensures
 
 pub link-requires : goal.link-requires
-link-requires c =
-    (
-      c.requires.0,
-      c.requires.1,
-      c.if-appender-ge32767.false,
-      c.requires.2,
-      free_range _ _ _ (store_facts _ _ c.requires.0).map (told c.free_chunk-p.ensures c.in-At.is),
-    )
+link-requires c = (
+  c.requires.0,
+  c.requires.1,
+  c.if-appender-ge32767.false,
+  c.requires.2,
+  free_range _ _ _ (store_facts _ _ c.requires.0).map (told c.free_chunk-p.ensures c.in-At.is),
+)
 
 pub returns-in-Refused : goal.returns-in-Refused
 returns-in-Refused c =

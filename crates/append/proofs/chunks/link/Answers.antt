@@ -10,7 +10,6 @@ pub commit-c-requires : goal.commit-c-requires
 unfolding is_format
 commit-c-requires c = let p = c.requires in (p.0, (p.1.slot, omega (arith, p.2), p.4, p.1.chunk, p.3), refl, lit≤ tt)
 
-
 pub returns-in-No : goal.returns-in-No
 returns-in-No c =
     let a = c.args in
@@ -19,7 +18,6 @@ returns-in-No c =
 
 pub moved_to-moved-requires : goal.moved_to-moved-requires
 moved_to-moved-requires c = c.requires.2
-
 
 pub returns : goal.returns
 returns c =

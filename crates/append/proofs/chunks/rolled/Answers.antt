@@ -20,7 +20,6 @@ slice_bounds-remove_oldest-end c =
 pub remove_oldest-g-requires : goal.remove_oldest-g-requires
 remove_oldest-g-requires c = c.requires.0
 
-
 pub returns-in-No : goal.returns-in-No
 returns-in-No c =
     let a = c.args in
@@ -50,7 +49,6 @@ link-requires c =
 pub shape_of-volume-in-Refused : goal.shape_of-volume-in-Refused
 shape_of-volume-in-Refused c = c.remove_oldest-g.auto.volume
 
-
 pub returns-in-Refused : goal.returns-in-Refused
 returns-in-Refused c =
     let a = c.args in
@@ -60,7 +58,6 @@ returns-in-Refused c =
 
 pub shape_of-volume-in-Nothing : goal.shape_of-volume-in-Nothing
 shape_of-volume-in-Nothing c = c.remove_oldest-g.auto.volume
-
 
 pub returns-in-Nothing : goal.returns-in-Nothing
 returns-in-Nothing c =
@@ -72,7 +69,6 @@ returns-in-Nothing c =
 
 pub shape_of-volume-in-At : goal.shape_of-volume-in-At
 shape_of-volume-in-At c = c.link.auto.volume ∙ c.remove_oldest-g.auto.volume
-
 
 pub returns-in-At : goal.returns-in-At
 returns-in-At c =

@@ -17,7 +17,6 @@ loop-i-init c =
 pub run_of-n-requires : goal.run_of-n-requires
 run_of-n-requires c = c.loop-i.invariant.fit.fill
 
-
 pub overflow_add-e : goal.overflow_add-e
 overflow_add-e c =
     let t = (turn_fits c.args.bytes.now c.loop-i.i c.loop-i.a.fill c.run_of-n.ensures c.loop-i.invariant.room
@@ -62,7 +61,6 @@ loop-i-preserved c =
 
 pub shape_of-volume : goal.shape_of-volume
 shape_of-volume c = c.loop-i.invariant.size
-
 
 pub returns : goal.returns
 returns c =

@@ -7,7 +7,6 @@ use Rattle.append.proofs.gather.put_run.Goals as goal
 pub put_at-requires : goal.put_at-requires
 put_at-requires c = c.requires.3
 
-
 pub flush-requires : goal.flush-requires
 flush-requires c =
     let a = c.args in

@@ -7,8 +7,6 @@ pub returns-then-left-fill : goal.returns-then-left-fill
 unfolding run_of pick
 returns-then-left-fill c = rw (lt-ltb _ _ c.if-left-fill.true)
 
-
 pub returns : goal.returns
 unfolding run_of pick
 returns c = rw (le-ltb _ _ c.if-left-fill.false)
-

@@ -7,7 +7,6 @@ use Rattle.append.proofs.records.write.Goals as goal
 pub write_at-requires : goal.write_at-requires
 write_at-requires c = (c.requires.0, c.requires.1, c.if-index-store.true)
 
-
 pub returns-then-index-store : goal.returns-then-index-store
 returns-then-index-store c =
     let a = c.args in
@@ -16,14 +15,12 @@ returns-then-index-store c =
 pub write_next-requires : goal.write_next-requires
 write_next-requires c = (c.requires.0, c.requires.1, lit≤ tt)
 
-
 pub write_next-requires-in-Reopened : goal.write_next-requires-in-Reopened
-write_next-requires-in-Reopened c =
-    (
-      c.requires.0,
-      c.requires.1,
-      reopened_few c.args.appender c.args.store _ _ c.requires.0 c.requires.1 c.in-Reopened.is,
-    )
+write_next-requires-in-Reopened c = (
+  c.requires.0,
+  c.requires.1,
+  reopened_few c.args.appender c.args.store _ _ c.requires.0 c.requires.1 c.in-Reopened.is,
+)
 
 pub returns-else-index-store : goal.returns-else-index-store
 returns-else-index-store c =

@@ -4,4 +4,3 @@ use Rattle.append.proofs.refusals.fill_ok.Goals as goal
 pub returns : goal.returns
 unfolding fill_ok
 returns c = rw c.is_closed.ensures
-

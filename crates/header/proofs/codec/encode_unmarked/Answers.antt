@@ -4,4 +4,3 @@ use Rattle.header.proofs.codec.encode_unmarked.Goals as goal
 pub returns : goal.returns
 unfolding unmarked_of
 returns c = rw (← c.encode.ensures) c.put_zeros.ensures
-

@@ -8,7 +8,6 @@ use Rattle.header.proofs.codec.put_crcs.Goals as goal
 pub loop-k-init : goal.loop-k-init
 loop-k-init c = let a = c.args in (omega arith, words_start a.head.crcs a.sector.now, omega arith)
 
-
 pub loop-k-preserved : goal.loop-k-preserved
 loop-k-preserved c =
     let l = c.loop-k in
@@ -21,4 +20,3 @@ loop-k-preserved c =
 
 pub returns : goal.returns
 returns c = let l = c.loop-k in let e : l.k ≡ c.args.n = omega arith in rw e at l.invariant.1
-

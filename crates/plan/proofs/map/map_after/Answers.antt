@@ -9,7 +9,6 @@ use Rattle.plan.proofs.map.map_after.Goals as goal
 pub returns-then-not-map : goal.returns-then-not-map
 returns-then-not-map c = unfit_after c.args.volume.now c.args.store _ _ c.requires.3 c.if-not-map.true
 
-
 pub taken-requires : goal.taken-requires
 taken-requires c =
     let f = create_fits c.args.store.head.chunks c.in-Create.is c.requires.2 in

@@ -1,5 +1,5 @@
 use mathlib.Core.Path.{ap, ◌∙◌}
-use mathlib.Core.Bool.{true, false}
+use mathlib.Core.Bool.{false}
 use Rattle.freemap.specs.Map.{put_of}
 use Rattle.plan.proofs.Maps.{fitted, taken_one, taken_two}
 use Rattle.plan.proofs.map.taken.Goals as goal

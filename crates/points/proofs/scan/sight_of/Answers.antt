@@ -7,7 +7,6 @@ pub returns-then-not-seeking : goal.returns-then-not-seeking
 unfolding sought_of sight_of pick
 returns-then-not-seeking c = rw c.if-not-seeking.true
 
-
 pub returns-in-Nothing : goal.returns-in-Nothing
 unfolding sought_of sight_of pick
 returns-in-Nothing c =

@@ -7,7 +7,6 @@ use Rattle.reader.proofs.Reader.arrive.Goals as goal
 pub loop-r-init : goal.loop-r-init
 loop-r-init c = refl
 
-
 pub returns-then-not-passed_end : goal.returns-then-not-passed_end
 returns-then-not-passed_end c =
     let a = c.args in

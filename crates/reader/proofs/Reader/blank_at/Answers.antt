@@ -16,7 +16,5 @@ is_blank_at-requires c =
 pub returns-then-is_blank_at : goal.returns-then-is_blank_at
 returns-then-is_blank_at c = blank_yes _ _ _ _ c.is_blank_at.ensures c.if-is_blank_at.true
 
-
 pub returns : goal.returns
 returns c = blank_no _ _ _ _ c.is_blank_at.ensures c.if-is_blank_at.false
-

@@ -19,15 +19,11 @@ returns-then-limit-to c =
 pub returns-in-Refused : goal.returns-in-Refused
 returns-in-Refused c = cut_refused _ _ _ _ c.in-Refused.is
 
-
 pub returns-in-Payload : goal.returns-in-Payload
 returns-in-Payload c = cut_payload _ _ _ _ c.in-Payload.is
-
 
 pub returns-else-limit-to : goal.returns-else-limit-to
 returns-else-limit-to c = cut_uncut _ _ _ _ c.in-Hole.is c.if-limit-to.false
 
-
 pub returns-in-End : goal.returns-in-End
 returns-in-End c = cut_end _ _ _ _ c.in-End.is
-

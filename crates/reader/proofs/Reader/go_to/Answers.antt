@@ -19,11 +19,9 @@ pub returns-then-self-position : goal.returns-then-self-position
 unfolding seek_of pick
 returns-then-self-position c = rw (le-leb _ _ c.if-self-position.true, c.moved_to-reader.ensures)
 
-
 pub returns-then-position-self : goal.returns-then-position-self
 unfolding seek_of pick
 returns-then-position-self c = rw (lt-leb _ _ c.if-self-position.false, eq-eqb _ _ c.if-position-self.true, c.moved_to-reader-then-position-self.ensures)
-
 
 pub enter-requires : goal.enter-requires
 enter-requires c =
@@ -33,4 +31,3 @@ enter-requires c =
 pub returns : goal.returns
 unfolding seek_of pick
 returns c = rw (lt-leb _ _ c.if-self-position.false, ne_eqb _ _ c.if-position-self.false) c.enter.ensures
-

@@ -5,4 +5,3 @@ use Rattle.reader.proofs.Reader.moved_to.Goals as goal
 pub returns : goal.returns
 unfolding moved_to
 returns c = refl
-

@@ -8,8 +8,6 @@ pub returns-then-n-lt4294967296 : goal.returns-then-n-lt4294967296
 unfolding record_call number_at pick
 returns-then-n-lt4294967296 c = rw (lt-ltb _ _ c.if-n-lt4294967296.true)
 
-
 pub returns : goal.returns
 unfolding record_call number_at pick
 returns c = rw (le-ltb _ _ c.if-n-lt4294967296.false)
-

@@ -11,7 +11,6 @@ pub loop-next-init : goal.loop-next-init
 unfolding search_of
 loop-next-init c = record { most = c.requires.2; same = refl }
 
-
 pub number_at-n-requires : goal.number_at-n-requires
 number_at-n-requires c =
     number_needs c.args.store c.args.self _ c.loop-next.next c.requires.0 (reader_facts _ _ c.requires.1) (omega (arith, c.requires.3))
@@ -47,4 +46,3 @@ loop-next-preserved c =
 
 pub returns : goal.returns
 returns c = at_end c.loop-next.invariant c.loop-next-test.false
-

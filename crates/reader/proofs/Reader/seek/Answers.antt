@@ -10,7 +10,6 @@ returns-in-No c =
 pub go_to-d-requires : goal.go_to-d-requires
 go_to-d-requires c = (usable_facts _ _ _ c.check-o.ensures c.in_default.is).0
 
-
 pub returns : goal.returns
 returns c =
     let a = c.args in

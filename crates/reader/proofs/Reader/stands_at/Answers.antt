@@ -10,4 +10,3 @@ number_at-requires c =
 pub returns : goal.returns
 unfolding stands_at
 returns c = c.number_at.ensures
-

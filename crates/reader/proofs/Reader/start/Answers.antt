@@ -4,4 +4,3 @@ use Rattle.reader.proofs.Reader.start.Goals as goal
 pub returns : goal.returns
 unfolding start_of
 returns c = rw c.end_of-end.ensures
-

@@ -22,47 +22,42 @@ pub overflow_mul-a : goal.overflow_mul-a
 overflow_mul-a c =
     let below : c.args.self.index < c.args.store.head.chunk = let l = limit_most c.args.self.end c.args.store.head.chunk (reader_facts _ _ c.requires.1).end in omega (arith, l, c.requires.2) in
     let placed : c.data.result < sectors_of c.args.volume.now = rw c.data.ensures (record_inside c.args.volume.now c.args.medium c.args.store c.args.self c.args.self.index
-        c.requires.0 (reader_facts _ _ c.requires.1) below) in
+    c.requires.0 (reader_facts _ _ c.requires.1) below) in
     omega (arith, placed)
-
 
 pub overflow_add-a : goal.overflow_add-a
 overflow_add-a c =
     let below : c.args.self.index < c.args.store.head.chunk = let l = limit_most c.args.self.end c.args.store.head.chunk (reader_facts _ _ c.requires.1).end in omega (arith, l, c.requires.2) in
     let placed : c.data.result < sectors_of c.args.volume.now = rw c.data.ensures (record_inside c.args.volume.now c.args.medium c.args.store c.args.self c.args.self.index
-        c.requires.0 (reader_facts _ _ c.requires.1) below) in
+    c.requires.0 (reader_facts _ _ c.requires.1) below) in
     omega (arith, placed)
-
 
 pub overflow_add-a-in-Valid : goal.overflow_add-a-in-Valid
 overflow_add-a-in-Valid c =
     let below : c.args.self.index < c.args.store.head.chunk = let l = limit_most c.args.self.end c.args.store.head.chunk (reader_facts _ _ c.requires.1).end in omega (arith, l, c.requires.2) in
     let placed : c.data.result < sectors_of c.args.volume.now = rw c.data.ensures (record_inside c.args.volume.now c.args.medium c.args.store c.args.self c.args.self.index
-        c.requires.0 (reader_facts _ _ c.requires.1) below) in
+    c.requires.0 (reader_facts _ _ c.requires.1) below) in
     let short : c.in-Valid.length ≤ 486 = let args = c.args in
-        (take_length args.volume.now args.medium args.store args.self args.out.now (record_read args.volume.now args.medium args.store
-        args.self args.self.index c.number_at-n.ensures c.record-j.ensures) c.in-Valid.is).1 in
+    (take_length args.volume.now args.medium args.store args.self args.out.now (record_read args.volume.now args.medium args.store
+    args.self args.self.index c.number_at-n.ensures c.record-j.ensures) c.in-Valid.is).1 in
     omega (arith, placed, short)
-
 
 pub slice_bounds-put_bytes-end : goal.slice_bounds-put_bytes-end
 slice_bounds-put_bytes-end c =
     let below : c.args.self.index < c.args.store.head.chunk = let l = limit_most c.args.self.end c.args.store.head.chunk (reader_facts _ _ c.requires.1).end in omega (arith, l, c.requires.2) in
     let placed : c.data.result < sectors_of c.args.volume.now = rw c.data.ensures (record_inside c.args.volume.now c.args.medium c.args.store c.args.self c.args.self.index
-        c.requires.0 (reader_facts _ _ c.requires.1) below) in
+    c.requires.0 (reader_facts _ _ c.requires.1) below) in
     let short : c.in-Valid.length ≤ 486 = let args = c.args in
-        (take_length args.volume.now args.medium args.store args.self args.out.now (record_read args.volume.now args.medium args.store
-        args.self args.self.index c.number_at-n.ensures c.record-j.ensures) c.in-Valid.is).1 in
+    (take_length args.volume.now args.medium args.store args.self args.out.now (record_read args.volume.now args.medium args.store
+    args.self args.self.index c.number_at-n.ensures c.record-j.ensures) c.in-Valid.is).1 in
     omega (arith, placed, short)
-
 
 pub put_bytes-requires : goal.put_bytes-requires
 put_bytes-requires c =
     let short : c.in-Valid.length ≤ 486 = let args = c.args in
-        (take_length args.volume.now args.medium args.store args.self args.out.now (record_read args.volume.now args.medium args.store
-        args.self args.self.index c.number_at-n.ensures c.record-j.ensures) c.in-Valid.is).1 in
+    (take_length args.volume.now args.medium args.store args.self args.out.now (record_read args.volume.now args.medium args.store
+    args.self args.self.index c.number_at-n.ensures c.record-j.ensures) c.in-Valid.is).1 in
     omega (arith, short, c.requires.3)
-
 
 pub overflow_add-self : goal.overflow_add-self
 overflow_add-self c =

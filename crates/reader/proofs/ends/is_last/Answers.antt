@@ -5,8 +5,6 @@ pub returns-in-Last : goal.returns-in-Last
 unfolding is_last
 returns-in-Last c = rw c.in-Last.is
 
-
 pub returns-in-Records : goal.returns-in-Records
 unfolding is_last
 returns-in-Records c = rw c.in-Records.is
-

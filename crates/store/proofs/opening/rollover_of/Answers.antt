@@ -7,10 +7,8 @@ pub returns-then-not-rolls : goal.returns-then-not-rolls
 unfolding zeros
 returns-then-not-rolls c = rollover_none c.args.rolls c.args.dir.now c.if-not-rolls.true
 
-
 pub put_bytes-requires : goal.put_bytes-requires
 put_bytes-requires c = omega (arith, c.requires c.if-not-rolls.false)
-
 
 pub returns : goal.returns
 unfolding zeros

@@ -8,7 +8,6 @@ pub loop-t-init : goal.loop-t-init
 unfolding checked_of
 loop-t-init c = at_start _ _ _ _ _
 
-
 pub returns-in-No : goal.returns-in-No
 returns-in-No c =
     let q = c.in-No.is in
@@ -17,7 +16,5 @@ returns-in-No c =
 pub loop-t-preserved : goal.loop-t-preserved
 loop-t-preserved c = at_next c.loop-t.invariant (omega arith) c.check-o.ensures c.in_default.is refl
 
-
 pub returns : goal.returns
 returns c = at_end c.loop-t.invariant (omega arith)
-

@@ -9,7 +9,6 @@ pub returns-then-not-map : goal.returns-then-not-map
 unfolding free_of
 returns-then-not-map c = by_walk _ _ _ _ _ _ c.if-not-map.true c.walk_free.ensures
 
-
 pub returns-in-No : goal.returns-in-No
 unfolding free_of
 returns-in-No c =

@@ -8,7 +8,6 @@ pub returns-then-not-map : goal.returns-then-not-map
 unfolding free_count_of
 returns-then-not-map c = by_walk _ _ _ _ _ _ c.if-not-map.true c.walk_count.ensures
 
-
 pub returns-in-No : goal.returns-in-No
 unfolding free_count_of
 returns-in-No c =

@@ -9,7 +9,6 @@ pub loop-next-init : goal.loop-next-init
 unfolding map_at zeros
 loop-next-init c = at_start _ _ _ _ _
 
-
 pub returns-in-Refused : goal.returns-in-Refused
 returns-in-Refused c =
     c.unfit.ensures
@@ -17,7 +16,6 @@ returns-in-Refused c =
 
 pub loop-next-preserved-in-Past : goal.loop-next-preserved-in-Past
 loop-next-preserved-in-Past c = at_next c.loop-next.invariant (omega arith) c.link_at-e.ensures c.in-Past.is refl
-
 
 pub loop-next-preserved-in-Free : goal.loop-next-preserved-in-Free
 loop-next-preserved-in-Free c =
@@ -27,7 +25,5 @@ loop-next-preserved-in-Free c =
 pub loop-next-preserved : goal.loop-next-preserved
 loop-next-preserved c = at_next c.loop-next.invariant (omega arith) c.link_at-e.ensures c.in-Linked.is refl
 
-
 pub returns : goal.returns
 returns c = at_end c.loop-next.invariant (omega arith)
-

@@ -8,7 +8,6 @@ pub loop-next-init : goal.loop-next-init
 unfolding walk_count_of
 loop-next-init c = (at_start _ _ _ _ _, omega arith)
 
-
 pub returns-in-Refused : goal.returns-in-Refused
 returns-in-Refused c =
     at_stop c.loop-next.invariant.0 (omega arith) c.link_at-e.ensures c.in-Refused.is refl
@@ -33,4 +32,3 @@ loop-next-preserved c = (
 
 pub returns : goal.returns
 returns c = at_end c.loop-next.invariant.0 (omega arith)
-

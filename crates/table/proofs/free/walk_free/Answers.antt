@@ -11,7 +11,6 @@ pub loop-next-init : goal.loop-next-init
 unfolding walk_free_of
 loop-next-init c = (at_start _ _ _ _ _, tt)
 
-
 pub returns-in-Refused : goal.returns-in-Refused
 returns-in-Refused c =
     at_stop c.loop-next.invariant.0 (omega arith) c.link_at-e.ensures c.in-Refused.is refl
@@ -42,4 +41,3 @@ loop-next-preserved c = (
 
 pub returns : goal.returns
 returns c = at_end c.loop-next.invariant.0 (omega arith)
-

@@ -1,0 +1,36 @@
+use Rattle.std.proofs.Common.{arith, rules, refl, take}
+use Rattle.lines.specs.Program.{held}
+use Rattle.lines.proofs.Streams.{fed_none, fed_more, fed_end}
+use Rattle.lines.proofs.feed.Goals as goal
+
+pub loop-at-init : goal.loop-at-init
+loop-at-init g c =
+    record {
+      within = omega arith;
+      few = omega (arith, c.requires.0);
+      line = refl;
+      out = refl;
+      fed = fed_none _ _;
+    }
+
+pub loop-at-preserved : goal.loop-at-preserved
+loop-at-preserved g c =
+    let l = c.loop-at in
+    let p = c.piece-p.ensures in
+    record {
+      within = p.1;
+      few = p.2;
+      line = search rules;
+      out = search rules;
+      fed = fed_more _ _ _ (held l.volume l.s (take l.kept l.line)) c.args.bytes.now l.at c.piece-p.result c.piece-p.new.volume c.piece-p.new.line l.out l.invariant.fed p.0 c.in_ok-write_all.ensures.bytes;
+    }
+
+pub returns-clause-held_after : goal.returns-clause-held_after
+returns-clause-held_after g c =
+    let l = c.loop-at in
+    ((fed_end _ _ (held l.volume l.s (take l.kept l.line)) c.args.bytes.now l.at (omega arith) l.invariant.fed).0, l.invariant.few)
+
+pub returns-clause-written : goal.returns-clause-written
+returns-clause-written g c =
+    let l = c.loop-at in
+    (fed_end _ _ (held l.volume l.s (take l.kept l.line)) c.args.bytes.now l.at (omega arith) l.invariant.fed).1

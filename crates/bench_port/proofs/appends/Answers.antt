@@ -6,10 +6,8 @@ use Rattle.bench_port.proofs.appends.Goals as goal
 pub loop-left-init : goal.loop-left-init
 loop-left-init c = record { few = omega arith; size = refl; same = refl }
 
-
 pub loop-left-smaller : goal.loop-left-smaller
 loop-left-smaller c = omega (arith, c.loop-left-test.true)
-
 
 pub loop-left-preserved : goal.loop-left-preserved
 loop-left-preserved c =

@@ -17,7 +17,6 @@ returns-in-No c =
 pub code-requires : goal.code-requires
 code-requires c = λ _. lit≤ tt
 
-
 pub returns : goal.returns
 returns c =
     let a = c.args in

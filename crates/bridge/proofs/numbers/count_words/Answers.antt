@@ -2,4 +2,3 @@ use Rattle.bridge.proofs.numbers.count_words.Goals as goal
 
 pub returns-in-Is : goal.returns-in-Is
 returns-in-Is c = rw c.in-Is.is
-

@@ -5,4 +5,3 @@ use Rattle.bridge.proofs.numbers.medium_words.Goals as goal
 pub returns : goal.returns
 unfolding medium_words
 returns c = refl
-

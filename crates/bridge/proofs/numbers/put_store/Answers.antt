@@ -3,4 +3,3 @@ use Rattle.bridge.proofs.numbers.put_store.Goals as goal
 
 pub returns : goal.returns
 returns c = (c.store_words.ensures, refl)
-

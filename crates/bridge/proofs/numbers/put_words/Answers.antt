@@ -11,7 +11,6 @@ use Rattle.bridge.proofs.numbers.put_words.Goals as goal
 pub loop-i-init : goal.loop-i-init
 loop-i-init c = (search rules, refl, refl, paste-zero c.args.dst.now c.args.at c.args.src.now)
 
-
 pub loop-i-preserved : goal.loop-i-preserved
 loop-i-preserved c =
     let l = c.loop-i in

@@ -7,8 +7,6 @@ pub returns-then-kind-eq0 : goal.returns-then-kind-eq0
 unfolding writer_of pick
 returns-then-kind-eq0 c = simp (eq-eqb _ _ c.if-kind-eq0.true)
 
-
 pub returns : goal.returns
 unfolding writer_of pick
 returns c = rw (ne_eqb _ _ c.if-kind-eq0.false, c.narrow.ensures, c.narrow-2.ensures)
-

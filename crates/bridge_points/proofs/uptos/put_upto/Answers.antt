@@ -5,4 +5,3 @@ use Rattle.bridge_points.proofs.uptos.put_upto.Goals as goal
 pub returns : goal.returns
 unfolding upto_limit
 returns c = (c.reader_words.ensures, refl)
-

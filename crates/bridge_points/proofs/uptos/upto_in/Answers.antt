@@ -4,4 +4,3 @@ use Rattle.bridge_points.proofs.uptos.upto_in.Goals as goal
 pub returns : goal.returns
 unfolding upto_of
 returns c = rw (c.reader_in-rd.ensures, c.narrow.ensures)
-

@@ -6,10 +6,8 @@ use Rattle.bridge_write.proofs.appenders.gone_length.Goals as goal
 pub returns-in-No : goal.returns-in-No
 returns-in-No c = name_refused _ c.in-No.is
 
-
 pub returns-then-not-g : goal.returns-then-not-g
 returns-then-not-g c = name_none _ c.in_default.is (not-true _ c.if-not-g.true)
-
 
 pub returns-then-g-lt40 : goal.returns-then-g-lt40
 returns-then-g-lt40 c =

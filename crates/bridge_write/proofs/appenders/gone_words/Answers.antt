@@ -5,11 +5,8 @@ use Rattle.bridge_write.proofs.appenders.gone_words.Goals as goal
 pub returns-in-No : goal.returns-in-No
 returns-in-No c = words_refused _ c.in-No.is
 
-
 pub returns-then-not-g : goal.returns-then-not-g
 returns-then-not-g c = words_none _ c.in_default.is (not-true _ c.if-not-g.true)
 
-
 pub returns : goal.returns
 returns c = words_went _ c.in_default.is (not-false _ c.if-not-g.false) c.gone_length-n.ensures
-

@@ -1,9 +1,10 @@
 """Edits that the check must refuse, as the scripts read them: crates/*/must-fail, crates/*/faults and the list of docs/faults.py.
 
 `rt must-fail` and `rt ci` say of each edit what the prover said first. They call an edit bad that cannot be applied, compiled or read, but count as
-refused also one that only takes a name away, or whose definition does not fit its type. Such an edit shows nothing. Here an edit counts only where it
-is refused at a proof: what is shown of the prover stands below proofs/, or says which goal of a function is left (no file of specs/ holds a proof, so
-an error there is never a promise that fails), and it is not only that a name is gone, of which rt says so."""
+refused also one that only takes a name away, one whose definition does not fit its type, and one at which the prover only met a limit of its own. Such
+an edit shows nothing. Here an edit counts only where it is refused at a proof: the place that is shown stands below proofs/, or is a goal of a function
+that is not proved (no file of specs/ holds a proof, so an error there is never a promise that fails), and rt does not say that it is only for a name or
+a limit."""
 import glob
 import os
 import re
@@ -11,7 +12,7 @@ import subprocess
 
 LINE = re.compile(r"(?:rt: )?must-fail (\w+)/(\S+)\.edit: (.*)")
 REFUSED = re.compile(r"refused, as it must be(?: \((.*?)\))?(?:: (.*))?$")
-PROOF = re.compile(r"(?:\./)?proofs/\S+:\d+:\d+: error|note: ")
+PROOF = re.compile(r"(?:\./)?proofs/\S+:\d+:\d+: error|note: src/\S+:\d+:\d+: it is not proved that ")
 
 
 def said_in(text):
@@ -32,9 +33,9 @@ def broken(said):
     m = REFUSED.match(said)
     if not m:
         return said[:160]
-    if m[1] and m[1].startswith("only because"):
+    if m[1]:
         return "no proof fails for its own sake: %s" % said[:160]
-    if not (m[1] or m[2] and PROOF.match(m[2])):
+    if not (m[2] and PROOF.match(m[2])):
         return "broken at %s" % (m[2] or "no place that rt shows")[:160]
     return None
 

@@ -6,6 +6,7 @@ import sys
 ROOT = os.path.dirname(os.path.dirname(os.path.abspath(__file__)))
 WORD = r"[^\s(){}\[\];,.:|λ]+"
 MODIFIERS = r"(?:abbrev |unfoldable |pub )*"
+CHAIN = re.compile(rf"((?:^|[\s)\]}}])\.)?({WORD}(?:\.{WORD})*)")  # `name`, `c.name.name`, `(f x).name`
 DECLARED = re.compile(rf"^(\s*)({MODIFIERS})(?:(record|data) )?({WORD})(?=\s|$)(.*)$")
 IMPORT = re.compile(r"^\s*(?:ghost )?use ([^{]+?)(?:\.\{(.*)\};?| as (\S+?);?|;)$")
 KEYWORDS = {"use", "let", "in", "module", "where", "unfolding", "pub", "mod", "record", "data", "ghost"}
@@ -22,10 +23,14 @@ class File:
         self.bare = ["" if IMPORT.match(line) else line for line in self.code]
 
     def words(self, lines=None):
-        """The words of some lines, or of all; a field that is asked for (` .name`) is none."""
+        """The words of some lines, or of all. A field that is asked for (`c.name`, `(f x).name`) is none; a name behind an import's own (`goal.name`) is one."""
+        called = {alias for _, _, alias in self.imports if alias}
         found = set()
         for k in range(len(self.bare)) if lines is None else lines:
-            found.update(re.findall(rf"(?<!\s\.)(?<!^\.)(?<![^\s(){{}}\[\];,.:|λ])({WORD})", self.bare[k]))
+            for behind, chain in CHAIN.findall(self.bare[k]):
+                first, *rest = chain.split(".")
+                if not behind:
+                    found.update([first, *(rest[:1] if first in called else [])])
         return found
 
     def comment_above(self, k):

@@ -13,7 +13,7 @@ import sys
 sys.path.insert(0, os.path.join(os.path.dirname(os.path.abspath(__file__)), "..", "..", "docs"))
 from sources import declarations, files, imported, indent, module, read
 
-OF_FUNCTIONS = ("/Answers.antt", "/Invariants.antt", "/Proof.antt")
+OF_FUNCTIONS = re.compile(r"/proofs/.+/(Answers|Invariants|Proof)\.antt$")  # not a file of lemmas that has such a name
 
 
 def unused(sources, codes):
@@ -30,9 +30,9 @@ def unused(sources, codes):
             takers["Rattle." + crate + path.replace("::", "."), name] += 1
     for f in sources:
         for name, lines, _ in declarations(f):
-            if f.path.endswith("/Invariants.antt") and indent(f.bare[lines[0]]):
+            if OF_FUNCTIONS.search(f.path) and f.path.endswith("/Invariants.antt") and indent(f.bare[lines[0]]):
                 continue  # a part of an invariant, which the check reads
-            asked = f.path.endswith(OF_FUNCTIONS) and re.search(r" : (goal\.|.* statement )", f.bare[lines[0]])  # by the checker, of each function
+            asked = OF_FUNCTIONS.search(f.path) and re.search(r" : (goal\.|.* statement )", f.bare[lines[0]])  # by the checker, of each function
             inside = name in f.words(k for k in range(len(f.bare)) if k not in lines)
             if not (asked or inside or takers[module(f.path), name] or takers[module(f.path)]):
                 yield "%s:%d: `%s`" % (f.path, lines[0] + 1, name), name
@@ -58,7 +58,7 @@ def statement(f, name, lines):
 def repeated(sources):
     laws = collections.defaultdict(list)
     for f in sources:
-        if "/proofs/" in f.path and not f.path.endswith(OF_FUNCTIONS):
+        if "/proofs/" in f.path and not OF_FUNCTIONS.search(f.path):
             for name, lines, _ in declarations(f):
                 line = f.bare[lines[0]]
                 if indent(line) == 0 and " : " in line and re.search("[≡≤<⊥]", told := statement(f, name, lines)):

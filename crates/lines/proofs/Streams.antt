@@ -2,7 +2,10 @@
 use Rattle.std.proofs.Common.{◌≡◌, ℕ, zero, suc, ◌+◌, ◌-◌, ◌^◌, ◌≤◌, ◌<◌, List, [], ◌∷◌, ◌++◌, refl, sym, ap, ◌∙◌, replicate, append_assoc, append-nil, length, length-append, take, drop, arith}
 use Rattle.std.proofs.lemmas.List.{take_at, length-take-le, nil_from_length}
 use mathlib.Core.Path.{subst}
-use Rattle.std.specs.Prelude.{None, Some, IfSome, Ok, Err, OnOk}
+use mathlib.Core.Bool.{Bool, true, false}
+use lib.Dec.{eqb}
+use Rattle.le.specs.Choice.{pick}
+use Rattle.std.specs.Prelude.{None, Some, IfSome, Ok, Err, OnOk, OnErr}
 use Rattle.std.specs.Io.KnownBytes.{Appends, Consumes, IsAtEnd}
 use Rattle.std.specs.declared.option.Option.{Option}
 use Rattle.std.specs.declared.result.Result.{Result}
@@ -11,8 +14,8 @@ use Rattle.le.proofs.Turns.{drop_end}
 use Rattle.decimal.specs.Decimal.{Put}
 use Rattle.session.specs.Session.{start_of}
 use Rattle.lines.specs.declared.Passed.{Passed}
-use Rattle.lines.specs.Input.{lines_of}
-use Rattle.lines.specs.Program.{printed_from, printed_of, Held, held, piece_of, PassedAt, FedPart, saying, feed_of, last_text, turns_after}
+use Rattle.lines.specs.Input.{kept_of, gather_of, lines_of}
+use Rattle.lines.specs.Program.{printed_from, printed_of, Held, held, piece_of, PassedAt, FedPart, saying, feed_of, StoppedIn, last_text, turns_after}
 use Rattle.lines.proofs.Feeds.{feed_piece, feed_none, turns_none, turns_one}
 use Rattle.lines.proofs.Whole.{feed_parts, printed_any}
 
@@ -60,6 +63,48 @@ fed_more a b c h bytes at r vol line before f p w =
       written = appends_more a b c f.text (piece_of h (drop at bytes)).text f.written (subst (Appends b c) (put_taken (piece_of h (drop at bytes)).text before p.1) w);
       same = saying_twice f.text _ _ ∙ ap (saying f.text) (sym (passed_on h bytes at r vol line before p)) ∙ f.same;
     }
+
+-- a first part of the bytes gives what is held after a piece
+piece_first : (h : Held) (bytes : List ℕ) → (fed : List ℕ) × (bytes ≡ fed ++ (piece_of h bytes).rest) × ((feed_of h fed).held ≡ (piece_of h bytes).held)
+unfolding feed_of piece_of gather_of pick
+piece_first h [] = ([], refl, refl)
+piece_first h (b ∷ bs) = go (eqb b 10) refl (piece_first (held h.vol h.session (kept_of h.line b)) bs)
+  where
+    h2 : Held
+    h2 = held h.vol h.session (kept_of h.line b)
+
+    go : (t : Bool) → eqb b 10 ≡ t → (fed : List ℕ) × (bs ≡ fed ++ (piece_of h2 bs).rest) × ((feed_of h2 fed).held ≡ (piece_of h2 bs).held)
+        → (fed : List ℕ) × (b ∷ bs ≡ fed ++ (piece_of h (b ∷ bs)).rest) × ((feed_of h fed).held ≡ (piece_of h (b ∷ bs)).held)
+    go true e f = (b ∷ [], rw e refl, rw e refl)
+    go false e f = (b ∷ f.0, rw e (ap (λ (l : List ℕ). b ∷ l) f.1), rw e f.2)
+
+-- the bytes before a place of the part make what is held there
+pub record Made (first now : Held) (bytes : List ℕ) (at : ℕ) : Type 0 where
+  pub fed : List ℕ
+  pub part : bytes ≡ fed ++ drop at bytes
+  pub holds : (feed_of first fed).held ≡ now
+
+pub made_none : (h : Held) (bytes : List ℕ) → Made h h bytes 0
+unfolding feed_of
+made_none h bytes = record { fed = []; part = refl; holds = refl }
+
+pub made_more : {first : Held} (h : Held) (bytes : List ℕ) (at : ℕ) (r : Passed) (vol line before : List ℕ) {after : List ℕ}
+    → Made first h bytes at → PassedAt r vol bytes line before after (piece_of h (drop at bytes)) → Made first (held vol r.session (take r.fill line)) bytes r.at
+made_more {first = first} h bytes at r vol line before m p =
+    let f = piece_first h (drop at bytes) in
+    let whole : feed_of first (m.fed ++ f.0) ≡ saying (feed_of first m.fed).text (feed_of h f.0) = feed_parts first m.fed f.0 ∙ ap (λ (x : Held). saying (feed_of first m.fed).text (feed_of x f.0)) m.holds in
+    record {
+      fed = m.fed ++ f.0;
+      part = m.part ∙ ap (λ (l : List ℕ). m.fed ++ l) (f.1 ∙ ap (λ (l : List ℕ). f.0 ++ l) (sym p.2)) ∙ sym (append_assoc m.fed f.0 (drop r.at bytes));
+      holds = ap (λ (x : FedPart). x.held) whole ∙ f.2 ∙ sym p.0;
+    }
+
+pub made_stopped : {first now : Held} {bytes : List ℕ} {at : ℕ} → Made first now bytes at → StoppedIn first bytes now.vol
+made_stopped {bytes = bytes} {at = at} m = (m.fed, drop at bytes, m.part, ap (λ (x : Held). x.vol) m.holds)
+
+pub on_error : {T E : Type 0} (result : Result T E) {P : Type 0} → P → OnErr result P
+on_error (Ok x) p = tt
+on_error (Err e) p = p
 
 -- at the end of the part
 pub fed_end : (a b : Option (List ℕ)) {whole : FedPart} (h : Held) (bytes : List ℕ) (at : ℕ) → length bytes ≤ at → Fed a b (feed_of h (drop at bytes)) whole

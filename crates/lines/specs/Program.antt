@@ -69,6 +69,10 @@ feed_of h (b ∷ bs) =
     (saying (line_text h.vol h.session h.line) (feed_of (after_line h h.line) bs))
     (feed_of (held h.vol h.session (kept_of h.line b)) bs)
 
+-- what an error in the middle of a part leaves: the volume is what a first part of its bytes made
+abbrev pub StoppedIn : Held → List ℕ → List ℕ → Type 0
+StoppedIn h bytes vol = (fed : List ℕ) × (rest : List ℕ) × (bytes ≡ fed ++ rest) × ((feed_of h fed).held.vol ≡ vol)
+
 -- at the end of the input
 unfoldable pub last_text : Held → List ℕ
 last_text h = pick (eqb (length h.line) 0) [] (line_text h.vol h.session h.line)

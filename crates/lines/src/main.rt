@@ -4,12 +4,12 @@
 mod input;
 mod text;
 
-ghost use Rattle.std.specs.Prelude.{◌≡◌, ◌-◌, ◌^◌, ◌≤◌, ◌<◌, length, take, drop, IfOk, OnOk, IfSome};
+ghost use Rattle.std.specs.Prelude.{◌≡◌, ◌-◌, ◌^◌, ◌≤◌, ◌<◌, length, take, drop, IfOk, OnOk, OnErr, IfSome};
 ghost use Rattle.std.specs.Io.KnownBytes.{Appends, ReadConsumes};
 ghost use Rattle.decimal.specs.Decimal.{Put};
 ghost use Rattle.session.specs.Session.{start_of};
 ghost use Rattle.lines.specs.Input.{lines_of};
-ghost use Rattle.lines.specs.Program.{line_turn, line_text, printed_from, printed_of, held, piece_of, PassedAt, feed_of, last_text, turns_after};
+ghost use Rattle.lines.specs.Program.{line_turn, line_text, printed_from, printed_of, held, piece_of, PassedAt, feed_of, StoppedIn, last_text, turns_after};
 
 use session::Session;
 use std::io;
@@ -111,6 +111,7 @@ fn feed<W: Write>(
         × (r.fill ≤ 601)) }
     ensures written { OnOk result (Appends (W.contents output.old) (W.contents output.new)
         (feed_of (held volume.old session (take fill line.old)) bytes.now).text) }
+    ensures stopped { OnErr result (StoppedIn (held volume.old session (take fill line.old)) bytes.now volume.new) }
 {
     let mut s = session;
     let mut kept = fill;

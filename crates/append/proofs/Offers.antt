@@ -53,6 +53,13 @@ module _ (vol : List ℕ) (m : Medium) (st : Store) (a : Appender) where
   unfolding sync_of
   sync_flushed h g = along g (sym (pick_false _ _ (ne_eqb _ _ h)))
 
+-- nothing is to be written: said of the whole call, so that the check finds it under any condition of the code
+pub sync_idle : (vol : List ℕ) (m : Medium) (st : Store) (a : Appender) (r : Handed) → may_write vol st a ≡ Done → a.fill ≡ 0
+    → r ≡ record { outcome = Done; medium = m; store = st; appender = a }
+    → (vol ≡ (sync_call vol m st a).vol) × (app_answer r ≡ (sync_call vol m st a).call)
+unfolding sync_call
+sync_idle vol m st a r w h g = offer_done vol m st a (sync_of vol m st a) (sym w) refl (sync_nothing vol m st a h g)
+
 -- ---- what a call hands back: a volume of the same length, the medium record but for writes left, a store value that passes refusal 3 again and has
 -- the same appender open, and that appender
 

@@ -103,6 +103,12 @@ module _ (bs vol : List ℕ) (m : Medium) (st : Store) (a : Appender) (l : lengt
       let e : append_of bs vol m st a ≡ done vol m st (with_run bs a) = run_short bs vol m st a l (omega arith) in
       along (refl, ap (λ (y : Appender). record { outcome = Done; medium = m; store = st; appender = y }) hx) (sym e)
 
+-- a run that fills the record, said in the words of the code, so that the check finds it under any condition of the code
+pub run_filled : (bs vol : List ℕ) (m : Medium) (st : Store) (a : Appender) (v : List ℕ) (r : Handed) (b : List ℕ) → Fit a st → 1 ≤ length bs → a.fill + length bs ≡ 486
+    → b ≡ over a.fill bs a.buffer → v ≡ (flush_of vol m st (holding a (a.fill + length bs) b)).vol → r ≡ (flush_of vol m st (holding a (a.fill + length bs) b)).ans
+    → (v ≡ (append_of bs vol m st a).vol) × (r ≡ (append_of bs vol m st a).ans)
+run_filled bs vol m st a v r b fit one n e p q = put_full bs vol m st a fit.full (ap (holding a (a.fill + length bs)) e) one n (p, q)
+
 run_fit : (bs : List ℕ) (a : Appender) (st : Store) → Fit a st → a.fill + length bs ≤ 486 → Fit (with_run bs a) st
 run_fit bs a st f h = record { slot = f.slot; chunk = f.chunk; position = f.position; fill = h; full = length_over a.fill bs a.buffer (rw f.full h) ∙ f.full; tail = f.tail; dir = f.dir }
 

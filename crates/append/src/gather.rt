@@ -31,6 +31,7 @@ fn put_at(buffer: &mut [u8; 486], at: usize, bytes: &[u8])
 }
 
 // A run that fits goes into the buffer, and a full buffer is written.
+#[tactic(auto, using(crate::proofs::Runs::run_filled))]
 fn put_run(
     volume: &mut [u8],
     medium: Medium,

@@ -105,6 +105,7 @@ fn finished(medium: Medium, store: Store, appender: Appender) -> Handed
 
 impl Appender {
     // Bytes until a record is written; 3 where the fill is none that an appender has.
+    #[tactic(auto, unfolding(crate::specs::Calls::room_call, le::specs::Choice::pick))]
     pub fn room(self) -> Room
         ensures { room_answer result ≡ room_call self }
     {
@@ -128,6 +129,7 @@ impl Appender {
     }
 
     // Make every appended byte durable.
+    #[tactic(auto, using(crate::proofs::Offers::sync_idle))]
     pub fn sync(self, volume: &mut [u8], medium: Medium, store: Store) -> Handed
         ensures { (volume.new ≡ (sync_call volume.old medium store self).vol)
             × (app_answer result ≡ (sync_call volume.old medium store self).call) }

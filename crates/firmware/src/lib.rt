@@ -86,6 +86,7 @@ pub extern "C" fn store_delete(
 }
 
 // The files in a directory as 48-byte rows, and how many there are. The rows made before a refusal stay.
+#[tactic(auto, using(crate::proofs::Ways::rows_refused))]
 #[unsafe(no_mangle)]
 pub extern "C" fn store_list(
     volume: &[u8],

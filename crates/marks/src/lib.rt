@@ -70,6 +70,7 @@ fn three(point: &[u8], text: &[u8]) -> Mark
 }
 
 // What a record says of a point: any bytes.
+#[tactic(auto, using(crate::proofs::Parted::no_feed))]
 pub fn says(point: &[u8], payload: &[u8]) -> Mark
     ensures { result ≡ says_of point.now payload.now }
 {

@@ -91,6 +91,7 @@ pub fn readable(medium: Medium, at: u64) -> Outcome
 }
 
 // Takes one from writes left. A caller that writes a sector in place asks this first.
+#[tactic(auto, unfolding(crate::specs::Sector::spend_of, le::specs::Choice::pick))]
 pub fn spend(medium: Medium) -> Written
     ensures { result ≡ spend_of medium }
 {

@@ -1,6 +1,6 @@
 -- S-5: create and open_append go by whether their input is admitted. What that tells of the input, and the two calls by it. Assumes nothing.
 use mathlib.Core.Path.{◌≡◌, refl, ap}
-use mathlib.Core.Bool.{Bool, false}
+use mathlib.Core.Bool.{Bool, true, false}
 use mathlib.Core.List.{List}
 use Prim.Native.Nat.{ℕ}
 use Rattle.le.specs.Choice.{pick}
@@ -38,6 +38,11 @@ module _ (vol : List ℕ) (st : Store) (name : List ℕ) (rolls : Bool) (dir : L
       go : (o : Outcome) → asked ≡ o → on_done o (pick (dotted name) (No Dotted) Done) No ≡ o
       go Done q = rw (plain q)
       go (No e) q = refl
+
+  -- a dot name of which all else is asked in vain: the check finds this under any condition of the code
+  pub dot_refused : asked ≡ Done → dotted name ≡ true → No Dotted ≡ admitted_of vol st name rolls dir
+  unfolding admitted_of on_done pick
+  dot_refused a d = rw (a, d)
 
   -- as the code decides
   module _ {fine : Bool} {o : Outcome} (f : fine ≡ open_fine name rolls dir) (q : o ≡ asked_of vol st fine) where

@@ -18,6 +18,7 @@ fn open_fine(name: &[u8], rolls: bool, dir: &[u8]) -> bool
 }
 
 // Refusals 3, 1 and 16 of a call that opens a file to append, in this order.
+#[tactic(auto, using(crate::proofs::Admits::dot_refused))]
 fn admitted(volume: &[u8], store: Store, name: &[u8], rolls: bool, dir: &[u8]) -> Outcome
     ensures { result ≡ admitted_of volume.now store name.now rolls dir.now }
 {

@@ -4,7 +4,7 @@ use lib.ListN.{length}
 use Rattle.append.specs.Calls.{sync_call}
 use Rattle.append.specs.Flush.{sync_of}
 use Rattle.append.proofs.Facts.{May, may_facts}
-use Rattle.append.proofs.Offers.{offer_refused, offer_done, sync_nothing, sync_flushed}
+use Rattle.append.proofs.Offers.{offer_refused, offer_done, sync_flushed}
 use Rattle.append.proofs.Appender.sync.Goals as goal
 
 pub returns-in-No : goal.returns-in-No
@@ -13,14 +13,6 @@ returns-in-No c =
     let a = c.args in
     offer_refused a.volume.now a.medium a.store a.self (sync_of a.volume.now a.medium a.store a.self) c.check-o.ensures
     c.in-No.is c.stopped.ensures
-
-pub returns-then-self-eq0 : goal.returns-then-self-eq0
-unfolding sync_call
-returns-then-self-eq0 c =
-    let a = c.args in
-    offer_done a.volume.now a.medium a.store a.self (sync_of a.volume.now a.medium a.store a.self)
-    c.check-o.ensures c.in_default.is
-    (sync_nothing a.volume.now a.medium a.store a.self c.if-self-eq0.true c.finished.ensures)
 
 pub flush-requires : goal.flush-requires
 flush-requires c =
@@ -34,6 +26,6 @@ pub returns : goal.returns
 unfolding sync_call
 returns c =
     let a = c.args in
+    let some : a.self.fill ≡ 0 → ⊥ = search rules in
     offer_done a.volume.now a.medium a.store a.self (sync_of a.volume.now a.medium a.store a.self) c.check-o.ensures
-    c.in_default.is
-    (sync_flushed a.volume.now a.medium a.store a.self c.if-self-eq0.false c.flush.ensures)
+    c.in_default.is (sync_flushed a.volume.now a.medium a.store a.self some c.flush.ensures)

@@ -1,6 +1,8 @@
-use mathlib.Core.Path.{sym, ◌∙◌}
-use Rattle.le.proofs.Choices.{pick_true, pick_false}
-use Rattle.le.proofs.Turns.{told}
+use mathlib.Core.Path.{◌≡◌, sym, ◌∙◌}
+use mathlib.Core.Bool.{false}
+use borrow.Author.Rules.{rules}
+use Rattle.names.specs.Names.{dotted}
+use Rattle.le.proofs.Choices.{pick_false}
 use Rattle.store.proofs.Admits.{not_asked, by_dots}
 use Rattle.store.proofs.opening.admitted.Goals as goal
 
@@ -10,16 +12,10 @@ returns-in-No c =
     not_asked a.volume.now a.store a.name.now a.rolls a.dir.now c.open_fine.ensures c.asked-o.ensures
     c.in-No.is
 
-pub returns-then-dotted : goal.returns-then-dotted
-returns-then-dotted c =
-    let a = c.args in
-    sym (pick_true _ _ (told c.dotted.ensures c.if-dotted.true))
-    ∙ by_dots a.volume.now a.store a.name.now a.rolls a.dir.now c.open_fine.ensures c.asked-o.ensures
-    c.in_default.is
-
 pub returns : goal.returns
 returns c =
     let a = c.args in
-    sym (pick_false _ _ (told c.dotted.ensures c.if-dotted.false))
+    let plain : dotted a.name.now ≡ false = search rules in
+    sym (pick_false _ _ plain)
     ∙ by_dots a.volume.now a.store a.name.now a.rolls a.dir.now c.open_fine.ensures c.asked-o.ensures
     c.in_default.is

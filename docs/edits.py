@@ -6,10 +6,10 @@ an edit shows nothing. Here an edit counts only where it is refused at a proof: 
 that is not proved (no file of specs/ holds a proof, so an error there is never a promise that fails), and rt does not say that it is only for a name or
 a limit.
 
-A goal is named by the condition above it. So an edit of a condition gives its goal another name, its answer is not read, and it is refused because the
-goal under its new name is not proved. Seven in must-fail/ are so (append less_room, one_byte_early, sync_leaves_one; medium last_write_lost; marks
-no_line_feed; store dots_not_tested; firmware list_short_rows). They and the others of the table "Goals that an edit gives another name" in docs/PORT.md
-were tried with the answer under the new name, and refused for their meaning; a new edit of a condition is to be tried so by hand."""
+A goal is named by the condition above it. So an edit of a condition gives its goal another name, and an answer by the old one is not read. In the
+functions that seven edits of must-fail/ change so, no answer goes by a condition's name: a law is named on the function, and the other answers take the
+condition's fact by a tactic. The edits of faults/ that are so stand in docs/PORT.md, "Goals that an edit gives another name", and were tried by hand; so
+is a new one to be."""
 import glob
 import os
 import re

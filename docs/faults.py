@@ -1,7 +1,7 @@
 #!/usr/bin/env python3
 """Faults put into the port's code and definitions, each in a copy of the repository: the prover must refuse each.
 
-    docs/faults.py                 all of them, half an hour; prints a table, status 1 if one is not refused (docs/FAULTS.md has it)
+    docs/faults.py                 all of them, some minutes; prints a table, status 1 if one is not refused (docs/FAULTS.md has it)
     docs/faults.py CRATE..         those of these crates
     docs/faults.py CRATE/NAME..    these alone, and below the table what the prover said first of each
 

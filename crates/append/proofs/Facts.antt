@@ -1,4 +1,5 @@
 -- What an appender that passes refusals 3 and 11 tells. Assumes nothing.
+use Rattle.std.specs.Prelude.{Err, Ok}
 use mathlib.Core.Path.{◌≡◌, refl, sym, ◌∙◌}
 use mathlib.Core.Bool.{Bool, true, false, not, ◌&&◌, ◌||◌, false≢true}
 use mathlib.Core.List.{List}
@@ -10,7 +11,6 @@ use lib.ListN.{length}
 use Rattle.le.proofs.Choices.{pick_true, pick_false}
 use Rattle.le.proofs.Bools.{and_true, where_true}
 use Rattle.medium.specs.declared.Error.TheVariants.{Handle, Stale}
-use Rattle.medium.specs.declared.Outcome.TheVariants.{Done, No}
 use Rattle.medium.specs.Sector.{sectors_of}
 use Rattle.medium.proofs.Laws.{not_done}
 use Rattle.names.specs.Names.{dir_ok}
@@ -84,16 +84,16 @@ none_fails st = refl
 -- ---- the tests before the work
 
 module _ (vol : List ℕ) (st : Store) (a : Appender) {held fine : Bool} (hh : held ≡ store_ok st (sectors_of vol)) (hf : fine ≡ appender_ok a st) where
-  pub may_handle : (held && fine) ≡ false → No Handle ≡ may_write vol st a
+  pub may_handle : (held && fine) ≡ false → Err Handle ≡ may_write vol st a
   unfolding may_write
   may_handle t = sym (pick_false _ _ (rw (← hh, ← hf) t))
 
   module _ (t : (held && fine) ≡ true) {alive : Bool} (hl : alive ≡ live st a) where
-    pub may_stale : alive ≡ false → No Stale ≡ may_write vol st a
+    pub may_stale : alive ≡ false → Err Stale ≡ may_write vol st a
     unfolding may_write
     may_stale s = sym (pick_true _ _ (rw (← hh, ← hf) t) ∙ pick_false _ _ (sym hl ∙ s))
 
-    pub may_done : alive ≡ true → Done ≡ may_write vol st a
+    pub may_done : alive ≡ true → (Ok tt) ≡ may_write vol st a
     unfolding may_write
     may_done s = sym (pick_true _ _ (rw (← hh, ← hf) t) ∙ pick_true _ _ (sym hl ∙ s))
 
@@ -102,7 +102,7 @@ pub record May (vol : List ℕ) (st : Store) (a : Appender) : Type 0 where
   pub fit : Fit a st
   pub room : a.fill < 486
 
-pub may_facts : (vol : List ℕ) (st : Store) (a : Appender) → length a.buffer ≡ 486 → may_write vol st a ≡ Done → May vol st a
+pub may_facts : (vol : List ℕ) (st : Store) (a : Appender) → length a.buffer ≡ 486 → may_write vol st a ≡ Ok tt → May vol st a
 unfolding may_write live
 may_facts vol st a full e = go (store_ok st (sectors_of vol) && appender_ok a st) refl (writes st.writer a.token && not (is_closed a.tail)) refl
   where

@@ -1,4 +1,5 @@
 -- What writing keeps, accepted or refused: the store value passes refusal 3 still, and the appender fits it. Assumes nothing.
+use Rattle.std.specs.Prelude.{Ok}
 use mathlib.Core.Path.{◌≡◌, refl, sym, ◌∙◌}
 use mathlib.Core.Bool.{Bool, true, false}
 use mathlib.Core.List.{List, []}
@@ -12,7 +13,6 @@ use Rattle.le.proofs.Choices.{pick_keeps, pick_keeps_by}
 use Rattle.medium.specs.declared.Error.{Error}
 use Rattle.medium.specs.declared.Error.TheVariants.{Corrupt, Full}
 use Rattle.medium.specs.declared.Medium.{Medium}
-use Rattle.medium.specs.declared.Outcome.TheVariants.{Done}
 use Rattle.medium.specs.Sector.{sectors_of, WriteOut}
 use Rattle.medium.proofs.Laws.{on_done_keeps, not_done}
 use Rattle.medium.specs.Frame.{Kept}
@@ -55,7 +55,7 @@ pub goes_more : {vol v : List ℕ} {m n : Medium} {st s : Store} (o : AppOut) �
 goes_more o p q = (stands_more p q.0, q.1)
 
 pub then_goes : (vol : List ℕ) (m : Medium) (st : Store) (o : AppOut) (next : Next) → Goes vol m st o
-    → (o.ans.outcome ≡ Done → Goes o.vol o.ans.medium o.ans.store (next o.vol o.ans.medium o.ans.store o.ans.appender)) → Goes vol m st (and_then o next)
+    → (o.ans.outcome ≡ Ok tt → Goes o.vol o.ans.medium o.ans.store (next o.vol o.ans.medium o.ans.store o.ans.appender)) → Goes vol m st (and_then o next)
 unfolding and_then
 then_goes vol m st o next g f =
     let x : AppOut = next o.vol o.ans.medium o.ans.store o.ans.appender in
@@ -175,7 +175,7 @@ module _ (vol : List ℕ) (m : Medium) (st : Store) (a : Appender) (good : Good 
 -- ---- an accepted record leaves the buffer empty
 
 abbrev pub Empties : AppOut → Type 0
-Empties o = o.ans.outcome ≡ Done → o.ans.appender.fill ≡ 0
+Empties o = o.ans.outcome ≡ Ok tt → o.ans.appender.fill ≡ 0
 
 module _ (vol : List ℕ) (m : Medium) (st : Store) (a : Appender) where
   record_empties : (index : ℕ) → Empties (record_out index vol m st a)

@@ -1,4 +1,5 @@
 -- The calls on offer: each way out of its function, over plain values. Assumes nothing.
+use Rattle.std.specs.Prelude.{Err, Ok, Result}
 use mathlib.Core.Path.{◌≡◌, refl, sym, ap, ◌∙◌}
 use mathlib.Core.List.{List}
 use Prim.Native.Nat.{ℕ}
@@ -8,8 +9,6 @@ use lib.ListN.{length}
 use Rattle.le.proofs.Choices.{pick_true, pick_false}
 use Rattle.medium.specs.declared.Error.{Error}
 use Rattle.medium.specs.declared.Medium.{Medium}
-use Rattle.medium.specs.declared.Outcome.{Outcome}
-use Rattle.medium.specs.declared.Outcome.TheVariants.{Done, No}
 use Rattle.medium.specs.Sector.{sectors_of}
 use Rattle.medium.proofs.Laws.{on_done_keeps, on_done_no, on_done_done}
 use Rattle.medium.specs.Frame.{Spends}
@@ -33,19 +32,19 @@ Offers v r c = (v ≡ c.vol) × (app_answer r ≡ c.call)
 pub offers_of : {v : List ℕ} {r : Handed} {o : AppOut} {c : AppCall} → GivesA v r o → call_of o ≡ c → Offers v r c
 offers_of g e = (g.0 ∙ ap (λ (x : AppCall). x.vol) e, ap app_answer g.1 ∙ ap (λ (x : AppCall). x.call) e)
 
-module _ (vol : List ℕ) (m : Medium) (st : Store) (a : Appender) (o : AppOut) {c : Outcome} (asked : c ≡ may_write vol st a) where
-  pub offer_refused : {e : Error} {r : Handed} → c ≡ No e → r ≡ record { outcome = No e; medium = m; store = st; appender = a } → Offers vol r (offered vol m st a o)
+module _ (vol : List ℕ) (m : Medium) (st : Store) (a : Appender) (o : AppOut) {c : Result Unit Error} (asked : c ≡ may_write vol st a) where
+  pub offer_refused : {e : Error} {r : Handed} → c ≡ Err e → r ≡ record { outcome = Err e; medium = m; store = st; appender = a } → Offers vol r (offered vol m st a o)
   unfolding offered
   offer_refused {e} d h = offers_of {o = stopped vol m st a e} (refl, h) (sym (on_done_no _ _ (sym asked ∙ d)))
 
-  pub offer_done : {v : List ℕ} {r : Handed} → c ≡ Done → GivesA v r o → Offers v r (offered vol m st a o)
+  pub offer_done : {v : List ℕ} {r : Handed} → c ≡ Ok tt → GivesA v r o → Offers v r (offered vol m st a o)
   unfolding offered
   offer_done d g = offers_of {o = o} g (sym (on_done_done _ _ (sym asked ∙ d)))
 
 -- ---- sync
 
 module _ (vol : List ℕ) (m : Medium) (st : Store) (a : Appender) where
-  pub sync_nothing : {r : Handed} → a.fill ≡ 0 → r ≡ record { outcome = Done; medium = m; store = st; appender = a } → GivesA vol r (sync_of vol m st a)
+  pub sync_nothing : {r : Handed} → a.fill ≡ 0 → r ≡ record { outcome = Ok tt; medium = m; store = st; appender = a } → GivesA vol r (sync_of vol m st a)
   unfolding sync_of
   sync_nothing h g = along (refl, g) (sym (pick_true _ _ (eq-eqb _ _ h)))
 
@@ -54,8 +53,8 @@ module _ (vol : List ℕ) (m : Medium) (st : Store) (a : Appender) where
   sync_flushed h g = along g (sym (pick_false _ _ (ne_eqb _ _ h)))
 
 -- nothing is to be written: said of the whole call, so that the check finds it under any condition of the code
-pub sync_idle : (vol : List ℕ) (m : Medium) (st : Store) (a : Appender) (r : Handed) → may_write vol st a ≡ Done → a.fill ≡ 0
-    → r ≡ record { outcome = Done; medium = m; store = st; appender = a }
+pub sync_idle : (vol : List ℕ) (m : Medium) (st : Store) (a : Appender) (r : Handed) → may_write vol st a ≡ Ok tt → a.fill ≡ 0
+    → r ≡ record { outcome = Ok tt; medium = m; store = st; appender = a }
     → (vol ≡ (sync_call vol m st a).vol) × (app_answer r ≡ (sync_call vol m st a).call)
 unfolding sync_call
 sync_idle vol m st a r w h g = offer_done vol m st a (sync_of vol m st a) (sym w) refl (sync_nothing vol m st a h g)

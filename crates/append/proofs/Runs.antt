@@ -1,4 +1,5 @@
 -- A run of bytes goes as its bytes one by one: one that does not fill the buffer, and one that does. Assumes nothing.
+use Rattle.std.specs.Prelude.{Err, Ok}
 use mathlib.Core.Path.{◌≡◌, refl, sym, ap, ap₂, ◌∙◌}
 use mathlib.Core.Bool.{Bool, true, false}
 use mathlib.Core.List.{List, [], ◌∷◌, ◌++◌}
@@ -14,7 +15,6 @@ use Rattle.le.proofs.Parts.{length_over}
 use Rattle.le.proofs.Choices.{pick_true, pick_false, pick_keeps, pick_keeps_by}
 use Rattle.medium.specs.declared.Error.{Error}
 use Rattle.medium.specs.declared.Medium.{Medium}
-use Rattle.medium.specs.declared.Outcome.TheVariants.{Done, No}
 use Rattle.medium.proofs.Laws.{on_done_keeps}
 use Rattle.handles.specs.declared.Store.{Store}
 use Rattle.remove.proofs.Keeps.{Good, stands_none}
@@ -97,11 +97,11 @@ module _ (bs vol : List ℕ) (m : Medium) (st : Store) (a : Appender) (l : lengt
       let n : a.fill + length bs ≡ 486 = sym (ap (λ (y : Appender). y.fill) hx) ∙ f in
       along g (ap (flush_of vol m st) hx ∙ sym (run_fills bs vol m st a l one n))
 
-  pub put_kept : a.fill + length bs ≤ 486 → (x.fill ≡ 486 → ⊥) → GivesA vol (record { outcome = Done; medium = m; store = st; appender = x }) (append_of bs vol m st a)
+  pub put_kept : a.fill + length bs ≤ 486 → (x.fill ≡ 486 → ⊥) → GivesA vol (record { outcome = Ok tt; medium = m; store = st; appender = x }) (append_of bs vol m st a)
   put_kept h f =
       let n : a.fill + length bs ≡ 486 → ⊥ = λ q. f (ap (λ (y : Appender). y.fill) hx ∙ q) in
       let e : append_of bs vol m st a ≡ done vol m st (with_run bs a) = run_short bs vol m st a l (omega arith) in
-      along (refl, ap (λ (y : Appender). record { outcome = Done; medium = m; store = st; appender = y }) hx) (sym e)
+      along (refl, ap (λ (y : Appender). record { outcome = Ok tt; medium = m; store = st; appender = y }) hx) (sym e)
 
 -- a run that fills the record, said in the words of the code, so that the check finds it under any condition of the code
 pub run_filled : (bs vol : List ℕ) (m : Medium) (st : Store) (a : Appender) (v : List ℕ) (r : Handed) (b : List ℕ) → Fit a st → 1 ≤ length bs → a.fill + length bs ≡ 486
@@ -118,7 +118,7 @@ with_fit bs a st hx f h = rw hx (run_fit bs a st f h)
 -- what a run leaves: room, where it was accepted
 pub record Puts (vol : List ℕ) (m : Medium) (st : Store) (o : AppOut) : Type 0 where
   pub goes : Goes vol m st o
-  pub room : o.ans.outcome ≡ Done → o.ans.appender.fill < 486
+  pub room : o.ans.outcome ≡ Ok tt → o.ans.appender.fill < 486
 
 module _ (bs vol : List ℕ) (m : Medium) (st : Store) (a : Appender) (good : Good vol st) (fit : Fit a st) (one : 1 ≤ length bs) (h : a.fill + length bs ≤ 486) where
   pub run_puts : Puts vol m st (append_of bs vol m st a)
@@ -188,7 +188,7 @@ run_size fill left h one =
     (λ t. let q : 486 - fill ≤ left = ltb-false _ _ t in (omega arith, q, omega arith))
 
 module _ (bytes : List ℕ) (i : ℕ) (vol : List ℕ) (m : Medium) (st : Store) (a : Appender) where
-  pub put_end : length bytes ≤ i → GivesA vol (record { outcome = Done; medium = m; store = st; appender = a }) (append_of (drop i bytes) vol m st a)
+  pub put_end : length bytes ≤ i → GivesA vol (record { outcome = Ok tt; medium = m; store = st; appender = a }) (append_of (drop i bytes) vol m st a)
   unfolding append_of
   put_end h = rw (drop_of_length-le bytes h) (refl, refl)
 
@@ -199,14 +199,14 @@ module _ (bytes : List ℕ) (i : ℕ) (vol : List ℕ) (m : Medium) (st : Store)
         let e : take (i + n - i) (drop i bytes) ++ drop (i + n) bytes ≡ drop i bytes = rw (k, ← drop-drop n i bytes) (take-append-drop n (drop i bytes)) in
         ap (λ (l : List ℕ). append_of l vol m st a) (sym e) ∙ append_parts (take (i + n - i) (drop i bytes)) (drop (i + n) bytes) vol m st a
 
-    pub put_stopped : {e : Error} → r.outcome ≡ No e → GivesA v r (append_of (drop i bytes) vol m st a)
+    pub put_stopped : {e : Error} → r.outcome ≡ Err e → GivesA v r (append_of (drop i bytes) vol m st a)
     put_stopped d = along g (sym (parts ∙ then_no _ _ (ap (λ (f : Handed). f.outcome) (sym g.1) ∙ d)))
 
-    pub put_turn : r.outcome ≡ Done → Same (append_of (drop (i + n) bytes) v r.medium r.store r.appender) (append_of (drop i bytes) vol m st a)
+    pub put_turn : r.outcome ≡ Ok tt → Same (append_of (drop (i + n) bytes) v r.medium r.store r.appender) (append_of (drop i bytes) vol m st a)
     put_turn d =
         let o : AppOut = append_of (take (i + n - i) (drop i bytes)) vol m st a in
         let rest : List ℕ = drop (i + n) bytes in
-        let q : o.ans.outcome ≡ Done = ap (λ (f : Handed). f.outcome) (sym g.1) ∙ d in
+        let q : o.ans.outcome ≡ (Ok tt) = ap (λ (f : Handed). f.outcome) (sym g.1) ∙ d in
         let e : append_of (drop i bytes) vol m st a ≡ after o.steps (append_of rest o.vol o.ans.medium o.ans.store o.ans.appender) = parts ∙ then_done o (append_of rest) q in
         let f : append_of rest v r.medium r.store r.appender ≡ append_of rest o.vol o.ans.medium o.ans.store o.ans.appender =
         ap₂ (λ (w : List ℕ) (x : Handed). append_of rest w x.medium x.store x.appender) g.0 g.1 in
@@ -233,12 +233,12 @@ turn_fits bytes i fill {n} e h k =
 
 pub again : (bytes vol₀ : List ℕ) (m₀ : Medium) (s₀ : Store) (a₀ : Appender) (vol : List ℕ) (m : Medium) (s : Store) (a : Appender) (i n : ℕ) {v : List ℕ} {r : Handed}
     → Going bytes vol₀ m₀ s₀ a₀ vol m s a i → n ≡ run_of a.fill (length bytes - i) → i < length bytes
-    → GivesA v r (append_of (take (i + n - i) (drop i bytes)) vol m s a) → r.outcome ≡ Done → Going bytes vol₀ m₀ s₀ a₀ v r.medium r.store r.appender (i + n)
+    → GivesA v r (append_of (take (i + n - i) (drop i bytes)) vol m s a) → r.outcome ≡ Ok tt → Going bytes vol₀ m₀ s₀ a₀ v r.medium r.store r.appender (i + n)
 again bytes vol₀ m₀ s₀ a₀ vol m s a i n {v} {r} w e k g d =
     let bs : List ℕ = take (i + n - i) (drop i bytes) in
     let t = turn_fits bytes i a.fill e w.room k in
     let p : Puts vol m s (append_of bs vol m s a) = run_puts bs vol m s a w.good w.fit t.2 t.3 in
-    let q : (append_of bs vol m s a).ans.outcome ≡ Done = ap (λ (f : Handed). f.outcome) (sym g.1) ∙ d in
+    let q : (append_of bs vol m s a).ans.outcome ≡ (Ok tt) = ap (λ (f : Handed). f.outcome) (sym g.1) ∙ d in
     let x : Same (append_of (drop (i + n) bytes) v r.medium r.store r.appender) (append_of (drop i bytes) vol m s a) = put_turn bytes i vol m s a n g d in
     record {
       low = t.0;

@@ -1,4 +1,5 @@
 -- What writing gives, by the way that it goes: a law for each return, over plain values. Assumes nothing.
+use Rattle.std.specs.Prelude.{Err, Ok}
 use mathlib.Core.Path.{◌≡◌, refl, sym, ap, ◌∙◌}
 use mathlib.Core.Bool.{Bool, true, false}
 use mathlib.Core.List.{List, []}
@@ -10,7 +11,6 @@ use Rattle.le.proofs.Choices.{pick_true, pick_false}
 use Rattle.medium.specs.declared.Error.{Error}
 use Rattle.medium.specs.declared.Error.TheVariants.{Corrupt, Full, Stale}
 use Rattle.medium.specs.declared.Medium.{Medium}
-use Rattle.medium.specs.declared.Outcome.TheVariants.{Done, No}
 use Rattle.medium.specs.declared.Written.{Written}
 use Rattle.medium.specs.Refusal.{on_done}
 use Rattle.medium.proofs.Laws.{on_done_done}
@@ -38,10 +38,10 @@ use Rattle.append.specs.Flush.{AppOut, and_then, moved_to, link_out, rolled_out,
 use Rattle.append.proofs.Then.{GivesA, along, then_done, then_no}
 
 abbrev pub refusal : Error → Medium → Store → Appender → Handed
-refusal e m st a = record { outcome = No e; medium = m; store = st; appender = a }
+refusal e m st a = record { outcome = Err e; medium = m; store = st; appender = a }
 
 abbrev pub success : Medium → Store → Appender → Handed
-success m st a = record { outcome = Done; medium = m; store = st; appender = a }
+success m st a = record { outcome = Ok tt; medium = m; store = st; appender = a }
 
 on_pick_nothing : {A : Type 0} {p : Pick} (f : Error → A) (a : A) (g : ℕ → A) → p ≡ free.Nothing → on_pick p f a g ≡ a
 unfolding on_pick
@@ -59,11 +59,11 @@ module _ (vol : List ℕ) (m : Medium) (st : Store) (a : Appender) (partial : Bo
   -- ---- a chunk linked
 
   module _ (next : ℕ) {v : List ℕ} {c : Committed} (g : GivesC v c (commit_of (Extend a.slot a.position next a.chunk partial records) [] vol m st)) where
-    pub link_refused : {e : Error} → c.outcome ≡ No e → GivesA v (refusal e c.medium c.store a) (link_out vol m st a partial records next)
+    pub link_refused : {e : Error} → c.outcome ≡ Err e → GivesA v (refusal e c.medium c.store a) (link_out vol m st a partial records next)
     unfolding link_out on_done
     link_refused d = rw (← g.0, ← g.1, d) (refl, refl)
 
-    pub link_done : {x : Appender} → c.outcome ≡ Done → x ≡ moved_to next a → GivesA v (success c.medium c.store x) (link_out vol m st a partial records next)
+    pub link_done : {x : Appender} → c.outcome ≡ Ok tt → x ≡ moved_to next a → GivesA v (success c.medium c.store x) (link_out vol m st a partial records next)
     unfolding link_out on_done
     link_done d h = rw (← g.0, ← g.1, d, h) (refl, refl)
 
@@ -74,11 +74,11 @@ module _ (vol : List ℕ) (m : Medium) (st : Store) (a : Appender) (partial : Bo
     gone : GivesG v g (remove_oldest_of vol m st (dir_bytes a.dir) (is_open st.writer) (open_id st.writer))
     gone = rw (← hd, ← hk, ← hi) h
 
-    pub rolled_refused : {e : Error} → g.outcome ≡ No e → GivesA v (refusal e g.medium g.store a) (rolled_out vol m st a partial records)
+    pub rolled_refused : {e : Error} → g.outcome ≡ Err e → GivesA v (refusal e g.medium g.store a) (rolled_out vol m st a partial records)
     unfolding rolled_out on_done
     rolled_refused d = rw (← gone.0, ← gone.1, d) (refl, refl)
 
-    module _ (d : g.outcome ≡ Done) where
+    module _ (d : g.outcome ≡ Ok tt) where
       pub rolled_none : g.any ≡ false → GivesA v (refusal Full g.medium g.store a) (rolled_out vol m st a partial records)
       unfolding rolled_out on_done pick
       rolled_none t = rw (← gone.0, ← gone.1, d, t) (refl, refl)
@@ -123,14 +123,14 @@ module _ (vol : List ℕ) (m : Medium) (st : Store) (a : Appender) (partial : Bo
   -- ---- and its first record
 
   module _ {v : List ℕ} {x : Handed} (g : GivesA v x (extend_of vol m st a partial records)) where
-    pub next_refused : {e : Error} → x.outcome ≡ No e → GivesA v x (and_then (extend_of vol m st a partial records) (record_out 0))
+    pub next_refused : {e : Error} → x.outcome ≡ Err e → GivesA v x (and_then (extend_of vol m st a partial records) (record_out 0))
     next_refused d = along g (sym (then_no _ (record_out 0) (ap (λ (f : Handed). f.outcome) (sym g.1) ∙ d)))
 
-    pub next_written : {w : List ℕ} {r : Handed} → x.outcome ≡ Done → GivesA w r (record_out 0 v x.medium x.store x.appender)
+    pub next_written : {w : List ℕ} {r : Handed} → x.outcome ≡ Ok tt → GivesA w r (record_out 0 v x.medium x.store x.appender)
         → GivesA w r (and_then (extend_of vol m st a partial records) (record_out 0))
     next_written {w} {r} d l =
         let o : AppOut = extend_of vol m st a partial records in
-        let q : o.ans.outcome ≡ Done = ap (λ (f : Handed). f.outcome) (sym g.1) ∙ d in
+        let q : o.ans.outcome ≡ (Ok tt) = ap (λ (f : Handed). f.outcome) (sym g.1) ∙ d in
         let l' : GivesA w r (record_out 0 o.vol o.ans.medium o.ans.store o.ans.appender) = (rw (g.0, g.1) at l) in
         (l'.0 ∙ ap (λ (y : AppOut). y.vol) (sym (then_done o (record_out 0) q)), l'.1 ∙ ap (λ (y : AppOut). y.ans) (sym (then_done o (record_out 0) q)))
 
@@ -142,11 +142,11 @@ module _ (vol : List ℕ) (m : Medium) (st : Store) (a : Appender) where
     asked : GivesW v w (write_record_of vol m st a.id a.chunk index (number_at a.position st.head.chunk index) (part 0 a.fill a.buffer))
     asked = rw (← hn, ← hb) h
 
-    pub record_refused : {e : Error} → w.outcome ≡ No e → GivesA v (refusal e w.medium st a) (record_out index vol m st a)
+    pub record_refused : {e : Error} → w.outcome ≡ Err e → GivesA v (refusal e w.medium st a) (record_out index vol m st a)
     unfolding record_out on_done
     record_refused d = rw (← asked.0, ← asked.1, d) (refl, refl)
 
-    pub record_done : {x : Appender} → w.outcome ≡ Done → x ≡ filed index a → GivesA v (success w.medium st x) (record_out index vol m st a)
+    pub record_done : {x : Appender} → w.outcome ≡ Ok tt → x ≡ filed index a → GivesA v (success w.medium st x) (record_out index vol m st a)
     unfolding record_out on_done
     record_done d e = rw (← asked.0, ← asked.1, d, e) (refl, refl)
 
@@ -170,10 +170,10 @@ module _ (vol : List ℕ) (m : Medium) (st : Store) (a : Appender) where
   write_closed q = rw q (refl, refl)
 
   module _ {v : List ℕ} {x : Handed} (g : GivesA v x (write_out vol m st a)) where
-    pub flush_refused : {e : Error} {s : Appender} → x.outcome ≡ No e → s ≡ closed_of x.appender → GivesA v (refusal e x.medium x.store s) (flush_of vol m st a)
+    pub flush_refused : {e : Error} {s : Appender} → x.outcome ≡ Err e → s ≡ closed_of x.appender → GivesA v (refusal e x.medium x.store s) (flush_of vol m st a)
     unfolding flush_of on_done
     flush_refused d h = rw (← g.0, ← g.1, d, h) (refl, refl)
 
-    pub flush_done : x.outcome ≡ Done → GivesA v x (flush_of vol m st a)
+    pub flush_done : x.outcome ≡ Ok tt → GivesA v x (flush_of vol m st a)
     unfolding flush_of
     flush_done d = along g (sym (on_done_done _ _ (ap (λ (f : Handed). f.outcome) (sym g.1) ∙ d)))

@@ -1,11 +1,11 @@
 -- The calls on offer to a holder of an appender, in 01's numbers: append, sync, and room, the bytes until a record. Order of refusals of append and
 -- sync: 3 on the store value and on the appender, then 11. What a refusal leaves is what stands so far. Assumes nothing.
+use Rattle.std.specs.Prelude.{Err, Ok, Result}
+use Rattle.medium.specs.declared.Error.{Error}
 use Rattle.std.specs.Prelude.{ℕ, ◌-◌, ◌&&◌, List, leb}
 use Rattle.le.specs.Choice.{pick}
 use Rattle.medium.specs.declared.Error.TheVariants.{Handle, Stale}
 use Rattle.medium.specs.declared.Medium.{Medium}
-use Rattle.medium.specs.declared.Outcome.{Outcome}
-use Rattle.medium.specs.declared.Outcome.TheVariants.{Done, No}
 use Rattle.medium.specs.Refusal.{number_of, Answer, ok, refused, on_done, outcome_of}
 use Rattle.medium.specs.Sector.{sectors_of}
 use Rattle.handles.specs.declared.Store.{Store}
@@ -19,8 +19,8 @@ use Rattle.append.specs.Appender.{appender_ok, live}
 use Rattle.append.specs.Flush.{AppOut, stopped, append_of, sync_of}
 
 -- the store value and the appender pass refusal 3, and the appender is the one that this store opened last
-unfoldable pub may_write : List ℕ → Store → Appender → Outcome
-may_write vol st ap = pick (store_ok st (sectors_of vol) && appender_ok ap st) (pick (live st ap) Done (No Stale)) (No Handle)
+unfoldable pub may_write : List ℕ → Store → Appender → Result Unit Error
+may_write vol st ap = pick (store_ok st (sectors_of vol) && appender_ok ap st) (pick (live st ap) (Ok tt) (Err Stale)) (Err Handle)
 
 -- what such a call tells, as 01 has it: the answer, the medium record and the handles
 pub record AppTold : Type 0 where

@@ -1,11 +1,11 @@
 -- 01, "Record" and "Link": what an appender writes. On refusal what stands so far; the steps are for 01's book. Assumes nothing.
+use Rattle.std.specs.Prelude.{Err, Ok}
 use Rattle.std.specs.Prelude.{ℕ, ◌+◌, ◌-◌, Bool, true, false, List, [], ◌∷◌, ◌++◌, eqb, leb, ltb, length, set}
 use Rattle.le.specs.Choice.{pick}
 use Rattle.le.specs.Part.{part, over}
 use Rattle.medium.specs.declared.Error.{Error}
 use Rattle.medium.specs.declared.Error.TheVariants.{Corrupt, Full, Stale}
 use Rattle.medium.specs.declared.Medium.{Medium}
-use Rattle.medium.specs.declared.Outcome.TheVariants.{Done, No}
 use Rattle.medium.specs.Refusal.{on_done}
 use Rattle.medium.specs.Sector.{WriteOut}
 use Rattle.handles.specs.declared.Store.{Store}
@@ -29,10 +29,10 @@ pub record AppOut : Type 0 where
   pub steps : List Step
 
 abbrev pub done : List ℕ → Medium → Store → Appender → AppOut
-done vol m st ap = record { vol = vol; ans = record { outcome = Done; medium = m; store = st; appender = ap }; steps = [] }
+done vol m st ap = record { vol = vol; ans = record { outcome = Ok tt; medium = m; store = st; appender = ap }; steps = [] }
 
 abbrev pub stopped : List ℕ → Medium → Store → Appender → Error → AppOut
-stopped vol m st ap e = record { vol = vol; ans = record { outcome = No e; medium = m; store = st; appender = ap }; steps = [] }
+stopped vol m st ap e = record { vol = vol; ans = record { outcome = Err e; medium = m; store = st; appender = ap }; steps = [] }
 
 -- the steps made before come first
 abbrev pub after : List Step → AppOut → AppOut
@@ -142,7 +142,7 @@ abbrev pub closing : AppOut → Error → AppOut
 closing o e =
     record {
       vol = o.vol;
-      ans = record { outcome = No e; medium = o.ans.medium; store = o.ans.store; appender = closed_of o.ans.appender };
+      ans = record { outcome = Err e; medium = o.ans.medium; store = o.ans.store; appender = closed_of o.ans.appender };
       steps = o.steps;
     }
 

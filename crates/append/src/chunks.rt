@@ -7,7 +7,7 @@ ghost use Rattle.append.specs.Flush.{link_out, rolled_out, extend_of};
 
 use super::{Appender, Handed, finished, stopped};
 use handles::Store;
-use medium::{Error, Medium, Outcome};
+use medium::{Error, Medium};
 use plan::Edit;
 use table::Pick;
 
@@ -39,7 +39,7 @@ fn link(
     let o = c.outcome;
     let m = c.medium;
     let s = c.store;
-    if let Outcome::No(e) = o {
+    if let Err(e) = o {
         return stopped(e, m, s, appender);
     }
     let moved = appender.moved_to(next);
@@ -70,7 +70,7 @@ fn rolled(
     let o = g.outcome;
     let m = g.medium;
     let s = g.store;
-    if let Outcome::No(e) = o {
+    if let Err(e) = o {
         return stopped(e, m, s, appender);
     }
     if !g.any {

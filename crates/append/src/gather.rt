@@ -9,7 +9,7 @@ ghost use Rattle.append.specs.Flush.{run_of, append_of};
 use super::records::flush;
 use super::{Appender, Handed, finished};
 use handles::Store;
-use medium::{Medium, Outcome};
+use medium::{Error, Medium};
 
 // The bytes of a run: as many as are left, or as fit before the record is full.
 fn run_of(fill: usize, left: usize) -> usize
@@ -74,7 +74,7 @@ fn put_all(
         let e = i + n;
         let x = put_run(&mut *volume, m, s, a, &bytes[i..e]);
         let o = x.outcome;
-        if let Outcome::No(_) = o {
+        if let Err(_) = o {
             return x;
         }
         m = x.medium;

@@ -8,12 +8,12 @@ mod records;
 mod refusals;
 
 ghost use Rattle.std.specs.Prelude.{◌≡◌};
-ghost use Rattle.medium.specs.declared.Outcome.TheVariants.{Done, No};
+ghost use Rattle.std.specs.Prelude.{Ok, Err};
 ghost use Rattle.append.specs.Appender.{no_appender};
 ghost use Rattle.append.specs.Calls.{app_answer, append_call, sync_call, room_answer, room_call};
 
 use handles::Store;
-use medium::{Error, Medium, Outcome};
+use medium::{Error, Medium};
 
 // The directory of a rollover: the first `length` of its bytes.
 #[derive(Clone, Copy)]
@@ -47,7 +47,7 @@ pub struct Appender {
 // What a call of an appender hands back, refused or not: append, sync, create and open_append.
 #[derive(Clone, Copy)]
 pub struct Handed {
-    pub outcome: Outcome,
+    pub outcome: Result<(), Error>,
     pub medium: Medium,
     pub store: Store,
     pub appender: Appender,
@@ -82,10 +82,10 @@ pub fn no_appender() -> Appender
 }
 
 fn stopped(e: Error, medium: Medium, store: Store, appender: Appender) -> Handed
-    ensures { result ≡ record { outcome = No e; medium = medium; store = store; appender = appender } }
+    ensures { result ≡ record { outcome = Err e; medium = medium; store = store; appender = appender } }
 {
     Handed {
-        outcome: Outcome::No(e),
+        outcome: Err(e),
         medium,
         store,
         appender,
@@ -93,10 +93,10 @@ fn stopped(e: Error, medium: Medium, store: Store, appender: Appender) -> Handed
 }
 
 fn finished(medium: Medium, store: Store, appender: Appender) -> Handed
-    ensures { result ≡ record { outcome = Done; medium = medium; store = store; appender = appender } }
+    ensures { result ≡ record { outcome = Ok tt; medium = medium; store = store; appender = appender } }
 {
     Handed {
-        outcome: Outcome::Done,
+        outcome: Ok(()),
         medium,
         store,
         appender,
@@ -122,7 +122,7 @@ impl Appender {
             × (app_answer result ≡ (append_call volume.old medium store self bytes.now).call) }
     {
         let o = self.check(&volume[..], store);
-        if let Outcome::No(e) = o {
+        if let Err(e) = o {
             return stopped(e, medium, store, self);
         }
         gather::put(volume, medium, store, self, bytes)
@@ -135,7 +135,7 @@ impl Appender {
             × (app_answer result ≡ (sync_call volume.old medium store self).call) }
     {
         let o = self.check(&volume[..], store);
-        if let Outcome::No(e) = o {
+        if let Err(e) = o {
             return stopped(e, medium, store, self);
         }
         if self.fill == 0 {

@@ -8,7 +8,7 @@ ghost use Rattle.append.specs.Flush.{extend_of, record_out, and_then, write_out,
 use super::chunks::extend;
 use super::{Appender, Handed, Tail, finished, stopped};
 use handles::Store;
-use medium::{Error, Medium, Outcome};
+use medium::{Error, Medium};
 
 // Writes the gathered bytes as record `index` of the chunk.
 fn write_at(
@@ -37,7 +37,7 @@ fn write_at(
     );
     let o = w.outcome;
     let m = w.medium;
-    if let Outcome::No(e) = o {
+    if let Err(e) = o {
         return stopped(e, m, store, appender);
     }
     let next = appender.filed(index);
@@ -62,7 +62,7 @@ fn write_next(
     let m = x.medium;
     let s = x.store;
     let a = x.appender;
-    if let Outcome::No(_) = o {
+    if let Err(_) = o {
         return x;
     }
     write_at(volume, m, s, a, 0)
@@ -94,7 +94,7 @@ pub(crate) fn flush(volume: &mut [u8], medium: Medium, store: Store, appender: A
 {
     let x = write(volume, medium, store, appender);
     let o = x.outcome;
-    if let Outcome::No(e) = o {
+    if let Err(e) = o {
         let m = x.medium;
         let s = x.store;
         let a = x.appender;

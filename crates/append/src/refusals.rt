@@ -6,7 +6,7 @@ ghost use Rattle.append.specs.Calls.{may_write};
 
 use super::{Appender, Dir, Tail};
 use handles::{Store, Writer};
-use medium::{Error, Outcome};
+use medium::Error;
 
 fn is_closed(tail: Tail) -> bool
     ensures { result ≡ is_closed tail }
@@ -81,17 +81,17 @@ impl Appender {
     }
 
     // The refusals before the work.
-    pub(crate) fn check(self, volume: &[u8], store: Store) -> Outcome
+    pub(crate) fn check(self, volume: &[u8], store: Store) -> Result<(), Error>
         ensures { result ≡ may_write volume.now store self }
     {
         let held = store.handle_ok(medium::sectors(volume));
         let fine = self.handle_ok(store);
         if !(held & fine) {
-            return Outcome::No(Error::Handle);
+            return Err(Error::Handle);
         }
         if self.is_live(store) {
-            return Outcome::Done;
+            return Ok(());
         }
-        Outcome::No(Error::Stale)
+        Err(Error::Stale)
     }
 }

@@ -1,12 +1,12 @@
 -- The loop of appends, turn by turn. Assumes nothing.
+use Rattle.std.specs.Prelude.{Err, Ok, Result}
+use Rattle.medium.specs.declared.Error.{Error}
 use Prim.Native.Nat.{ℕ, zero, suc, ◌+◌, ◌-◌, ◌≤◌, ◌<◌}
 use mathlib.Core.Path.{◌≡◌, refl, ap, ◌∙◌}
 use mathlib.Core.List.{List}
 use native.Mathlib.Omega.{arith}
 use lib.ListN.{length}
 use Rattle.medium.specs.declared.Medium.{Medium}
-use Rattle.medium.specs.declared.Outcome.{Outcome}
-use Rattle.medium.specs.declared.Outcome.TheVariants.{Done, No}
 use Rattle.medium.specs.Refusal.{outcome_of}
 use Rattle.handles.specs.declared.Store.{Store}
 use Rattle.append.specs.declared.Appender.{Appender}
@@ -14,9 +14,9 @@ use Rattle.append.specs.declared.Handed.{Handed}
 use Rattle.append.specs.Calls.{app_answer, append_call}
 use Rattle.bench_port.specs.Appends.{once_of, appends_of}
 
-pub once_most : (o : Outcome) → once_of (outcome_of o) ≤ 1
-once_most Done = omega arith
-once_most (No e) = omega arith
+pub once_most : (o : Result Unit Error) → once_of (outcome_of o) ≤ 1
+once_most (Ok tt) = omega arith
+once_most (Err e) = omega arith
 
 -- what the loop keeps: from here the definition gives what it gives from the start
 pub record Going (times : ℕ) (bytes vol₀ : List ℕ) (m₀ : Medium) (s₀ : Store) (a₀ : Appender) (vol : List ℕ) (m : Medium) (s : Store) (a : Appender) (n left : ℕ) : Type 0 where

@@ -10,7 +10,7 @@ ghost use Rattle.bridge.specs.Numbers.{end_at, reader_of, reader_words, found_wo
 use directory::Found;
 use freemap::FreeMap;
 use handles::{Header, Store, Writer};
-use medium::{Medium, Outcome};
+use medium::{Error, Medium};
 use reader::{End, Next, Numbered, Reader};
 use table::FreeCount;
 
@@ -162,12 +162,12 @@ pub fn put_store(s: Store, store: &mut [u64; 43], crcs: &mut [u32; 24])
 }
 
 // 0, or the number of a refusal.
-pub fn code(o: Outcome) -> u32
+pub fn code(o: Result<(), Error>) -> u32
     ensures { result ≡ code_of (outcome_of o) }
 {
     match o {
-        Outcome::Done => 0,
-        Outcome::No(e) => medium::number(e),
+        Ok(()) => 0,
+        Err(e) => medium::number(e),
     }
 }
 

@@ -8,7 +8,7 @@ ghost use Rattle.bridge_write.specs.Writing.{tail_at, appender_of, tail_kind, ta
 
 use append::{Appender, Dir, Room, Tail};
 use bridge::numbers::{flag, narrow};
-use medium::Outcome;
+use medium::Error;
 use remove::Gone;
 
 fn tail_in(kind: u64, count: u64) -> Tail
@@ -110,7 +110,7 @@ fn gone_length(g: Gone) -> usize
     ensures { (part 0 result g.name ≡ went_name (gone_answer g).answer) × (result ≡ length (went_name (gone_answer g).answer)) × (result ≤ 40) }
 {
     let o = g.outcome;
-    if let Outcome::No(_) = o {
+    if let Err(_) = o {
         return 0;
     }
     if !g.any {
@@ -128,8 +128,8 @@ pub fn gone_code(g: Gone) -> u32
 {
     let o = g.outcome;
     match o {
-        Outcome::Done => 0,
-        Outcome::No(e) => medium::number(e),
+        Ok(()) => 0,
+        Err(e) => medium::number(e),
     }
 }
 
@@ -139,7 +139,7 @@ pub fn gone_words(g: Gone) -> [u64; 3]
 {
     let n = gone_length(g);
     let o = g.outcome;
-    if let Outcome::No(_) = o {
+    if let Err(_) = o {
         return [0, 0, 0];
     }
     if !g.any {

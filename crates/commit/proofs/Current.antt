@@ -1,4 +1,5 @@
 -- The store of an accepted mount is current, and a commit on a current store never gives 11. Assumes nothing.
+use Rattle.std.specs.Prelude.{Ok}
 use mathlib.Core.Path.{◌≡◌, refl}
 use mathlib.Core.Bool.{true}
 use mathlib.Core.List.{List}
@@ -8,7 +9,6 @@ use lib.Dec.{eqb}
 use Rattle.le.proofs.Choices.{pick_keeps, pick_true}
 use Rattle.runs.proofs.Tests.{same_self}
 use Rattle.medium.specs.declared.Medium.{Medium}
-use Rattle.medium.specs.declared.Outcome.TheVariants.{Done}
 use Rattle.medium.proofs.Laws.{on_done_keeps}
 use Rattle.medium.proofs.Stale.{NotStale, no_stale}
 use Rattle.handles.specs.declared.Header.{Header}
@@ -34,7 +34,7 @@ same_head_lem h =
     )
     (same_self h.crcs)
 
-pub mounted_current : (vol : List ℕ) (m : Medium) → (mount_of vol m).outcome ≡ Done → is_current (current_of vol m) (mount_of vol m).store ≡ true
+pub mounted_current : (vol : List ℕ) (m : Medium) → (mount_of vol m).outcome ≡ Ok tt → is_current (current_of vol m) (mount_of vol m).store ≡ true
 unfolding is_current
 mounted_current vol m d = rw ((mount_current vol m d).1, eq-eqb (current_of vol m).copy (current_of vol m).copy refl) (same_head_lem (current_of vol m).head)
 

@@ -1,4 +1,5 @@
 -- What a commit keeps, whatever the writes left: what a caller goes on with, accepted or refused. Assumes nothing.
+use Rattle.std.specs.Prelude.{Err, Ok, Result}
 use mathlib.Core.Path.{◌≡◌, refl, sym, ap, ◌∙◌}
 use mathlib.Core.Bool.{true}
 use mathlib.Core.List.{List}
@@ -12,8 +13,6 @@ use Rattle.le.proofs.Choices.{pick_keeps}
 use Rattle.le.proofs.Parts.{length_zeros}
 use Rattle.medium.specs.declared.Error.{Error}
 use Rattle.medium.specs.declared.Medium.{Medium}
-use Rattle.medium.specs.declared.Outcome.{Outcome}
-use Rattle.medium.specs.declared.Outcome.TheVariants.{Done, No}
 use Rattle.medium.specs.Sector.{sectors_of}
 use Rattle.medium.proofs.Laws.{on_done_keeps, not_done}
 use Rattle.medium.specs.Frame.{Spends}
@@ -92,13 +91,13 @@ pub record Kept (edit : Edit) (vol : List ℕ) (m : Medium) (st : Store) (o : Ou
   pub chunk : o.ans.store.head.chunk ≡ st.head.chunk
   pub count : length o.ans.store.head.crcs ≡ 24
   pub writer : o.ans.store.writer ≡ st.writer
-  pub refused : (e : Error) → o.ans.outcome ≡ No e → o.ans.store ≡ st
-  pub free : o.ans.outcome ≡ Done → o.ans.store.free ≡ map_after edit vol st st.head.chunks
-  pub accepted : o.ans.outcome ≡ Done → (o.ans.store.copy ≡ 1 - st.copy) × (o.ans.store.head ≡ with_crcs (head_after edit st.head) o.ans.store.head.crcs)
+  pub refused : (e : Error) → o.ans.outcome ≡ Err e → o.ans.store ≡ st
+  pub free : o.ans.outcome ≡ Ok tt → o.ans.store.free ≡ map_after edit vol st st.head.chunks
+  pub accepted : o.ans.outcome ≡ Ok tt → (o.ans.store.copy ≡ 1 - st.copy) × (o.ans.store.head ≡ with_crcs (head_after edit st.head) o.ans.store.head.crcs)
 
 module _ (edit : Edit) (name vol : List ℕ) (m : Medium) (st : Store) (ok : store_ok st (sectors_of vol) ≡ true) (count : length st.head.crcs ≡ 24) where
   old : (o : Out) {e : Error} → length o.vol ≡ length vol → rest_of o.vol ≡ rest_of vol → Spends m o.ans.medium → o.ans.store ≡ st
-      → o.ans.outcome ≡ No e → Kept edit vol m st o
+      → o.ans.outcome ≡ Err e → Kept edit vol m st o
   old o t r u s q =
       record {
         size = t;
@@ -123,9 +122,9 @@ module _ (edit : Edit) (name vol : List ℕ) (m : Medium) (st : Store) (ok : sto
       past : rest_of o.vol ≡ rest_of vol
       past = kept_rest (omega (arith, base_most (1 - st.copy), (store_facts st (sectors_of vol) ok).enough)) k.frame
 
-      go : (r : Outcome) → o.ans.outcome ≡ r → Kept edit vol m st o
-      go (No e) q = old o k.frame.size past k.medium (k.refused e q) q
-      go Done q =
+      go : (r : Result Unit Error) → o.ans.outcome ≡ r → Kept edit vol m st o
+      go (Err e) q = old o k.frame.size past k.medium (k.refused e q) q
+      go (Ok tt) q =
           let f : Held st (sectors_of vol) = store_facts st (sectors_of vol) ok in
           let n : o.ans.store.head ≡ with_crcs (head_after edit st.head) o.ans.store.head.crcs = k.numbers q in
           let s : sane_of o.ans.store.head (sectors_of vol) ≡ true = ap (λ (x : Header). sane_of x (sectors_of vol)) n ∙ sane_after edit st.head (sectors_of vol) _ f.head in

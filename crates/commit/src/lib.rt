@@ -4,7 +4,7 @@
 ghost use Rattle.std.specs.Prelude.{◌≡◌, true, false, ◌&&◌, ◌+◌, ◌^◌, ◌<◌, ◌≤◌, eqb, length};
 ghost use Rattle.runs.specs.Run.{same_bytes};
 ghost use Rattle.checksum.specs.Crc.{crc32_of};
-ghost use Rattle.medium.specs.declared.Outcome.TheVariants.{Done, No};
+ghost use Rattle.std.specs.Prelude.{Ok, Err};
 ghost use Rattle.medium.specs.Refusal.{on_done};
 ghost use Rattle.medium.specs.Sector.{sectors_of, sector_at, read_of};
 ghost use Rattle.handles.specs.Body.{body_at, check_of};
@@ -16,7 +16,7 @@ ghost use Rattle.commit.specs.Commit.{same_head, is_current, commit_plan, commit
 use freemap::FreeMap;
 use handles::{Header, Store};
 use header::Current;
-use medium::{Error, Medium, Outcome};
+use medium::{Error, Medium};
 use plan::{BodyWritten, Committed, Edit};
 
 fn same_crcs(a: [u32; 24], b: [u32; 24]) -> bool
@@ -71,25 +71,25 @@ fn read_body(
     store: Store,
     k: usize,
     sector: &mut [u8; 512],
-) -> Outcome
+) -> Result<(), Error>
     requires { (64 ≤ sectors_of volume.now) × (k < 24) }
     ensures { (result ≡ check_of volume.now medium store k)
         × (sector.new ≡ on_done (read_of medium (body_at store k)) (sector_at volume.now (body_at store k)) (λ _. sector.old)) }
 {
     let at = handles::base(store.copy) + 1 + (k as u64);
     let o = medium::read_sector(volume, medium, at, sector);
-    if let Outcome::No(e) = o {
-        return Outcome::No(e);
+    if let Err(e) = o {
+        return Err(e);
     }
     let h = store.head;
     if checksum::crc32(sector) == h.crcs[k] {
-        return Outcome::Done;
+        return Ok(());
     }
-    Outcome::No(Error::Corrupt)
+    Err(Error::Corrupt)
 }
 
 // What the body has come to: the header so far.
-fn so_far(outcome: Outcome, medium: Medium, head: Header) -> BodyWritten
+fn so_far(outcome: Result<(), Error>, medium: Medium, head: Header) -> BodyWritten
     ensures { result ≡ record { outcome = outcome; medium = medium; head = head } }
 {
     BodyWritten {
@@ -101,10 +101,10 @@ fn so_far(outcome: Outcome, medium: Medium, head: Header) -> BodyWritten
 
 // A refusal hands back the store value that was given.
 fn refused(e: Error, medium: Medium, store: Store) -> Committed
-    ensures { result ≡ record { outcome = No e; medium = medium; store = store } }
+    ensures { result ≡ record { outcome = Err e; medium = medium; store = store } }
 {
     Committed {
-        outcome: Outcome::No(e),
+        outcome: Err(e),
         medium,
         store,
     }
@@ -112,11 +112,11 @@ fn refused(e: Error, medium: Medium, store: Store) -> Committed
 
 // The store of the copy that was written, with the map after the edit.
 fn finished(medium: Medium, store: Store, copy: u64, head: Header, free: FreeMap) -> Committed
-    ensures { result ≡ record { outcome = Done; medium = medium; store = record { copy = copy; head = head; writer = store.writer; free = free } } }
+    ensures { result ≡ record { outcome = Ok tt; medium = medium; store = record { copy = copy; head = head; writer = store.writer; free = free } } }
 {
     let writer = store.writer;
     Committed {
-        outcome: Outcome::Done,
+        outcome: Ok(()),
         medium,
         store: Store {
             copy,
@@ -148,19 +148,19 @@ fn write_body_sector(
     let known = found.known;
     let theirs = found.listed[k];
     if !changing & lists(known, theirs, own.crcs[k]) {
-        return so_far(Outcome::Done, medium, head);
+        return so_far(Ok(()), medium, head);
     }
     let mut sector = [0u8; 512];
     let o = read_body(&volume[..], medium, store, k, &mut sector);
-    if let Outcome::No(e) = o {
-        return so_far(Outcome::No(e), medium, head);
+    if let Err(e) = o {
+        return so_far(Err(e), medium, head);
     }
     plan::edited(changing, edit, name, k, own.chunks, &mut sector);
     let crc = crc_of(&sector);
     let mut next = head;
     next.crcs[k] = crc;
     if lists(known, theirs, crc) {
-        return so_far(Outcome::Done, medium, next);
+        return so_far(Ok(()), medium, next);
     }
     let at = handles::base(1 - store.copy) + 1 + (k as u64);
     let w = medium::write_sector(&mut *volume, medium, at, &sector);
@@ -195,14 +195,14 @@ fn write_body(
     while k < n {
         let s = write_body_sector(&mut *volume, m, store, found, head, edit, name, k);
         let o = s.outcome;
-        if let Outcome::No(_) = o {
+        if let Err(_) = o {
             return s;
         }
         m = s.medium;
         head = s.head;
         k += 1;
     }
-    so_far(Outcome::Done, m, head)
+    so_far(Ok(()), m, head)
 }
 
 // The other copy written anew: its header zeroed, the body, the new header.
@@ -225,20 +225,20 @@ fn rewrite(
     let z = medium::zero_sector(&mut *volume, medium, handles::base(copy));
     let zo = z.outcome;
     let zm = z.medium;
-    if let Outcome::No(e) = zo {
+    if let Err(e) = zo {
         return refused(e, zm, store);
     }
     let b = write_body(&mut *volume, zm, store, found, edit, name);
     let bo = b.outcome;
     let bm = b.medium;
-    if let Outcome::No(e) = bo {
+    if let Err(e) = bo {
         return refused(e, bm, store);
     }
     let head = b.head;
     let w = header::write_head(&mut *volume, bm, copy, head);
     let wo = w.outcome;
     let wm = w.medium;
-    if let Outcome::No(e) = wo {
+    if let Err(e) = wo {
         return refused(e, wm, store);
     }
     finished(wm, store, copy, head, free)
@@ -252,7 +252,7 @@ pub fn commit(volume: &mut [u8], medium: Medium, store: Store, edit: Edit, name:
 {
     let found = header::current(&volume[..], medium);
     let o = found.outcome;
-    if let Outcome::No(e) = o {
+    if let Err(e) = o {
         return refused(e, medium, store);
     }
     if !is_current(found, store) {

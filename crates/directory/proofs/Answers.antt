@@ -1,4 +1,5 @@
 -- What `decode_entry` and `slot_at` answer, test by test: each is what the definition gives. Assumes nothing.
+use Rattle.std.specs.Prelude.{Err, Ok, Result}
 use mathlib.Core.Path.{◌≡◌, sym, ◌∙◌}
 use mathlib.Core.Bool.{Bool, true, false, not}
 use mathlib.Core.List.{List}
@@ -16,8 +17,6 @@ use Rattle.names.specs.Names.{name_ok, text_len}
 use Rattle.medium.specs.declared.Error.{Error}
 use Rattle.medium.specs.declared.Error.TheVariants.{Corrupt}
 use Rattle.medium.specs.declared.Medium.{Medium}
-use Rattle.medium.specs.declared.Outcome.{Outcome}
-use Rattle.medium.specs.declared.Outcome.TheVariants.{Done, No}
 use Rattle.medium.specs.Refusal.{on_done}
 use Rattle.handles.specs.declared.Store.{Store}
 use Rattle.handles.specs.Body.{due_of}
@@ -80,11 +79,11 @@ module _ (e : List ℕ) {zero : Bool} (all : zero ≡ all_zero e) where
             unfolding entry_of
             entry_file t = rw (number, len_read) (sym (pick_false _ _ (told all used) ∙ pick_true _ _ (ok t)))
 
-module _ (vol : List ℕ) (m : Medium) (st : Store) (i : ℕ) {o : Outcome} (due : o ≡ due_of vol m st (eqb (i % 8) 0) (i / 8)) where
-  pub sector_fails : {e : Error} → o ≡ No e → Refused e ≡ slot_at vol m st i
+module _ (vol : List ℕ) (m : Medium) (st : Store) (i : ℕ) {o : Result Unit Error} (due : o ≡ due_of vol m st (eqb (i % 8) 0) (i / 8)) where
+  pub sector_fails : {e : Error} → o ≡ Err e → Refused e ≡ slot_at vol m st i
   unfolding slot_at on_done
   sector_fails q = rw (told due q)
 
-  pub sector_passes : {x : Slot} → o ≡ Done → x ≡ entry_of (entry_at vol st i) → x ≡ slot_at vol m st i
+  pub sector_passes : {x : Slot} → o ≡ Ok tt → x ≡ entry_of (entry_at vol st i) → x ≡ slot_at vol m st i
   unfolding slot_at on_done
   sector_passes q e = rw (told due q) e

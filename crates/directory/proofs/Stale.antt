@@ -1,4 +1,5 @@
 -- A slot, find and the rows of a list never give 11. Assumes nothing.
+use Rattle.std.specs.Prelude.{Err}
 use mathlib.Core.Path.{◌≡◌, refl, subst}
 use mathlib.Core.List.{List}
 use Prim.Native.Nat.{ℕ, ◌/◌, ◌%◌}
@@ -6,7 +7,6 @@ use lib.Dec.{eqb}
 use Rattle.le.proofs.Choices.{pick_keeps}
 use Rattle.medium.specs.declared.Error.{Error}
 use Rattle.medium.specs.declared.Medium.{Medium}
-use Rattle.medium.specs.declared.Outcome.TheVariants.{No}
 use Rattle.medium.proofs.Laws.{on_done_keeps}
 use Rattle.medium.proofs.Stale.{NotStale, no_stale}
 use Rattle.handles.specs.declared.Store.{Store}
@@ -23,7 +23,7 @@ use Rattle.directory.proofs.Scans.{Left, scan_keeps}
 
 module _ (vol : List ℕ) (m : Medium) (st : Store) where
   abbrev Seen : Slot → Type 0
-  Seen (slot.Refused e) = NotStale (No e)
+  Seen (slot.Refused e) = NotStale (Err e)
   Seen slot.Free = Unit
   Seen (slot.File id len) = Unit
 
@@ -33,14 +33,14 @@ module _ (vol : List ℕ) (m : Medium) (st : Store) where
       on_done_keeps Seen (due_of vol m st (eqb (i % 8) 0) (i / 8)) _ _ (λ _. pick_keeps Seen _ _ _ tt (pick_keeps Seen _ _ _ tt refl))
       (λ e q. no_stale (due_not_stale vol m st (eqb (i % 8) 0) (i / 8)) q)
 
-  slot_refused : (i : ℕ) {e : Error} → slot_at vol m st i ≡ slot.Refused e → NotStale (No e)
+  slot_refused : (i : ℕ) {e : Error} → slot_at vol m st i ≡ slot.Refused e → NotStale (Err e)
   slot_refused i q = subst Seen q (seen i)
 
   abbrev Sought : Found → Type 0
-  Sought (found.Refused e) = NotStale (No e)
+  Sought (found.Refused e) = NotStale (Err e)
   Sought (found.At i id) = Unit
 
-  pub find_not_stale : (name : List ℕ) {e : Error} → find_of vol m st name ≡ found.Refused e → NotStale (No e)
+  pub find_not_stale : (name : List ℕ) {e : Error} → find_of vol m st name ≡ found.Refused e → NotStale (Err e)
   unfolding find_of
   find_not_stale name q =
       subst Sought q

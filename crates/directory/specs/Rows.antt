@@ -1,12 +1,12 @@
 -- 01, "Directory entry": `list` follows slot order and fills 48-byte rows: name, id, chunks. Rows made before a refusal stay. Assumes nothing.
+use Rattle.std.specs.Prelude.{Err, Ok, Result}
+use Rattle.medium.specs.declared.Error.{Error}
 use Rattle.std.specs.Prelude.{ℕ, ◌+◌, ◌-◌, ◌*◌, List, ◌++◌, length, get_or}
 use Rattle.le.specs.Choice.{pick}
 use Rattle.le.specs.Field.{le_bytes}
 use Rattle.le.specs.Part.{over, zeros}
 use Rattle.names.specs.Names.{in_dir}
 use Rattle.medium.specs.declared.Medium.{Medium}
-use Rattle.medium.specs.declared.Outcome.{Outcome}
-use Rattle.medium.specs.declared.Outcome.TheVariants.{Done, No}
 use Rattle.handles.specs.declared.Store.{Store}
 use Rattle.walk.specs.Walk.{next}
 use Rattle.directory.specs.declared.Rows.{Rows}
@@ -26,7 +26,7 @@ unfoldable pub row_made : List ℕ → ℕ → ℕ → Made → Made
 row_made name id chunks s = record { rows = over (48 * s.count) (row_of name id chunks) s.rows; count = s.count + 1 }
 
 pub record RowsOut : Type 0 where
-  pub outcome : Outcome
+  pub outcome : Result Unit Error
   pub made : Made
 
 -- the answer, beside what the lent rows hold
@@ -37,10 +37,10 @@ rows_told r rows = record { outcome = r.outcome; made = record { rows = rows; co
 abbrev pub listing : List ℕ → List ℕ → Visitor Made RowsOut
 listing dir counts =
     record {
-      refuse = λ e s. record { outcome = No e; made = s };
+      refuse = λ e s. record { outcome = Err e; made = s };
       free = λ i s. next s;
       file = λ i id n s. next (pick (in_dir dir n) (row_made n id (get_or counts i 0) s) s);
-      done = λ s. record { outcome = Done; made = s };
+      done = λ s. record { outcome = Ok tt; made = s };
     }
 
 unfoldable pub rows_of : List ℕ → Medium → Store → List ℕ → List ℕ → List ℕ → RowsOut

@@ -12,7 +12,7 @@ ghost use Rattle.directory.specs.Scan.{find_of, find_id_of, free_seen, file_seen
 ghost use Rattle.directory.specs.Rows.{row_of, rows_told, rows_of};
 
 use handles::Store;
-use medium::{Error, Medium, Outcome};
+use medium::{Error, Medium};
 
 // What a slot holds: the name of a file is the first `len` bytes of its entry.
 #[derive(Clone, Copy)]
@@ -71,7 +71,7 @@ pub fn slot_at(volume: &[u8], medium: Medium, store: Store, slot: usize) -> Slot
     ensures { result ≡ slot_at volume.now medium store slot }
 {
     let o = handles::due(store, volume, medium, slot % 8 == 0, slot / 8);
-    if let Outcome::No(e) = o {
+    if let Err(e) = o {
         return Slot::Refused(e);
     }
     let a = entry_place(store.copy, slot);
@@ -305,7 +305,7 @@ fn put_row(rows: &mut [u8], count: usize, name: &[u8], id: u32, chunks: u16)
 
 #[derive(Clone, Copy)]
 pub struct Rows {
-    pub outcome: Outcome,
+    pub outcome: Result<(), Error>,
     pub count: usize,
 }
 
@@ -330,7 +330,7 @@ pub fn list_rows(
         match s {
             Slot::Refused(e) => {
                 return Rows {
-                    outcome: Outcome::No(e),
+                    outcome: Err(e),
                     count,
                 };
             }
@@ -345,7 +345,7 @@ pub fn list_rows(
         }
     }
     Rows {
-        outcome: Outcome::Done,
+        outcome: Ok(()),
         count,
     }
 }

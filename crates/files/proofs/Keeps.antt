@@ -1,10 +1,10 @@
 -- What create keeps, accepted or refused: what a caller goes on with. Assumes nothing.
+use Rattle.std.specs.Prelude.{Err, Ok}
 use Rattle.std.proofs.Common.{◌≡◌, ℕ, zero, suc, ◌+◌, ◌-◌, ◌%◌, ◌^◌, ◌<◌, ◌≤◌, true, false, eqb, List, length, sym, refl, ap, zero-le, lit≤, le-leb}
 use Rattle.le.proofs.Choices.{pick_keeps, pick_keeps_by}
 use Rattle.medium.specs.declared.Error.{Error}
 use Rattle.medium.specs.declared.Error.TheVariants.{Corrupt, Exists, Full, Spent}
 use Rattle.medium.specs.declared.Medium.{Medium}
-use Rattle.medium.specs.declared.Outcome.TheVariants.{Done, No}
 use Rattle.medium.specs.Sector.{sectors_of}
 use Rattle.medium.proofs.Laws.{on_done_keeps, not_done}
 use Rattle.handles.specs.declared.Store.{Store}
@@ -102,11 +102,11 @@ pub record Created (vol : List ℕ) (m : Medium) (st : Store) (rollover : Rollov
   pub id : x.store.head.id ≡ st.head.id
   pub chunks : x.store.head.chunks ≡ st.head.chunks
   pub chunk : x.store.head.chunk ≡ st.head.chunk
-  pub token : x.outcome ≡ Done → x.medium.token ≡ next_token m
-  pub writer : x.outcome ≡ Done → x.store.writer ≡ Open (next_token m) x.appender.id
-  pub appender : x.outcome ≡ Done → (x.appender.token ≡ next_token m) × (x.appender.rolls ≡ rollover.rolls) × (x.appender.dir ≡ rollover.dir) × (x.appender.fill ≡ 0)
-  pub may : x.outcome ≡ Done → over_ok rollover ≡ true → may_write v x.store x.appender ≡ Done
-  pub refused : (e : Error) → x.outcome ≡ No e → (x.medium.token ≡ m.token) × (x.appender ≡ no_appender)
+  pub token : x.outcome ≡ Ok tt → x.medium.token ≡ next_token m
+  pub writer : x.outcome ≡ Ok tt → x.store.writer ≡ Open (next_token m) x.appender.id
+  pub appender : x.outcome ≡ Ok tt → (x.appender.token ≡ next_token m) × (x.appender.rolls ≡ rollover.rolls) × (x.appender.dir ≡ rollover.dir) × (x.appender.fill ≡ 0)
+  pub may : x.outcome ≡ Ok tt → over_ok rollover ≡ true → may_write v x.store x.appender ≡ Ok tt
+  pub refused : (e : Error) → x.outcome ≡ Err e → (x.medium.token ≡ m.token) × (x.appender ≡ no_appender)
 
 module _ (vol : List ℕ) (m : Medium) (st : Store) (rollover : Rollover) where
   no_keeps : (v : List ℕ) (n : Medium) (s : Store) (e : Error) → Stands vol m st v n s → Created vol m st rollover v (refusal e n s no_appender)

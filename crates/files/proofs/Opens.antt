@@ -1,8 +1,8 @@
 -- What a call that opens a file answers, over plain values, and that the calls of an appender take it. Assumes nothing.
+use Rattle.std.specs.Prelude.{Ok}
 use Rattle.std.proofs.Common.{◌≡◌, ℕ, ◌<◌, ◌≤◌, Bool, true, false, not, ◌&&◌, ◌||◌, leb, List, refl, ◌∙◌, lt-ltb, eq-eqb, ne_eqb, le-leb}
 use Rattle.le.proofs.Choices.{pick_true}
 use Rattle.medium.specs.declared.Medium.{Medium}
-use Rattle.medium.specs.declared.Outcome.TheVariants.{Done}
 use Rattle.medium.specs.Sector.{sectors_of}
 use Rattle.names.specs.Names.{dir_ok}
 use Rattle.handles.specs.declared.Store.{Store}
@@ -38,6 +38,6 @@ module _ (st : Store) (token slot id chunk position : ℕ) (tail : Tail) (rollov
   opened_ok = rw (lt-ltb _ _ hs, ne_eqb _ _ hi, lt-ltb _ _ hc, le-leb _ _ hp, ht) ho
 
   pub opened_may : (vol : List ℕ) → store_ok st (sectors_of vol) ≡ true → is_closed tail ≡ false
-      → may_write vol (written_by token id st) (new_appender token slot id chunk position tail rollover) ≡ Done
+      → may_write vol (written_by token id st) (new_appender token slot id chunk position tail rollover) ≡ Ok tt
   unfolding may_write store_ok
   opened_may vol ok h = pick_true _ _ (rw (ok, opened_ok) refl) ∙ pick_true _ _ (opened_live st token slot id chunk position tail rollover h)

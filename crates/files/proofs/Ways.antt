@@ -1,4 +1,5 @@
 -- What create gives, by the way that it goes: a law for each return, over plain values. Assumes nothing.
+use Rattle.std.specs.Prelude.{Err, Ok}
 use Rattle.std.proofs.Common.{◌≡◌, ℕ, ◌-◌, ◌^◌, true, false, List, [], sym, refl, ap, ◌∙◌, eq-eqb, ne_eqb}
 use mathlib.Core.Bool.{false≢true}
 use Rattle.le.specs.Choice.{pick}
@@ -6,7 +7,6 @@ use Rattle.le.proofs.Choices.{pick_true, pick_false}
 use Rattle.medium.specs.declared.Error.{Error}
 use Rattle.medium.specs.declared.Error.TheVariants.{Corrupt, Exists, Full, Spent}
 use Rattle.medium.specs.declared.Medium.{Medium}
-use Rattle.medium.specs.declared.Outcome.TheVariants.{Done, No}
 use Rattle.medium.specs.Refusal.{on_done}
 use Rattle.handles.specs.declared.Store.{Store}
 use Rattle.directory.specs.declared.Looked.{Looked}
@@ -59,11 +59,11 @@ module _ (name : List ℕ) (rollover : Rollover) (vol : List ℕ) (m : Medium) (
   make_spent q h = along (refl, h) (sym (pick_true _ _ (eq-eqb _ _ q)))
 
   module _ (q : st.head.next_id ≡ 2 ^ 32 - 1 → ⊥) {v : List ℕ} {c : Committed} (g : GivesC v c (commit_of (Create slot st.head.next_id chunk) name vol m st)) where
-    pub make_refused : {e : Error} {x : Handed} → c.outcome ≡ No e → x ≡ refusal e c.medium c.store no_appender → GivesA v x (make_out name rollover vol m st slot chunk)
+    pub make_refused : {e : Error} {x : Handed} → c.outcome ≡ Err e → x ≡ refusal e c.medium c.store no_appender → GivesA v x (make_out name rollover vol m st slot chunk)
     unfolding make_out pick on_done
     make_refused d h = rw (ne_eqb _ _ q, ← g.0, ← g.1, d, h) (refl, refl)
 
-    pub make_done : {x : Handed} → c.outcome ≡ Done → x ≡ (opened_out [] c.medium c.store slot st.head.next_id chunk 0 (At 0) rollover).ans
+    pub make_done : {x : Handed} → c.outcome ≡ Ok tt → x ≡ (opened_out [] c.medium c.store slot st.head.next_id chunk 0 (At 0) rollover).ans
         → GivesA v x (make_out name rollover vol m st slot chunk)
     unfolding make_out pick on_done opened_out
     make_done d h = rw (ne_eqb _ _ q, ← g.0, ← g.1, d, h) (refl, refl)
@@ -79,15 +79,15 @@ module _ (rollover : Rollover) (vol : List ℕ) (m : Medium) (st : Store) where
     gone : GivesG v g (remove_oldest_of vol m st (dir_bytes rollover.dir) false 0)
     gone = rw (← hd) h
 
-    pub roll_refused : {e : Error} {x : Handed} → g.outcome ≡ No e → x ≡ refusal e g.medium g.store no_appender → (next : Next) → GivesA v x (over_out rollover next vol m st)
+    pub roll_refused : {e : Error} {x : Handed} → g.outcome ≡ Err e → x ≡ refusal e g.medium g.store no_appender → (next : Next) → GivesA v x (over_out rollover next vol m st)
     unfolding over_out pick on_done
     roll_refused d e next = rw (t, ← gone.0, ← gone.1, d, e) (refl, refl)
 
-    pub roll_full : {x : Handed} → g.outcome ≡ Done → g.any ≡ false → x ≡ refusal Full g.medium g.store no_appender → (next : Next) → GivesA v x (over_out rollover next vol m st)
+    pub roll_full : {x : Handed} → g.outcome ≡ Ok tt → g.any ≡ false → x ≡ refusal Full g.medium g.store no_appender → (next : Next) → GivesA v x (over_out rollover next vol m st)
     unfolding over_out pick on_done
     roll_full d a e next = rw (t, ← gone.0, ← gone.1, d, a, e) (refl, refl)
 
-    pub roll_again : g.outcome ≡ Done → g.any ≡ true → (next : Next) → over_out rollover next vol m st ≡ after (rolling (remove_oldest_of vol m st (dir_bytes rollover.dir) false 0).skipped) (next v g.medium g.store)
+    pub roll_again : g.outcome ≡ Ok tt → g.any ≡ true → (next : Next) → over_out rollover next vol m st ≡ after (rolling (remove_oldest_of vol m st (dir_bytes rollover.dir) false 0).skipped) (next v g.medium g.store)
     unfolding over_out pick on_done
     roll_again d a next = rw (t, ← gone.0, ← gone.1, d, a) refl
 

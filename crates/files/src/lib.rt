@@ -2,7 +2,7 @@
 #![tactic(auto)]
 
 ghost use Rattle.std.specs.Prelude.{◌≡◌, ◌<◌, ◌≤◌, true, false, [], length};
-ghost use Rattle.medium.specs.declared.Outcome.TheVariants.{Done};
+ghost use Rattle.std.specs.Prelude.{Ok};
 ghost use Rattle.medium.specs.Sector.{sectors_of};
 ghost use Rattle.handles.specs.Handles.{store_ok};
 ghost use Rattle.append.specs.Appender.{no_appender};
@@ -12,7 +12,7 @@ ghost use Rattle.files.specs.Create.{Turned, make_out, over_out, round_out, crea
 use append::{Appender, Dir, Handed, Tail};
 use directory::Looked;
 use handles::{Store, Writer};
-use medium::{Error, Medium, Outcome};
+use medium::{Error, Medium};
 use plan::Edit;
 use table::Pick;
 
@@ -29,7 +29,7 @@ pub fn refused(e: Error, medium: Medium, store: Store) -> Handed
 {
     let appender = append::no_appender();
     Handed {
-        outcome: Outcome::No(e),
+        outcome: Err(e),
         medium,
         store,
         appender,
@@ -91,7 +91,7 @@ pub fn opened(
         dir,
     };
     Handed {
-        outcome: Outcome::Done,
+        outcome: Ok(()),
         medium: m,
         store: s,
         appender,
@@ -123,7 +123,7 @@ fn make(
     let o = c.outcome;
     let m = c.medium;
     let s = c.store;
-    if let Outcome::No(e) = o {
+    if let Err(e) = o {
         return refused(e, m, s);
     }
     opened(m, s, slot, id, chunk, 0, Tail::At(0), rollover)
@@ -146,13 +146,13 @@ fn ended(answer: Handed) -> Turn
 }
 
 fn rolled_over(medium: Medium, store: Store) -> Turn
-    ensures { result ≡ record { again = true; answer = record { outcome = Done; medium = medium; store = store; appender = no_appender } } }
+    ensures { result ≡ record { again = true; answer = record { outcome = Ok tt; medium = medium; store = store; appender = no_appender } } }
 {
     let appender = append::no_appender();
     Turn {
         again: true,
         answer: Handed {
-            outcome: Outcome::Done,
+            outcome: Ok(()),
             medium,
             store,
             appender,
@@ -175,7 +175,7 @@ fn roll(volume: &mut [u8], medium: Medium, store: Store, rollover: Rollover) -> 
     let o = g.outcome;
     let m = g.medium;
     let s = g.store;
-    if let Outcome::No(e) = o {
+    if let Err(e) = o {
         return ended(refused(e, m, s));
     }
     if !g.any {

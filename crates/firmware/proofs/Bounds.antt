@@ -1,10 +1,10 @@
 -- How large the answers are: 256 plus any of them fits 32 bits. Assumes nothing.
+use Rattle.std.specs.Prelude.{Ok}
 use mathlib.Core.Path.{◌≡◌, sym, ap, ◌∙◌}
 use mathlib.Core.List.{List}
 use Prim.Native.Nat.{ℕ, ◌≤◌}
 use lib.ListN.{length}
 use Rattle.medium.specs.declared.Medium.{Medium}
-use Rattle.medium.specs.declared.Outcome.TheVariants.{Done}
 use Rattle.medium.specs.Refusal.{outcome_of}
 use Rattle.medium.specs.Sector.{sectors_of}
 use Rattle.medium.proofs.Laws.{done_told}
@@ -22,16 +22,16 @@ use Rattle.store.proofs.Lists.{list_few}
 
 -- an accepted mount or format has 1 to 2,048 chunks
 module _ (vol : List ℕ) (m : Medium) {r : StoreAnswer} where
-  pub mount_few : store_answer r ≡ mount_call vol m → r.outcome ≡ Done → r.store.head.chunks ≤ 2048
+  pub mount_few : store_answer r ≡ mount_call vol m → r.outcome ≡ Ok tt → r.store.head.chunks ≤ 2048
   unfolding mount_call
   mount_few e d =
-      let o : (mount_of vol m).outcome ≡ Done = done_told _ (sym (ap (λ (c : StoreCall). c.answer) e) ∙ ap outcome_of d) in
+      let o : (mount_of vol m).outcome ≡ (Ok tt) = done_told _ (sym (ap (λ (c : StoreCall). c.answer) e) ∙ ap outcome_of d) in
       rw (ap (λ (c : StoreCall). c.store) e) (store_facts (mount_call vol m).store (sectors_of vol) (mounted_ok vol m o)).head.chunks_most
 
-  pub format_few : (size seed : ℕ) → store_answer r ≡ (format_call vol m size seed).call → r.outcome ≡ Done → r.store.head.chunks ≤ 2048
+  pub format_few : (size seed : ℕ) → store_answer r ≡ (format_call vol m size seed).call → r.outcome ≡ Ok tt → r.store.head.chunks ≤ 2048
   unfolding format_call
   format_few size seed e d =
-      let o : (format_of size seed vol m).ans.outcome ≡ Done = done_told _ (sym (ap (λ (c : StoreCall). c.answer) e) ∙ ap outcome_of d) in
+      let o : (format_of size seed vol m).ans.outcome ≡ (Ok tt) = done_told _ (sym (ap (λ (c : StoreCall). c.answer) e) ∙ ap outcome_of d) in
       rw (ap (λ (c : StoreCall). c.store) e) (store_facts (format_of size seed vol m).ans.store (sectors_of vol) (format_ok size seed vol m o)).head.chunks_most
 
 -- a list makes at most 64 rows, refused or not

@@ -1,4 +1,5 @@
 -- The C calls never give 11: each mounts, so that a store value is current, and nothing else of theirs gives it. Assumes nothing.
+use Rattle.std.specs.Prelude.{Ok}
 use mathlib.Core.Path.{◌≡◌, refl, ap, ◌∙◌}
 use mathlib.Core.List.{List}
 use Prim.Native.Nat.{ℕ}
@@ -9,7 +10,6 @@ use Rattle.le.specs.Part.{zeros}
 use Rattle.le.proofs.Choices.{pick_keeps}
 use Rattle.names.specs.Names.{name_ok, dir_ok}
 use Rattle.medium.specs.declared.Medium.{Medium}
-use Rattle.medium.specs.declared.Outcome.TheVariants.{Done}
 use Rattle.medium.specs.Refusal.{Answer, ok, refused, on_ok}
 use Rattle.medium.proofs.Laws.{done_told}
 use Rattle.header.specs.Copies.{mount_of}
@@ -27,7 +27,7 @@ module _ (vol : List ℕ) (m : Medium) where
   Right r = r.0 ≡ 11 → ⊥
 
   -- a call on the store mounted, or the number of a refused mount
-  mounted_never : (then : ℕ × List ℕ) (rest : List ℕ) → ((mount_of vol m).outcome ≡ Done → Right then)
+  mounted_never : (then : ℕ × List ℕ) (rest : List ℕ) → ((mount_of vol m).outcome ≡ Ok tt → Right then)
       → Right (on_ok (mount_call vol m).answer (λ _. then) (λ n. (n, rest)))
   unfolding mount_call on_ok
   mounted_never then rest h = go (mount_call vol m).answer refl

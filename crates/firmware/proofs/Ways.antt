@@ -1,4 +1,5 @@
 -- The calls, by the way that they go: a law for each return, over plain values. Assumes nothing.
+use Rattle.std.specs.Prelude.{Err, Ok}
 use mathlib.Core.Path.{◌≡◌}
 use mathlib.Core.Bool.{Bool, true, false, not}
 use mathlib.Core.List.{List}
@@ -11,7 +12,6 @@ use Rattle.names.specs.Names.{name_ok, dir_ok}
 use Rattle.medium.specs.declared.Error.{Error}
 use Rattle.medium.specs.declared.Error.TheVariants.{Name, Range}
 use Rattle.medium.specs.declared.Medium.{Medium}
-use Rattle.medium.specs.declared.Outcome.TheVariants.{Done, No}
 use Rattle.medium.specs.Refusal.{number_of, on_ok, outcome_of}
 use Rattle.header.specs.Copies.{mount_of}
 use Rattle.store.proofs.Mounts.{mounted_ok}
@@ -41,11 +41,11 @@ module _ (vol : List ℕ) (m : Medium) (name : List ℕ) {fine : Bool} (f : fine
   name_refused t q = rw (q, ← f, not-true fine t)
 
   module _ (t : not fine ≡ false) {n : Medium} (k : n ≡ m) (s : StoreAnswer) (g : store_answer s ≡ mount_call vol n) where
-    pub delete_unmounted : {e : Error} → s.outcome ≡ No e → {r : ℕ} → r ≡ number_of e → (r, vol) ≡ delete_host vol m name
+    pub delete_unmounted : {e : Error} → s.outcome ≡ Err e → {r : ℕ} → r ≡ number_of e → (r, vol) ≡ delete_host vol m name
     unfolding delete_host pick on_ok
     delete_unmounted o q = rw (q, ← f, not-false fine t, ← k, ← g, o)
 
-    pub delete_told_lem : s.outcome ≡ Done → (d : StoreAnswer) {v : List ℕ}
+    pub delete_told_lem : s.outcome ≡ Ok tt → (d : StoreAnswer) {v : List ℕ}
         → (v ≡ (delete_call vol s.medium s.store name).vol) × (store_answer d ≡ (delete_call vol s.medium s.store name).call)
         → {r : ℕ} → r ≡ code_of (giving (outcome_of d.outcome) 0) → (r, v) ≡ delete_host vol m name
     unfolding delete_host pick on_ok
@@ -64,17 +64,17 @@ module _ (vol : List ℕ) (m : Medium) (dir rows : List ℕ) where
     dir_refused t q = rw (q, le-ltb (length rows) 3072 long, ← f, not-true fine t)
 
     module _ (t : not fine ≡ false) {n : Medium} (k : n ≡ m) (s : StoreAnswer) (g : store_answer s ≡ mount_call vol n) where
-      pub list_unmounted : {e : Error} → s.outcome ≡ No e → {r : ℕ} → r ≡ number_of e → (r, rows) ≡ list_host vol m dir rows
+      pub list_unmounted : {e : Error} → s.outcome ≡ Err e → {r : ℕ} → r ≡ number_of e → (r, rows) ≡ list_host vol m dir rows
       unfolding list_host pick on_ok
       list_unmounted o q = rw (q, le-ltb (length rows) 3072 long, ← f, not-false fine t, ← k, ← g, o)
 
-      pub list_told_lem : s.outcome ≡ Done → (l : ListAnswer) {counts after : List ℕ}
+      pub list_told_lem : s.outcome ≡ Ok tt → (l : ListAnswer) {counts after : List ℕ}
           → list_answer l counts after ≡ list_call vol s.medium s.store dir (zeros 64) rows
           → {r : ℕ} → r ≡ code_of (giving (outcome_of l.outcome) l.count) → (r, after) ≡ list_host vol m dir rows
       unfolding list_host pick on_ok
       list_told_lem o l w q = rw (q, le-ltb (length rows) 3072 long, ← f, not-false fine t, ← k, ← g, o, ← w)
 
 -- the store of an accepted mount is never refused with 3: of the tests of the input, a name that passes leaves nothing to refuse
-pub mounted_asked : (vol : List ℕ) (m : Medium) → (mount_of vol m).outcome ≡ Done → asked_of vol (mount_call vol m).store true ≡ Done
+pub mounted_asked : (vol : List ℕ) (m : Medium) → (mount_of vol m).outcome ≡ Ok tt → asked_of vol (mount_call vol m).store true ≡ Ok tt
 unfolding asked_of pick
 mounted_asked vol m o = rw (mounted_ok vol m o)

@@ -3,11 +3,11 @@
 #![tactic(auto)]
 
 ghost use Rattle.std.specs.Prelude.{◌≡◌, ◌≤◌};
-ghost use Rattle.medium.specs.declared.Outcome.TheVariants.{Done};
+ghost use Rattle.std.specs.Prelude.{Ok};
 ghost use Rattle.medium.specs.Refusal.{outcome_of};
 ghost use Rattle.firmware.specs.Calls.{code_of, giving, medium_of, mount_host, format_host, delete_host, list_host};
 
-use medium::{Error, Medium, Outcome};
+use medium::{Error, Medium};
 
 // The medium record of a call; no appender is opened, so the token stays 0.
 fn medium_of(left: u32, unreadable: u64, entropy: u64) -> Medium
@@ -22,13 +22,13 @@ fn medium_of(left: u32, unreadable: u64, entropy: u64) -> Medium
 }
 
 // What a call returns at an outcome.
-fn code(o: Outcome, answer: u32) -> u32
-    requires { o ≡ Done → answer ≤ 2048 }
+fn code(o: Result<(), Error>, answer: u32) -> u32
+    requires { o ≡ Ok tt → answer ≤ 2048 }
     ensures { result ≡ code_of (giving (outcome_of o) answer) }
 {
     match o {
-        Outcome::Done => 256 + answer,
-        Outcome::No(e) => medium::number(e),
+        Ok(()) => 256 + answer,
+        Err(e) => medium::number(e),
     }
 }
 
@@ -77,7 +77,7 @@ pub extern "C" fn store_delete(
     }
     let m = store::mount(&volume[..], medium_of(left, unreadable, entropy));
     let o = m.outcome;
-    if let Outcome::No(e) = o {
+    if let Err(e) = o {
         return medium::number(e);
     }
     let d = store::delete(volume, m.medium, m.store, name);
@@ -106,7 +106,7 @@ pub extern "C" fn store_list(
     }
     let found = store::mount(volume, medium_of(left, unreadable, entropy));
     let o = found.outcome;
-    if let Outcome::No(e) = o {
+    if let Err(e) = o {
         return medium::number(e);
     }
     let mut counts = [0u16; 64];

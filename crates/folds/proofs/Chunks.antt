@@ -1,4 +1,5 @@
 -- The walks of the table by the layout: the free chunk, the chunk at a position of a file, the counts. Assumes nothing.
+use Rattle.std.specs.Prelude.{Ok}
 use Prim.Native.Nat.{ℕ, ◌+◌, ◌<◌, ◌≤◌}
 use mathlib.Core.Path.{◌≡◌, refl, sym, ap, ap₂, ◌∙◌, subst}
 use mathlib.Core.Logic.{◌≢◌}
@@ -17,7 +18,6 @@ use Rattle.le.proofs.Parts.{length_zeros, length_over, get_or_zeros}
 use Rattle.le.proofs.Bools.{and_true}
 use Rattle.le.proofs.Tallies.{tally_yes, tally_no, tally_start}
 use Rattle.medium.specs.declared.Medium.{Medium}
-use Rattle.medium.specs.declared.Outcome.TheVariants.{Done}
 use Rattle.handles.specs.declared.Store.{Store}
 use Rattle.handles.proofs.Laws.{Held}
 use Rattle.table.specs.declared.Link.{Link}
@@ -98,7 +98,7 @@ module _ (vol : List ℕ) (st : Store) (G : ℕ → List Segment) (good : Good (
 
 -- the counts hold the chunks of each slot
 pub record Counts (G : ℕ → List Segment) (size : ℕ) (r : Counted) : Type 0 where
-  pub outcome : r.outcome ≡ Done
+  pub outcome : r.outcome ≡ Ok tt
   pub same : length r.counts ≡ size
   pub number : (s : ℕ) → s < 64 → get_or r.counts s 0 ≡ length (G s)
 

@@ -1,4 +1,5 @@
 -- `list`: each row is a file of the directory, each file has a row, in slot order, and there are as many rows as files. Assumes nothing.
+use Rattle.std.specs.Prelude.{Ok}
 use Prim.Native.Nat.{ℕ, ◌+◌, ◌-◌, ◌*◌, ◌<◌, ◌≤◌}
 use mathlib.Core.Path.{◌≡◌, refl, sym, ap, ◌∙◌}
 use mathlib.Core.Bool.{Bool, true, false}
@@ -16,7 +17,6 @@ use Rattle.le.proofs.Tallies.{tally_yes, tally_no, tally_start}
 use Rattle.names.specs.Names.{name_ok, text_len, in_dir}
 use Rattle.names.proofs.Laws.{name_short, name_padded}
 use Rattle.medium.specs.declared.Medium.{Medium}
-use Rattle.medium.specs.declared.Outcome.TheVariants.{Done}
 use Rattle.handles.specs.declared.Store.{Store}
 use Rattle.directory.specs.Rows.{row_of, Made, row_made, listing, rows_of}
 use Rattle.directory.proofs.RowParts.{length_row}
@@ -149,11 +149,11 @@ module _ (vol : List ℕ) (m : Medium) (st : Store) (ok : Checked vol m st) (G :
   met_other n made name id q f p =
       skipped vol st dir counts (length rows) n made (rw (q, f)) (λ name' id' v t. true≢false (rw (same_name q v) t) f) p
 
-  pub rows_view : ((rows_of vol m st dir counts rows).outcome ≡ Done) × Rows vol st dir counts (length rows) 64 (rows_of vol m st dir counts rows).made
+  pub rows_view : ((rows_of vol m st dir counts rows).outcome ≡ Ok tt) × Rows vol st dir counts (length rows) 64 (rows_of vol m st dir counts rows).made
   unfolding rows_of
   rows_view =
       scan_views vol m st ok (listing dir counts) (Rows vol st dir counts (length rows))
-      (λ r. (r.outcome ≡ Done) × Rows vol st dir counts (length rows) 64 r.made) good.whole
+      (λ r. (r.outcome ≡ Ok tt) × Rows vol st dir counts (length rows) 64 r.made) good.whole
       (λ n made b p q. met_free n made q p)
       (λ n made name id b p q.
       pick_keeps_by (Rows vol st dir counts (length rows) (n + 1)) (in_dir dir name) _ _

@@ -1,5 +1,6 @@
 -- `list` whole, counts and rows: each row is a file of the directory with the number of its chunks, each such file has a row, there are as many
 -- rows as files, and no two rows are alike. Assumes nothing.
+use Rattle.std.specs.Prelude.{Ok}
 use Prim.Native.Nat.{ℕ, ◌*◌, ◌<◌, ◌≤◌}
 use mathlib.Core.Path.{◌≡◌, subst}
 use mathlib.Core.Bool.{true}
@@ -9,7 +10,6 @@ use Rattle.le.specs.Part.{part, over, zeros}
 use Rattle.le.specs.Tally.{tally}
 use Rattle.names.specs.Names.{in_dir}
 use Rattle.medium.specs.declared.Medium.{Medium}
-use Rattle.medium.specs.declared.Outcome.TheVariants.{Done}
 use Rattle.handles.specs.declared.Store.{Store}
 use Rattle.directory.specs.Rows.{row_of, RowsOut, rows_of}
 use Rattle.table.specs.Table.{Counted, count_of}
@@ -33,8 +33,8 @@ module _ (vol : List ℕ) (st : Store) (G : ℕ → List Segment) (dir : List �
     pub bytes : part (48 * k) 48 rows ≡ row_of name id (length (G slot))
 
   pub record Listing (c : Counted) (r : RowsOut) : Type 0 where
-    pub counted : c.outcome ≡ Done
-    pub made : r.outcome ≡ Done
+    pub counted : c.outcome ≡ Ok tt
+    pub made : r.outcome ≡ Ok tt
     pub each : (k : ℕ) → k < r.made.count → FileRow r.made.rows k
     pub every : (s : ℕ) (name : List ℕ) (id : ℕ) → s < 64 → (disk_of vol st).entry s ≡ named name id → in_dir dir name ≡ true
         → (k : ℕ) × (k < r.made.count) × (part (48 * k) 48 r.made.rows ≡ row_of name id (length (G s)))

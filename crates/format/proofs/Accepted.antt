@@ -1,4 +1,5 @@
 -- What an accepted format hands out: a store that passes refusal 3 and whose header a sector can hold. Assumes nothing.
+use Rattle.std.specs.Prelude.{Ok}
 use mathlib.Core.Path.{◌≡◌, refl, ap}
 use mathlib.Core.Bool.{true, ◌&&◌}
 use mathlib.Core.List.{List}
@@ -9,7 +10,6 @@ use lib.Dec.{eqb, leb}
 use Rattle.le.proofs.Choices.{pick_keeps_by}
 use Rattle.le.proofs.Bools.{and_true}
 use Rattle.medium.specs.declared.Medium.{Medium}
-use Rattle.medium.specs.declared.Outcome.TheVariants.{Done}
 use Rattle.medium.specs.Sector.{sectors_of, WriteOut, write_of}
 use Rattle.medium.proofs.Laws.{on_done_keeps, not_done}
 use Rattle.le.specs.Choice.{pick}
@@ -35,7 +35,7 @@ use Rattle.format.proofs.Writes.{zeroed_from, zero_head}
 abbrev pub store_for : ℕ → Header → Store
 store_for copy h = record { copy = copy; head = h; writer = Nobody; free = full_of h.chunks }
 
-pub made_store : (copy : ℕ) (h : Header) → Zeroed h → (vol : List ℕ) (m : Medium) → (made_of copy h vol m).ans.outcome ≡ Done → (made_of copy h vol m).ans.store ≡ store_for copy h
+pub made_store : (copy : ℕ) (h : Header) → Zeroed h → (vol : List ℕ) (m : Medium) → (made_of copy h vol m).ans.outcome ≡ Ok tt → (made_of copy h vol m).ans.store ≡ store_for copy h
 unfolding copy_out last_of map_after mark_after is_format pick format_plan no_store
 made_store copy h sums vol m =
     let z : WriteOut = write_of vol m (base_of copy) (unmarked_of h) in
@@ -48,14 +48,14 @@ made_store copy h sums vol m =
     (λ e _. not_done)
   where
     Right : Out → Type 0
-    Right o = o.ans.outcome ≡ Done → o.ans.store ≡ store_for copy h
+    Right o = o.ans.outcome ≡ Ok tt → o.ans.store ≡ store_for copy h
 
     with_map : Header → Store
     with_map x = record { copy = copy; head = x; writer = Nobody; free = full_of h.chunks }
 
 -- what the tests on the way say
 pub record Made (size seed : ℕ) (vol : List ℕ) (m : Medium) (st : Store) : Type 0 where
-  pub headers : (headers_of vol m).outcome ≡ Done
+  pub headers : (headers_of vol m).outcome ≡ Ok tt
   pub size_least : 1 ≤ size
   pub size_most : size ≤ 512
   pub some : chunks_of (sectors_of vol) size ≡ 0 → ⊥
@@ -64,9 +64,9 @@ pub record Made (size seed : ℕ) (vol : List ℕ) (m : Medium) (st : Store) : T
 
 module _ (size seed : ℕ) (vol : List ℕ) (m : Medium) where
   abbrev Right : Out → Type 0
-  Right o = o.ans.outcome ≡ Done → Made size seed vol m o.ans.store
+  Right o = o.ans.outcome ≡ Ok tt → Made size seed vol m o.ans.store
 
-  pub format_made : (format_of size seed vol m).ans.outcome ≡ Done → Made size seed vol m (format_of size seed vol m).ans.store
+  pub format_made : (format_of size seed vol m).ans.outcome ≡ Ok tt → Made size seed vol m (format_of size seed vol m).ans.store
   unfolding format_of format_over
   format_made =
       let c : Copies = headers_of vol m in
@@ -92,7 +92,7 @@ module _ (size seed : ℕ) (vol : List ℕ) (m : Medium) where
 abbrev pub store_after : ℕ → ℕ → List ℕ → Medium → Store
 store_after size seed vol m = (format_of size seed vol m).ans.store
 
-module _ (size seed : ℕ) (vol : List ℕ) (m : Medium) (accepted : (format_of size seed vol m).ans.outcome ≡ Done) where
+module _ (size seed : ℕ) (vol : List ℕ) (m : Medium) (accepted : (format_of size seed vol m).ans.outcome ≡ Ok tt) where
   facts : Made size seed vol m (store_after size seed vol m)
   facts = format_made size seed vol m accepted
 

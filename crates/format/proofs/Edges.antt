@@ -1,4 +1,5 @@
 -- The starred edges of 01 that format decides. Assumes nothing.
+use Rattle.std.specs.Prelude.{Ok}
 use mathlib.Core.Path.{◌≡◌, refl, ap, ◌∙◌}
 use mathlib.Core.List.{List}
 use Prim.Native.Nat.{ℕ, ◌-◌, ◌^◌, ◌≤◌}
@@ -7,7 +8,6 @@ use lib.Dec.{lit≤}
 use Rattle.le.specs.Choice.{pick}
 use Rattle.medium.specs.declared.Error.TheVariants.{Range}
 use Rattle.medium.specs.declared.Medium.{Medium}
-use Rattle.medium.specs.declared.Outcome.TheVariants.{Done}
 use Rattle.medium.specs.Refusal.{refused, outcome_of}
 use Rattle.medium.specs.Sector.{sectors_of}
 use Rattle.handles.specs.declared.Store.{Store}
@@ -28,7 +28,7 @@ unfolding chunks_of
 chunks_576 = refl
 
 -- whatever the volume holds, as long as both headers are accepted
-module _ (seed : ℕ) (vol : List ℕ) (m : Medium) (headers : (headers_of vol m).outcome ≡ Done) where
+module _ (seed : ℕ) (vol : List ℕ) (m : Medium) (headers : (headers_of vol m).outcome ≡ Ok tt) where
   pub none_575 : sectors_of vol ≡ 575 → (format_of 512 seed vol m ≡ refused_out no_store vol m Range) × (outcome_of (format_of 512 seed vol m).ans.outcome ≡ refused 2)
   unfolding format_over pick
   none_575 s =
@@ -37,7 +37,7 @@ module _ (seed : ℕ) (vol : List ℕ) (m : Medium) (headers : (headers_of vol m
 
   -- with the 11 writes of a body of 9 sectors left, and another generation to give
   pub one_576 : sectors_of vol ≡ 576 → (newest_of (headers_of vol m) ≡ 2 ^ 64 - 1 → ⊥) → 11 ≤ m.left
-      → ((format_of 512 seed vol m).ans.outcome ≡ Done) × ((format_of 512 seed vol m).ans.store.head.chunks ≡ 1)
+      → ((format_of 512 seed vol m).ans.outcome ≡ Ok tt) × ((format_of 512 seed vol m).ans.store.head.chunks ≡ 1)
   unfolding format_head
   one_576 s less l =
       let n : chunks_of (sectors_of vol) 512 ≡ 1 = rw s chunks_576 in

@@ -1,4 +1,5 @@
 -- A format that passes its tests is done where enough writes are left: one for each body sector and two for the header. Assumes nothing.
+use Rattle.std.specs.Prelude.{Ok}
 use mathlib.Core.Path.{◌≡◌, refl, ap, ◌∙◌}
 use mathlib.Core.List.{List}
 use Prim.Native.Nat.{ℕ, zero, suc, ◌+◌, ◌-◌, ◌^◌, ◌≤◌}
@@ -7,7 +8,6 @@ use borrow.Author.Tests.{le-leb, ne_eqb}
 use Rattle.le.specs.Choice.{pick}
 use Rattle.le.specs.Part.{zeros}
 use Rattle.medium.specs.declared.Medium.{Medium}
-use Rattle.medium.specs.declared.Outcome.TheVariants.{Done}
 use Rattle.medium.specs.Sector.{sectors_of, spend_of, WriteOut, write_of}
 use Rattle.medium.proofs.Laws.{on_done_done}
 use Rattle.handles.specs.declared.Header.{Header}
@@ -22,13 +22,13 @@ use Rattle.format.proofs.Writes.{zeroed_from, zero_write, zero_more}
 
 -- a write, after which r are left
 write_done : (vol : List ℕ) (m : Medium) (k : ℕ) (bytes : List ℕ) {r : ℕ} → suc r ≤ m.left
-    → ((write_of vol m k bytes).ans.outcome ≡ Done) × (r ≤ (write_of vol m k bytes).ans.medium.left)
+    → ((write_of vol m k bytes).ans.outcome ≡ Ok tt) × (r ≤ (write_of vol m k bytes).ans.medium.left)
 unfolding write_of spend_of pick
 write_done vol m k bytes h = let z = ne_eqb m.left 0 (λ e. omega arith) in rw z (refl, omega arith)
 
 module _ (copy : ℕ) (h : Header) (sums : Zeroed h) where
   zero_done : (n k r : ℕ) (vol : List ℕ) (m : Medium) → k + n ≤ body_of h.chunks → n + r ≤ m.left
-      → ((zeroed_from copy h n k vol m).ans.outcome ≡ Done) × (r ≤ (zeroed_from copy h n k vol m).ans.medium.left)
+      → ((zeroed_from copy h n k vol m).ans.outcome ≡ Ok tt) × (r ≤ (zeroed_from copy h n k vol m).ans.medium.left)
   unfolding body_from
   zero_done zero k r vol m i l = (refl, omega arith)
   zero_done (suc n) k r vol m i l =
@@ -37,7 +37,7 @@ module _ (copy : ℕ) (h : Header) (sums : Zeroed h) where
       rw (zero_more copy h sums n k vol m (omega arith), on_done_done (zeroed_from copy h n (k + 1) w.vol w.ans.medium) _ s.0)
       (zero_done n (k + 1) r w.vol w.ans.medium (omega arith) s.1)
 
-  pub made_done : (vol : List ℕ) (m : Medium) → body_of h.chunks + 2 ≤ m.left → (made_of copy h vol m).ans.outcome ≡ Done
+  pub made_done : (vol : List ℕ) (m : Medium) → body_of h.chunks + 2 ≤ m.left → (made_of copy h vol m).ans.outcome ≡ Ok tt
   unfolding copy_out last_of format_plan
   made_done vol m l =
       let n : ℕ = body_of h.chunks in
@@ -50,7 +50,7 @@ module _ (copy : ℕ) (h : Header) (sums : Zeroed h) where
       ap (λ (o : Out). o.ans.outcome) (on_done_done _ _ s₁.0 ∙ on_done_done _ _ s₂.0 ∙ on_done_done _ _ s₃.0)
 
 -- what the tests let through
-module _ (size seed : ℕ) (vol : List ℕ) (m : Medium) (headers : (headers_of vol m).outcome ≡ Done) (least : 1 ≤ size) (most : size ≤ 512) where
+module _ (size seed : ℕ) (vol : List ℕ) (m : Medium) (headers : (headers_of vol m).outcome ≡ Ok tt) (least : 1 ≤ size) (most : size ≤ 512) where
   pub format_over_lem : format_of size seed vol m ≡ format_over (headers_of vol m) size seed vol m
   unfolding format_of pick
   format_over_lem =
@@ -63,7 +63,7 @@ module _ (size seed : ℕ) (vol : List ℕ) (m : Medium) (headers : (headers_of 
   format_is some less = rw (format_over_lem, ne_eqb (chunks_of (sectors_of vol) size) 0 some, ne_eqb (newest_of (headers_of vol m)) (2 ^ 64 - 1) less)
 
   pub format_done : (chunks_of (sectors_of vol) size ≡ 0 → ⊥) → (newest_of (headers_of vol m) ≡ 2 ^ 64 - 1 → ⊥) → body_of (chunks_of (sectors_of vol) size) + 2 ≤ m.left
-      → (format_of size seed vol m).ans.outcome ≡ Done
+      → (format_of size seed vol m).ans.outcome ≡ Ok tt
   unfolding format_head
   format_done some less l =
       let c : Copies = headers_of vol m in

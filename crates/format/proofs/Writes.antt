@@ -1,4 +1,5 @@
 -- The writes of a format: the zeroed body, a turn at a time, and the ways through the three parts. Assumes nothing.
+use Rattle.std.specs.Prelude.{Err, Ok}
 use mathlib.Core.Path.{◌≡◌, refl, sym, ap, ◌∙◌}
 use mathlib.Core.List.{List, []}
 use Prim.Native.Nat.{ℕ, zero, suc, ◌+◌, ◌-◌, ◌≤◌, ◌<◌}
@@ -11,7 +12,6 @@ use Rattle.le.specs.Part.{zeros}
 use Rattle.checksum.specs.Crc.{crc32_of}
 use Rattle.medium.specs.declared.Error.{Error}
 use Rattle.medium.specs.declared.Medium.{Medium}
-use Rattle.medium.specs.declared.Outcome.TheVariants.{Done, No}
 use Rattle.medium.specs.declared.Written.{Written}
 use Rattle.medium.specs.Refusal.{on_done}
 use Rattle.medium.specs.Sector.{WriteOut, write_of}
@@ -68,16 +68,16 @@ module _ (copy : ℕ) (h : Header) (sums : Zeroed h) where
         let n : b - k ≡ suc (b - (k + 1)) = omega arith in
         rw (ev, ew, es) (sym (zero_more (b - (k + 1)) k vol m (rw eb at i)) ∙ rw n at inv)
 
-    pub zero_turn : w.outcome ≡ Done → zeroed_from copy h (b - (k + 1)) (k + 1) vol' w.medium ≡ o
+    pub zero_turn : w.outcome ≡ Ok tt → zeroed_from copy h (b - (k + 1)) (k + 1) vol' w.medium ≡ o
     unfolding on_done
     zero_turn q = rw q at turn
 
-    pub zero_stop : {e : Error} → w.outcome ≡ No e → (vol' ≡ o.vol) × (record { outcome = No e; medium = w.medium; head = h } ≡ o.ans)
+    pub zero_stop : {e : Error} → w.outcome ≡ Err e → (vol' ≡ o.vol) × (record { outcome = Err e; medium = w.medium; head = h } ≡ o.ans)
     unfolding on_done
     zero_stop q = let t = rw q at turn in (ap (λ (x : BodyOut). x.vol) t, ap (λ (x : BodyOut). x.ans) t)
 
   pub zero_end : (vol : List ℕ) (m : Medium) {b k : ℕ} {o : BodyOut} → b ≤ k → zeroed_from copy h (b - k) k vol m ≡ o
-      → (vol ≡ o.vol) × (record { outcome = Done; medium = m; head = h } ≡ o.ans)
+      → (vol ≡ o.vol) × (record { outcome = Ok tt; medium = m; head = h } ≡ o.ans)
   unfolding body_from
   zero_end vol m {b} {k} g inv = let n : b - k ≡ 0 = omega arith in let t = rw n at inv in (ap (λ (x : BodyOut). x.vol) t, ap (λ (x : BodyOut). x.ans) t)
 
@@ -93,26 +93,26 @@ module _ (copy : ℕ) (h : Header) (sums : Zeroed h) where
 
 module _ (copy : ℕ) (h : Header) (vol : List ℕ) (m : Medium) {v : List ℕ} {z : Written}
     (ev : v ≡ (write_of vol m (base_of copy) (unmarked_of h)).vol) (ez : z ≡ (write_of vol m (base_of copy) (unmarked_of h)).ans) where
-  pub first_refused : {e : Error} {r : Committed} → z.outcome ≡ No e → r ≡ (refused_out no_store [] z.medium e).ans → (v ≡ (made_of copy h vol m).vol) × (r ≡ (made_of copy h vol m).ans)
+  pub first_refused : {e : Error} {r : Committed} → z.outcome ≡ Err e → r ≡ (refused_out no_store [] z.medium e).ans → (v ≡ (made_of copy h vol m).vol) × (r ≡ (made_of copy h vol m).ans)
   unfolding copy_out format_plan on_done
   first_refused q er = rw (← ez, q) (ev, er)
 
-  module _ (sums : Zeroed h) (qz : z.outcome ≡ Done) {v₁ : List ℕ} {b : BodyWritten}
+  module _ (sums : Zeroed h) (qz : z.outcome ≡ Ok tt) {v₁ : List ℕ} {b : BodyWritten}
       (ev₁ : v₁ ≡ (zeroed_from copy h (body_of h.chunks) 0 v z.medium).vol) (eb : b ≡ (zeroed_from copy h (body_of h.chunks) 0 v z.medium).ans) where
-    pub body_refused : {e : Error} {r : Committed} → b.outcome ≡ No e → r ≡ (refused_out no_store [] b.medium e).ans → (v₁ ≡ (made_of copy h vol m).vol) × (r ≡ (made_of copy h vol m).ans)
+    pub body_refused : {e : Error} {r : Committed} → b.outcome ≡ Err e → r ≡ (refused_out no_store [] b.medium e).ans → (v₁ ≡ (made_of copy h vol m).vol) × (r ≡ (made_of copy h vol m).ans)
     unfolding copy_out format_plan on_done
     body_refused q er = rw (← ez, ← ev, qz, ← eb, q) (ev₁, er)
 
-    module _ (qb : b.outcome ≡ Done) {v₂ : List ℕ} {w : Written}
+    module _ (qb : b.outcome ≡ Ok tt) {v₂ : List ℕ} {w : Written}
         (ev₂ : v₂ ≡ (write_of v₁ b.medium (base_of copy) (encode_of h)).vol) (ew : w ≡ (write_of v₁ b.medium (base_of copy) (encode_of h)).ans) where
       kept : b.head ≡ h
       kept = rw eb (zero_head copy h sums (body_of h.chunks) 0 v z.medium (omega arith))
 
-      pub last_refused : {e : Error} {r : Committed} → w.outcome ≡ No e → r ≡ (refused_out no_store [] w.medium e).ans → (v₂ ≡ (made_of copy h vol m).vol) × (r ≡ (made_of copy h vol m).ans)
+      pub last_refused : {e : Error} {r : Committed} → w.outcome ≡ Err e → r ≡ (refused_out no_store [] w.medium e).ans → (v₂ ≡ (made_of copy h vol m).vol) × (r ≡ (made_of copy h vol m).ans)
       unfolding copy_out last_of format_plan on_done
       last_refused q er = rw (← ez, ← ev, qz, ← eb, qb, ← ev₁, kept, ← ew, q) (ev₂, er)
 
-      pub made : {f : FreeMap} → f ≡ full_of h.chunks → w.outcome ≡ Done
-          → (v₂ ≡ (made_of copy h vol m).vol) × (record { outcome = Done; medium = w.medium; store = record { copy = copy; head = h; writer = Nobody; free = f } } ≡ (made_of copy h vol m).ans)
+      pub made : {f : FreeMap} → f ≡ full_of h.chunks → w.outcome ≡ Ok tt
+          → (v₂ ≡ (made_of copy h vol m).vol) × (record { outcome = Ok tt; medium = w.medium; store = record { copy = copy; head = h; writer = Nobody; free = f } } ≡ (made_of copy h vol m).ans)
       unfolding copy_out last_of map_after mark_after format_plan no_store is_format pick on_done
       made e q = rw (e, ← ez, ← ev, qz, ← eb, qb, ← ev₁, kept, ← ew, q) (ev₂, refl)

@@ -10,7 +10,7 @@ ghost use Rattle.format.specs.Format.{format_plan, made_of, format_over, format_
 
 use handles::{Header, Store, Writer};
 use header::Copies;
-use medium::{Error, Medium, Outcome};
+use medium::{Error, Medium};
 use plan::{BodyWritten, Committed};
 
 // The checksum of a sector of zeros: checksum Vector `zeros_value`.
@@ -141,16 +141,16 @@ fn zero_body(volume: &mut [u8], medium: Medium, copy: u64, head: Header) -> Body
         let w = medium::zero_sector(volume, m, first + (k as u64));
         m = w.medium;
         let o = w.outcome;
-        if let Outcome::No(e) = o {
+        if let Err(e) = o {
             return BodyWritten {
-                outcome: Outcome::No(e),
+                outcome: Err(e),
                 medium: m,
                 head,
             };
         }
     }
     BodyWritten {
-        outcome: Outcome::Done,
+        outcome: Ok(()),
         medium: m,
         head,
     }
@@ -161,7 +161,7 @@ fn refused(medium: Medium, e: Error) -> Committed
 {
     let store = handles::no_store();
     Committed {
-        outcome: Outcome::No(e),
+        outcome: Err(e),
         medium,
         store,
     }
@@ -175,17 +175,17 @@ fn make(volume: &mut [u8], medium: Medium, copy: u64, head: Header) -> Committed
 {
     let z = header::write_unmarked(volume, medium, copy, head);
     let first = z.outcome;
-    if let Outcome::No(e) = first {
+    if let Err(e) = first {
         return refused(z.medium, e);
     }
     let b = zero_body(volume, z.medium, copy, head);
     let zeroed = b.outcome;
-    if let Outcome::No(e) = zeroed {
+    if let Err(e) = zeroed {
         return refused(b.medium, e);
     }
     let w = header::write_head(volume, b.medium, copy, head);
     let last = w.outcome;
-    if let Outcome::No(e) = last {
+    if let Err(e) = last {
         return refused(w.medium, e);
     }
     let free = freemap::full(head.chunks);
@@ -197,7 +197,7 @@ fn make(volume: &mut [u8], medium: Medium, copy: u64, head: Header) -> Committed
     };
     let after = w.medium;
     Committed {
-        outcome: Outcome::Done,
+        outcome: Ok(()),
         medium: after,
         store,
     }
@@ -231,7 +231,7 @@ pub fn format(volume: &mut [u8], medium: Medium, size: u32, seed: u64) -> Commit
     }
     let c = header::headers(volume, medium);
     let o = c.outcome;
-    if let Outcome::No(e) = o {
+    if let Err(e) = o {
         return refused(medium, e);
     }
     format_over(volume, medium, c, size, seed)

@@ -1,4 +1,6 @@
 -- The places of the two copies, and what a store value that passes refusal 3 tells. Assumes nothing.
+use Rattle.std.specs.Prelude.{Ok, Result}
+use Rattle.medium.specs.declared.Error.{Error}
 use mathlib.Core.Path.{◌≡◌, refl}
 use mathlib.Core.Bool.{Bool, true}
 use mathlib.Core.List.{List}
@@ -11,8 +13,6 @@ use Rattle.le.proofs.Choices.{pick_keeps}
 use Rattle.le.proofs.Bools.{and_true}
 use Rattle.freemap.specs.Map.{map_ok}
 use Rattle.medium.specs.declared.Medium.{Medium}
-use Rattle.medium.specs.declared.Outcome.{Outcome}
-use Rattle.medium.specs.declared.Outcome.TheVariants.{Done}
 use Rattle.medium.specs.Sector.{read_of}
 use Rattle.medium.proofs.Laws.{on_done_keeps}
 use Rattle.medium.proofs.Stale.{NotStale, no_stale, read_not_stale}
@@ -89,9 +89,9 @@ unfolding store_ok
 store_ok_lem st sectors c s m = rw (lt-ltb st.copy 2 c, s, m)
 
 -- a sector that passes its check passes where a walk enters it and where it does not
-pub due_done : (vol : List ℕ) (m : Medium) (st : Store) (enters : Bool) (k : ℕ) → check_of vol m st k ≡ Done → due_of vol m st enters k ≡ Done
+pub due_done : (vol : List ℕ) (m : Medium) (st : Store) (enters : Bool) (k : ℕ) → check_of vol m st k ≡ Ok tt → due_of vol m st enters k ≡ Ok tt
 unfolding due_of
-due_done vol m st enters k e = pick_keeps (λ (o : Outcome). o ≡ Done) enters _ _ e refl
+due_done vol m st enters k e = pick_keeps (λ (o : Result Unit Error). o ≡ Ok tt) enters _ _ e refl
 
 -- the check of a sector never gives 11
 pub check_not_stale : (vol : List ℕ) (m : Medium) (st : Store) (k : ℕ) → NotStale (check_of vol m st k)

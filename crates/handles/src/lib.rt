@@ -7,7 +7,7 @@ ghost use Rattle.handles.specs.Handles.{blank_of, no_store, table_of, body_of, b
 ghost use Rattle.handles.specs.Body.{check_of, due_of};
 
 use freemap::FreeMap;
-use medium::{Error, Medium, Outcome};
+use medium::{Error, Medium};
 
 // One copy's header: store id, generation, next file id, allocation cursor, chunks, sectors per chunk, and one checksum for each body sector.
 #[derive(Clone, Copy)]
@@ -160,31 +160,31 @@ impl Store {
 }
 
 // Whether body sector `k` reads and passes its checksum.
-pub fn check(store: Store, volume: &[u8], medium: Medium, k: usize) -> Outcome
+pub fn check(store: Store, volume: &[u8], medium: Medium, k: usize) -> Result<(), Error>
     requires { (64 ≤ sectors_of volume.now) × (k < 24) }
     ensures { result ≡ check_of volume.now medium store k }
 {
     let at = base(store.copy) + 1 + (k as u64);
     let o = medium::readable(medium, at);
-    if let Outcome::No(e) = o {
-        return Outcome::No(e);
+    if let Err(e) = o {
+        return Err(e);
     }
     let a = 512 * (at as usize);
     let h = store.head;
     let c = checksum::crc32(&volume[a..a + 512]);
     if c == h.crcs[k] {
-        return Outcome::Done;
+        return Ok(());
     }
-    Outcome::No(Error::Corrupt)
+    Err(Error::Corrupt)
 }
 
 // The check of body sector `k` where a walk enters it.
-pub fn due(store: Store, volume: &[u8], medium: Medium, enters: bool, k: usize) -> Outcome
+pub fn due(store: Store, volume: &[u8], medium: Medium, enters: bool, k: usize) -> Result<(), Error>
     requires { (64 ≤ sectors_of volume.now) × (k < 24) }
     ensures { result ≡ due_of volume.now medium store enters k }
 {
     if enters {
         return check(store, volume, medium, k);
     }
-    Outcome::Done
+    Ok(())
 }

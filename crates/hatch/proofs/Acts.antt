@@ -1,5 +1,7 @@
 -- An act counts as the calls that it makes: a setting leaves the world that its calls leave, and is accepted exactly if all three are; the acts that only
 -- read leave the world as it was. So demand 3 holds of acts. Assumes nothing.
+use Rattle.std.specs.Prelude.{Err, Ok, Result}
+use Rattle.medium.specs.declared.Error.{Error}
 use Prim.Native.Nat.{ℕ}
 use mathlib.Core.Path.{◌≡◌, refl, ap, sym, subst, ◌∙◌}
 use mathlib.Core.Logic.{◌↔◌}
@@ -12,8 +14,6 @@ use Rattle.runs.specs.Split.{longer, split_at}
 use Rattle.names.specs.Names.{begins_dot, some_dot, dotted}
 use Rattle.marks.specs.Line.{marks_name, line_of}
 use Rattle.medium.specs.declared.Medium.{Medium}
-use Rattle.medium.specs.declared.Outcome.{Outcome}
-use Rattle.medium.specs.declared.Outcome.TheVariants.{Done, No}
 use Rattle.medium.specs.Refusal.{Answer, ok, refused, number_of, on_done, on_ok}
 use Rattle.medium.proofs.Laws.{on_done_keeps, on_ok_keeps}
 use Rattle.handles.specs.declared.Store.{Store}
@@ -178,7 +178,7 @@ module _ (P : World → Bool → List Call → Type 0) where
 
 -- what it has found when it comes to open `MARKS`
 pub record Found (w : World) (point name : List ℕ) (fresh : Bool) (e : ℕ × ℕ) : Type 0 where
-  pub asked : asked_point (asked_name w.vol w.store name) point ≡ Done
+  pub asked : asked_point (asked_name w.vol w.store name) point ≡ Ok tt
   pub looked : look_of w.vol w.medium w.store point ≡ ok (pick fresh absent unset)
   pub ended : end_of w.vol w.medium w.store name ≡ ok e
 
@@ -193,7 +193,7 @@ module _ (w : World) (point name : List ℕ) (P : World → Bool → List Call �
     unfolding pick
     not_set_lem n = none
 
-    module _ (q : asked_point (asked_name w.vol w.store name) point ≡ Done) where
+    module _ (q : asked_point (asked_name w.vol w.store name) point ≡ Ok tt) where
       from_end_lem : (fresh : Bool) → look_of w.vol w.medium w.store point ≡ ok (pick fresh absent unset)
           → By (set_from fresh w.vol w.medium w.store point name) (from_end fresh w point name)
       unfolding set_from from_end on_ok
@@ -211,10 +211,10 @@ module _ (w : World) (point name : List ℕ) (P : World → Bool → List Call �
       looked_ways (ok (line id n)) r = rw (q, r) (not_set_lem 14)
       looked_ways (refused n) r = rw (q, r) (not_set_lem n)
 
-    asked_ways : (o : Outcome) → asked_point (asked_name w.vol w.store name) point ≡ o → By (set_in w point name) (setting_calls w point name)
+    asked_ways : (o : Result Unit Error) → asked_point (asked_name w.vol w.store name) point ≡ o → By (set_in w point name) (setting_calls w point name)
     unfolding set_call setting_calls on_done
-    asked_ways Done q = looked_ways q (look_of w.vol w.medium w.store point) refl
-    asked_ways (No e) q = rw q (not_set_lem (number_of e))
+    asked_ways (Ok tt) q = looked_ways q (look_of w.vol w.medium w.store point) refl
+    asked_ways (Err e) q = rw q (not_set_lem (number_of e))
 
     pub set_ways : By (set_in w point name) (setting_calls w point name)
     set_ways = asked_ways (asked_point (asked_name w.vol w.store name) point) refl

@@ -1,5 +1,6 @@
 -- S-1: the lines of points with different names: of each name the first that says something is its own. So in a store that the points are remembered of
 -- reading gives what each remembers. Assumes nothing.
+use Rattle.std.specs.Prelude.{Ok}
 use Prim.Native.Nat.{ℕ, ◌<◌}
 use mathlib.Core.Path.{◌≡◌, refl, ap, sym, subst, ◌∙◌}
 use mathlib.Core.Logic.{◌≢◌, ◌⊎◌, inl, inr}
@@ -13,7 +14,6 @@ use Rattle.marks.specs.declared.Mark.TheVariants.{Nothing, At}
 use Rattle.marks.specs.Line.{marks_name, line_of, says_of}
 use Rattle.marks.proofs.Round.{line_back, line_other}
 use Rattle.medium.specs.declared.Medium.{Medium}
-use Rattle.medium.specs.declared.Outcome.TheVariants.{Done}
 use Rattle.medium.specs.Refusal.{ok, refused, on_done, on_ok}
 use Rattle.medium.specs.Sector.{Readable}
 use Rattle.handles.specs.declared.Store.{Store}
@@ -116,7 +116,7 @@ module _ (vol : List ℕ) (m : Medium) (st : Store) (G : ℕ → List Segment) (
   -- ---- reading
 
   module _ (p : List ℕ) (fine : point_ok p ≡ true) where
-    passes : asked_point (asked_of vol st true) p ≡ Done
+    passes : asked_point (asked_of vol st true) p ≡ Ok tt
     unfolding asked_point on_done pick
     passes = rw (asked vol m st G b w r true refl, fine)
 

@@ -1,5 +1,7 @@
 -- 02, S-1: "after a power stop a point is wholly there or absent". A setting, with any number of writes left, puts its line into `MARKS` exactly if it is
 -- accepted, and leaves all other files. Assumes nothing.
+use Rattle.std.specs.Prelude.{Ok, Result}
+use Rattle.medium.specs.declared.Error.{Error}
 use Prim.Native.Nat.{ℕ, ◌≤◌, ◌<◌}
 use mathlib.Core.Path.{◌≡◌, refl, ap, sym, subst, ◌∙◌}
 use mathlib.Core.Logic.{◌≢◌, inl, inr}
@@ -15,8 +17,6 @@ use Rattle.marks.specs.declared.Mark.{Mark}
 use Rattle.marks.specs.declared.Mark.TheVariants.{Nothing}
 use Rattle.marks.specs.Line.{marks_name, line_of, says_of}
 use Rattle.marks.proofs.Round.{line_other, line_some}
-use Rattle.medium.specs.declared.Outcome.{Outcome}
-use Rattle.medium.specs.declared.Outcome.TheVariants.{Done}
 use Rattle.medium.specs.Refusal.{on_ok}
 use Rattle.plan.specs.Copy.{Kind, extended, recorded, Skipped, Distinct}
 use Rattle.store.specs.Writing.{format_call}
@@ -45,7 +45,7 @@ use Rattle.hatch.proofs.Files.{marks_new, others_new, Owner, owner_of_lem, owner
 
 -- ---- the line is shorter than a record takes
 
-pub line_few : (o : Outcome) (p : List ℕ) (id n : ℕ) → asked_point o p ≡ Done → length (line_of p id n) < 486
+pub line_few : (o : Result Unit Error) (p : List ℕ) (id n : ℕ) → asked_point o p ≡ Ok tt → length (line_of p id n) < 486
 unfolding line_of
 line_few o p id n e = simp length-append (omega (arith, asked_short o p refl e, text_room id, text_room n))
 

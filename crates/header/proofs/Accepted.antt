@@ -1,4 +1,5 @@
 -- What an accepted mount gives: a valid copy that stands on the volume. Assumes nothing.
+use Rattle.std.specs.Prelude.{Ok}
 use mathlib.Core.Path.{◌≡◌, refl, sym, ap, ◌∙◌}
 use mathlib.Core.Bool.{true, false, ◌||◌}
 use mathlib.Core.List.{List}
@@ -9,7 +10,6 @@ use Rattle.le.specs.Choice.{pick}
 use Rattle.le.proofs.Choices.{pick_keeps, pick_keeps_by}
 use Rattle.le.proofs.Bools.{and_true}
 use Rattle.medium.specs.declared.Medium.{Medium}
-use Rattle.medium.specs.declared.Outcome.TheVariants.{Done}
 use Rattle.medium.specs.Sector.{sectors_of, sector_at}
 use Rattle.medium.proofs.Laws.{on_done_keeps, length_sector, not_done}
 use Rattle.freemap.proofs.Rule.{ok_unfit}
@@ -32,7 +32,7 @@ pub record Both (vol : List ℕ) (c : Copies) : Type 0 where
   pub not_a : is_foreign (copy_of vol 0).kind ≡ false
   pub not_b : is_foreign (copy_of vol 32).kind ≡ false
 
-pub headers_both : (vol : List ℕ) (m : Medium) → (headers_of vol m).outcome ≡ Done → Both vol (headers_of vol m)
+pub headers_both : (vol : List ℕ) (m : Medium) → (headers_of vol m).outcome ≡ Ok tt → Both vol (headers_of vol m)
 unfolding headers_of
 headers_both vol m =
     pick_keeps_by (Good vol) _ _ _ (λ _. not_done)
@@ -44,7 +44,7 @@ headers_both vol m =
     (λ e _. not_done))
   where
     Good : List ℕ → Copies → Type 0
-    Good vol c = c.outcome ≡ Done → Both vol c
+    Good vol c = c.outcome ≡ Ok tt → Both vol c
 
 -- ---- the copy taken is one of the two, and its header is the one on the volume
 
@@ -64,7 +64,7 @@ unfolding takes_b
 b_valid c t = (and_true _ _ t).0
 
 abbrev Sound : List ℕ → Current → Type 0
-Sound vol r = r.outcome ≡ Done → Taken vol r
+Sound vol r = r.outcome ≡ Ok tt → Taken vol r
 
 choice_taken : (vol : List ℕ) (c : Copies) → c ≡ both_of (copy_of vol 0) (copy_of vol 32) → Sound vol (choice_of c)
 unfolding choice_of taken_of no_current base_of pick
@@ -76,7 +76,7 @@ choice_taken vol c s =
     (λ t _. record { copy = lit< tt; found = copy_valid vol 0 t })
     (λ _. pick_keeps (Sound vol) (is_damaged (copy_of vol 0).kind || is_damaged (copy_of vol 32).kind) _ _ not_done not_done)))
 
-pub current_taken : (vol : List ℕ) (m : Medium) → (current_of vol m).outcome ≡ Done → Taken vol (current_of vol m)
+pub current_taken : (vol : List ℕ) (m : Medium) → (current_of vol m).outcome ≡ Ok tt → Taken vol (current_of vol m)
 unfolding current_of no_current
 current_taken vol m =
     on_done_keeps (Sound vol) (headers_of vol m).outcome _ _
@@ -84,10 +84,10 @@ current_taken vol m =
     (λ e _. not_done)
 
 -- mount takes what `current` took
-pub mount_current : (vol : List ℕ) (m : Medium) → (mount_of vol m).outcome ≡ Done → ((current_of vol m).outcome ≡ Done) × (mount_of vol m ≡ mounted (current_of vol m))
+pub mount_current : (vol : List ℕ) (m : Medium) → (mount_of vol m).outcome ≡ Ok tt → ((current_of vol m).outcome ≡ Ok tt) × (mount_of vol m ≡ mounted (current_of vol m))
 unfolding mount_of
 mount_current vol m =
-    on_done_keeps (λ (r : Mounted). r.outcome ≡ Done → ((current_of vol m).outcome ≡ Done) × (r ≡ mounted (current_of vol m))) (current_of vol m).outcome _ _
+    on_done_keeps (λ (r : Mounted). r.outcome ≡ Ok tt → ((current_of vol m).outcome ≡ Ok tt) × (r ≡ mounted (current_of vol m))) (current_of vol m).outcome _ _
     (λ o _. (o, refl))
     (λ e _. not_done)
 
@@ -105,7 +105,7 @@ module _ (vol : List ℕ) (k : ℕ) (h : Header) (e : copy_of vol k ≡ ours h) 
   copy_range f small = (decode_range (sector_at vol k) (sectors_of vol) h (length_sector vol k f) (bytes_part (512 * k) 512 vol small) e).1
 
 -- the store of an accepted mount passes refusal 3
-module _ (vol : List ℕ) (m : Medium) (accepted : (mount_of vol m).outcome ≡ Done) where
+module _ (vol : List ℕ) (m : Medium) (accepted : (mount_of vol m).outcome ≡ Ok tt) where
   taken : Taken vol (current_of vol m)
   taken = current_taken vol m (mount_current vol m accepted).0
 

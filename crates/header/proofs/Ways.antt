@@ -1,4 +1,5 @@
 -- What the ways through `decode` and `headers` show of `decode_of` and `headers_of`, from what the calls on them ensure. Assumes nothing.
+use Rattle.std.specs.Prelude.{Err, Ok, Result}
 use mathlib.Core.Path.{◌≡◌, sym, ap, ◌∙◌}
 use mathlib.Core.Bool.{Bool, true, false, ◌&&◌}
 use mathlib.Core.List.{List}
@@ -11,8 +12,6 @@ use Rattle.seal.specs.Seal.{is_sealed}
 use Rattle.medium.specs.declared.Error.{Error}
 use Rattle.medium.specs.declared.Error.TheVariants as no
 use Rattle.medium.specs.declared.Medium.{Medium}
-use Rattle.medium.specs.declared.Outcome.{Outcome}
-use Rattle.medium.specs.declared.Outcome.TheVariants.{Done, No}
 use Rattle.medium.specs.Refusal.{on_done}
 use Rattle.medium.specs.Sector.{sectors_of, read_of}
 use Rattle.handles.specs.declared.Header.{Header}
@@ -78,7 +77,7 @@ module _ {l : List ℕ} {sectors : ℕ} {h : Header} {t : Bool} (k : Read l sect
 -- what is known once A is read: d is A, and f says whether it is foreign
 pub record Seen (vol : List ℕ) (m : Medium) (d : Decoded) (f : Bool) : Type 0 where
   pub enough : ltb (sectors_of vol) 64 ≡ false
-  pub reads : read_of m 0 ≡ Done
+  pub reads : read_of m 0 ≡ Ok tt
   pub copy : d ≡ copy_of vol 0
   pub foreign : f ≡ is_foreign d.kind
 
@@ -92,11 +91,11 @@ module _ {vol : List ℕ} {m : Medium} {d : Decoded} {f : Bool} (k : Seen vol m 
   unfolding pick
   foreign_a t er = rw (left, t) er
 
-  pub unread_b : {o : Outcome} {e : Error} {r : Copies} → f ≡ false → o ≡ read_of m 32 → o ≡ No e → r ≡ no_copies e → r ≡ headers_of vol m
+  pub unread_b : {o : Result Unit Error} {e : Error} {r : Copies} → f ≡ false → o ≡ read_of m 32 → o ≡ Err e → r ≡ no_copies e → r ≡ headers_of vol m
   unfolding pick on_done
   unread_b t eo q er = rw (left, t, ← eo, q) er
 
-  module _ {o : Outcome} {b : Decoded} {g : Bool} (t : f ≡ false) (eo : o ≡ read_of m 32) (q : o ≡ Done) (eb : b ≡ copy_of vol 32) (eg : g ≡ is_foreign b.kind) where
+  module _ {o : Result Unit Error} {b : Decoded} {g : Bool} (t : f ≡ false) (eo : o ≡ read_of m 32) (q : o ≡ Ok tt) (eb : b ≡ copy_of vol 32) (eg : g ≡ is_foreign b.kind) where
     pub foreign_b : {r : Copies} → g ≡ true → r ≡ no_copies no.Foreign → r ≡ headers_of vol m
     unfolding pick on_done
     foreign_b u er = rw (left, t, ← eo, q, ← eb, ← eg, u) er

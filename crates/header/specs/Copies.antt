@@ -1,13 +1,13 @@
 -- 01, "Header": the two copies, in sectors 0 (A) and 32 (B), and which of them mount takes. A foreign copy refuses even beside a valid one. Mount
 -- takes B only if it is valid and A is not, or its generation is larger. Where no copy is valid it refuses: 7 if one is damaged, else 5.
 -- The copies are read in order, A first, and A's refusal comes before B is read. Assumes nothing.
+use Rattle.std.specs.Prelude.{Err, Ok}
 use Rattle.std.specs.Prelude.{ℕ, Bool, true, false, not, ◌&&◌, ◌||◌, List, [], ◌∷◌, ltb, eqb, get_or}
 use Rattle.le.specs.Choice.{pick}
 use Rattle.le.specs.Part.{zeros}
 use Rattle.medium.specs.declared.Error.{Error}
 use Rattle.medium.specs.declared.Error.TheVariants as no
 use Rattle.medium.specs.declared.Medium.{Medium}
-use Rattle.medium.specs.declared.Outcome.TheVariants.{Done, No}
 use Rattle.medium.specs.Refusal.{on_done}
 use Rattle.medium.specs.Sector.{sectors_of, sector_at, read_of}
 use Rattle.freemap.specs.Map.{unfit_of}
@@ -46,10 +46,10 @@ copy_of vol k = decode_of (sector_at vol k) (sectors_of vol)
 
 -- both copies, or none where reading them was refused
 abbrev pub both_of : Decoded → Decoded → Copies
-both_of a b = record { outcome = Done; heads = a.head ∷ b.head ∷ []; a = a.kind; b = b.kind }
+both_of a b = record { outcome = Ok tt; heads = a.head ∷ b.head ∷ []; a = a.kind; b = b.kind }
 
 abbrev pub no_copies : Error → Copies
-no_copies e = record { outcome = No e; heads = blank_of ∷ blank_of ∷ []; a = Absent; b = Absent }
+no_copies e = record { outcome = Err e; heads = blank_of ∷ blank_of ∷ []; a = Absent; b = Absent }
 
 unfoldable pub headers_of : List ℕ → Medium → Copies
 headers_of vol m =
@@ -82,10 +82,10 @@ same_store x y = eqb x.id y.id && (eqb x.chunks y.chunks && eqb x.chunk y.chunk)
 -- the copy taken, its header, and beside it the other copy's checksums. They say what that copy's body holds only where it is valid and of the
 -- same store
 unfoldable pub taken_of : ℕ → Header → Header → Bool → Current
-taken_of copy head other valid = record { outcome = Done; copy = copy; head = head; known = valid && same_store head other; listed = other.crcs }
+taken_of copy head other valid = record { outcome = Ok tt; copy = copy; head = head; known = valid && same_store head other; listed = other.crcs }
 
 unfoldable pub no_current : Error → Current
-no_current e = record { outcome = No e; copy = 0; head = blank_of; known = false; listed = zeros 24 }
+no_current e = record { outcome = Err e; copy = 0; head = blank_of; known = false; listed = zeros 24 }
 
 unfoldable pub choice_of : Copies → Current
 choice_of c =
@@ -98,10 +98,10 @@ current_of vol m = on_done (headers_of vol m).outcome (choice_of (headers_of vol
 
 -- the store of the copy taken; nothing has it open
 abbrev pub mounted : Current → Mounted
-mounted c = record { outcome = Done; store = record { copy = c.copy; head = c.head; writer = Nobody; free = unfit_of } }
+mounted c = record { outcome = Ok tt; store = record { copy = c.copy; head = c.head; writer = Nobody; free = unfit_of } }
 
 abbrev pub not_mounted : Error → Mounted
-not_mounted e = record { outcome = No e; store = no_store }
+not_mounted e = record { outcome = Err e; store = no_store }
 
 unfoldable pub mount_of : List ℕ → Medium → Mounted
 mount_of vol m = on_done (current_of vol m).outcome (mounted (current_of vol m)) not_mounted

@@ -1,12 +1,12 @@
 // What reading both copies answers. `Current` stands apart from the function `current`, since two items of one module may not differ in case alone.
 use super::codec::Replica;
 use handles::{Header, Store};
-use medium::Outcome;
+use medium::Error;
 
 // Both copies: their headers and, beside them, their kinds. A copy that is not valid has a blank header.
 #[derive(Clone, Copy)]
 pub struct Copies {
-    pub outcome: Outcome,
+    pub outcome: Result<(), Error>,
     pub heads: [Header; 2],
     pub a: Replica,
     pub b: Replica,
@@ -15,7 +15,7 @@ pub struct Copies {
 // The copy that is current. With `known`, the other copy's body holds the sectors whose checksums are in `listed`.
 #[derive(Clone, Copy)]
 pub struct Current {
-    pub outcome: Outcome,
+    pub outcome: Result<(), Error>,
     pub copy: u64,
     pub head: Header,
     pub known: bool,
@@ -24,6 +24,6 @@ pub struct Current {
 
 #[derive(Clone, Copy)]
 pub struct Mounted {
-    pub outcome: Outcome,
+    pub outcome: Result<(), Error>,
     pub store: Store,
 }

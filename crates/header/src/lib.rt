@@ -14,7 +14,7 @@ ghost use Rattle.header.specs.Copies.{choice_of, current_of, mount_of};
 pub use answers::{Copies, Current, Mounted};
 pub use codec::{Decoded, Replica, decode, encode, encode_unmarked};
 use handles::{Header, Store, Writer};
-use medium::{Error, Medium, Outcome, Written};
+use medium::{Error, Medium, Written};
 
 // A copy that is valid.
 pub fn is_ours(k: Replica) -> bool
@@ -55,7 +55,7 @@ fn no_copies(e: Error) -> Copies
 {
     let head = handles::blank();
     Copies {
-        outcome: Outcome::No(e),
+        outcome: Err(e),
         heads: [head, head],
         a: Replica::Absent,
         b: Replica::Absent,
@@ -79,7 +79,7 @@ pub fn headers(volume: &[u8], medium: Medium) -> Copies
         return no_copies(Error::Range);
     }
     let ra = medium::readable(medium, 0);
-    if let Outcome::No(e) = ra {
+    if let Err(e) = ra {
         return no_copies(e);
     }
     let a = copy_at(volume, 0);
@@ -88,7 +88,7 @@ pub fn headers(volume: &[u8], medium: Medium) -> Copies
         return no_copies(Error::Foreign);
     }
     let rb = medium::readable(medium, 32);
-    if let Outcome::No(e) = rb {
+    if let Err(e) = rb {
         return no_copies(e);
     }
     let b = copy_at(volume, 32);
@@ -99,7 +99,7 @@ pub fn headers(volume: &[u8], medium: Medium) -> Copies
     let ha = a.head;
     let hb = b.head;
     Copies {
-        outcome: Outcome::Done,
+        outcome: Ok(()),
         heads: [ha, hb],
         a: ka,
         b: kb,
@@ -129,7 +129,7 @@ fn taken(copy: u64, head: Header, other: Header, valid: bool) -> Current
     let same = same_store(head, other);
     let listed = other.crcs;
     Current {
-        outcome: Outcome::Done,
+        outcome: Ok(()),
         copy,
         head,
         known: valid & same,
@@ -142,7 +142,7 @@ fn no_current(e: Error) -> Current
 {
     let head = handles::blank();
     Current {
-        outcome: Outcome::No(e),
+        outcome: Err(e),
         copy: 0,
         head,
         known: false,
@@ -176,7 +176,7 @@ pub fn current(volume: &[u8], medium: Medium) -> Current
 {
     let c = headers(volume, medium);
     let o = c.outcome;
-    if let Outcome::No(e) = o {
+    if let Err(e) = o {
         return no_current(e);
     }
     choice(c)
@@ -188,10 +188,10 @@ pub fn mount(volume: &[u8], medium: Medium) -> Mounted
 {
     let c = current(volume, medium);
     let o = c.outcome;
-    if let Outcome::No(e) = o {
+    if let Err(e) = o {
         let store = handles::no_store();
         return Mounted {
-            outcome: Outcome::No(e),
+            outcome: Err(e),
             store,
         };
     }
@@ -204,7 +204,7 @@ pub fn mount(volume: &[u8], medium: Medium) -> Mounted
         free,
     };
     Mounted {
-        outcome: Outcome::Done,
+        outcome: Ok(()),
         store,
     }
 }
@@ -217,7 +217,7 @@ pub fn write_head(volume: &mut [u8], medium: Medium, copy: u64, head: Header) ->
 {
     let w = medium::spend(medium);
     let o = w.outcome;
-    if let Outcome::No(_) = o {
+    if let Err(_) = o {
         return w;
     }
     let a = 512 * (handles::base(copy) as usize);
@@ -233,7 +233,7 @@ pub fn write_unmarked(volume: &mut [u8], medium: Medium, copy: u64, head: Header
 {
     let w = medium::spend(medium);
     let o = w.outcome;
-    if let Outcome::No(_) = o {
+    if let Err(_) = o {
         return w;
     }
     let a = 512 * (handles::base(copy) as usize);

@@ -1,4 +1,5 @@
 -- What a sector write, and writes one after another, leave of the volume and of the medium record. Assumes nothing.
+use Rattle.std.specs.Prelude.{Err, Ok}
 use mathlib.Core.Path.{◌≡◌, refl, sym, ap, ◌∙◌}
 use mathlib.Core.List.{List}
 use mathlib.Core.Logic.{inl, inr, ⊎_elim}
@@ -12,7 +13,6 @@ use Rattle.le.specs.Part.{part}
 use Rattle.le.proofs.Choices.{pick_keeps}
 use Rattle.medium.specs.declared.Error.{Error}
 use Rattle.medium.specs.declared.Medium.{Medium}
-use Rattle.medium.specs.declared.Outcome.TheVariants.{Done, No}
 use Rattle.medium.specs.declared.Written.{Written}
 use Rattle.medium.specs.Sector.{sectors_of, sector_at, spend_of, write_of}
 use Rattle.medium.specs.Frame.{Kept, Spends}
@@ -69,13 +69,13 @@ module _ (vol : List ℕ) (m : Medium) (k : ℕ) (bytes : List ℕ) where
       (record { left = omega arith; unreadable = refl; entropy = refl; token = refl })
 
   -- refused it changes nothing
-  pub write_none : {e : Error} → (write_of vol m k bytes).ans.outcome ≡ No e → (write_of vol m k bytes).vol ≡ vol
+  pub write_none : {e : Error} → (write_of vol m k bytes).ans.outcome ≡ Err e → (write_of vol m k bytes).vol ≡ vol
   unfolding write_of
   write_none q = sym (write_refused vol m k bytes refl q).0
 
   module _ (size : length bytes ≡ 512) (inside : k < sectors_of vol) where
     -- accepted its bytes are there
-    pub write_there : (write_of vol m k bytes).ans.outcome ≡ Done → sector_at (write_of vol m k bytes).vol k ≡ bytes
+    pub write_there : (write_of vol m k bytes).ans.outcome ≡ Ok tt → sector_at (write_of vol m k bytes).vol k ≡ bytes
     unfolding write_of
     write_there q = ap (λ (v : List ℕ). sector_at v k) (sym (write_done vol m k bytes refl q refl).0) ∙ sector_same vol k bytes size inside
 

@@ -1,4 +1,5 @@
 -- The laws of a sector and of a sector write: all that the layers above use of either. Assumes nothing.
+use Rattle.std.specs.Prelude.{Err, Ok, Result}
 use mathlib.Core.Path.{◌≡◌, refl, sym, ap, ◌∙◌}
 use mathlib.Core.List.{List, [], ◌++◌, append-nil}
 use mathlib.Core.Logic.{◌⊎◌, ⊎_elim}
@@ -11,8 +12,6 @@ use Rattle.le.specs.Part.{part, over}
 use Rattle.le.proofs.Parts.{length_part, length_over, part_over, part_before, part_after, over_back}
 use Rattle.medium.specs.declared.Error.{Error}
 use Rattle.medium.specs.declared.Medium.{Medium}
-use Rattle.medium.specs.declared.Outcome.{Outcome}
-use Rattle.medium.specs.declared.Outcome.TheVariants.{Done, No}
 use Rattle.medium.specs.declared.Written.{Written}
 use Rattle.medium.specs.Refusal.{Answer, ok, refused, on_done, on_ok, outcome_of}
 use Rattle.medium.specs.Sector.{sectors_of, sector_at, write_at, spend_of, write_of}
@@ -59,38 +58,38 @@ in_place vol bytes {a} {k} {s} ea es n = rw (← es, ← ea) (over_back (512 * a
 
 -- a writer in place: `spend` first, then the bytes
 module _ (vol : List ℕ) (m : Medium) (k : ℕ) (bytes : List ℕ) {w : Written} (asked : w ≡ spend_of m) where
-  pub write_refused : {e : Error} → w.outcome ≡ No e → (vol ≡ (write_of vol m k bytes).vol) × (w ≡ (write_of vol m k bytes).ans)
+  pub write_refused : {e : Error} → w.outcome ≡ Err e → (vol ≡ (write_of vol m k bytes).vol) × (w ≡ (write_of vol m k bytes).ans)
   unfolding write_of on_done
   write_refused q = (rw (← asked, q) refl, asked)
 
-  pub write_done : {after : List ℕ} → w.outcome ≡ Done → after ≡ write_at vol k bytes → (after ≡ (write_of vol m k bytes).vol) × (w ≡ (write_of vol m k bytes).ans)
+  pub write_done : {after : List ℕ} → w.outcome ≡ Ok tt → after ≡ write_at vol k bytes → (after ≡ (write_of vol m k bytes).vol) × (w ≡ (write_of vol m k bytes).ans)
   unfolding write_of on_done
   write_done q h = (rw (← asked, q) h, asked)
 
 -- what holds after the refusal and after the rest holds of the whole
-pub on_done_keeps : {A : Type 0} (P : A → Type 0) (o : Outcome) (a : A) (f : Error → A) → (o ≡ Done → P a) → ((e : Error) → o ≡ No e → P (f e)) → P (on_done o a f)
+pub on_done_keeps : {A : Type 0} (P : A → Type 0) (o : Result Unit Error) (a : A) (f : Error → A) → (o ≡ Ok tt → P a) → ((e : Error) → o ≡ Err e → P (f e)) → P (on_done o a f)
 unfolding on_done
-on_done_keeps P Done a f p q = p refl
-on_done_keeps P (No e) a f p q = q e refl
+on_done_keeps P (Ok tt) a f p q = p refl
+on_done_keeps P (Err e) a f p q = q e refl
 
 pub on_ok_keeps : {A B : Type 0} (P : B → Type 0) (a : Answer A) {g : A → B} {f : ℕ → B} → ((y : A) → P (g y)) → ((n : ℕ) → P (f n)) → P (on_ok a g f)
 unfolding on_ok
 on_ok_keeps P (ok y) p q = p y
 on_ok_keeps P (refused n) p q = q n
 
-pub on_done_done : {A : Type 0} {o : Outcome} (a : A) (f : Error → A) → o ≡ Done → on_done o a f ≡ a
+pub on_done_done : {A : Type 0} {o : Result Unit Error} (a : A) (f : Error → A) → o ≡ Ok tt → on_done o a f ≡ a
 unfolding on_done
 on_done_done a f q = rw q
 
-pub on_done_no : {A : Type 0} {o : Outcome} {e : Error} (a : A) (f : Error → A) → o ≡ No e → on_done o a f ≡ f e
+pub on_done_no : {A : Type 0} {o : Result Unit Error} {e : Error} (a : A) (f : Error → A) → o ≡ Err e → on_done o a f ≡ f e
 unfolding on_done
 on_done_no a f q = rw q
 
 -- an outcome is not both
-pub not_done : {A : Type 0} {e : Error} → No e ≡ Done → A
+pub not_done : {A : Type 0} {e : Error} → ◌≡◌ {A = Result Unit Error} (Err e) (Ok tt) → A
 not_done q = let z : ◌≡◌ {A = ℕ} 0 1 = cc in absurd (let f : ⊥ = omega arith in f)
 
 -- an answer that is ok is that of an outcome that is done
-pub done_told : (o : Outcome) → outcome_of o ≡ ok tt → o ≡ Done
-done_told Done q = refl
-done_told (No e) q = absurd (let z : ◌≡◌ {A = ℕ} 0 1 = cc in omega arith)
+pub done_told : (o : Result Unit Error) → outcome_of o ≡ ok tt → o ≡ Ok tt
+done_told (Ok tt) q = refl
+done_told (Err e) q = absurd (let z : ◌≡◌ {A = ℕ} 0 1 = cc in omega arith)

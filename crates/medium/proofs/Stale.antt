@@ -1,4 +1,5 @@
 -- Refusals other than 11: of a sector read or written, 11 is none. Assumes nothing.
+use Rattle.std.specs.Prelude.{Err, Ok, Result}
 use mathlib.Core.Path.{◌≡◌, refl, subst}
 use mathlib.Core.Bool.{false}
 use mathlib.Core.List.{List}
@@ -9,24 +10,22 @@ use lib.Dec.{eqb}
 use Rattle.le.proofs.Choices.{pick_keeps}
 use Rattle.medium.specs.declared.Error.{Error}
 use Rattle.medium.specs.declared.Medium.{Medium}
-use Rattle.medium.specs.declared.Outcome.{Outcome}
-use Rattle.medium.specs.declared.Outcome.TheVariants.{Done, No}
 use Rattle.medium.specs.declared.Written.{Written}
 use Rattle.medium.specs.Refusal.{number_of, refused, outcome_of}
 use Rattle.medium.specs.Sector.{read_of, spend_of, write_of}
 
 -- an outcome that is not 11
-abbrev pub NotStale : Outcome → Type 0
-NotStale Done = Unit
-NotStale (No e) = eqb (number_of e) 11 ≡ false
+abbrev pub NotStale : Result Unit Error → Type 0
+NotStale (Ok tt) = Unit
+NotStale (Err e) = eqb (number_of e) 11 ≡ false
 
-pub no_stale : {o : Outcome} {e : Error} → NotStale o → o ≡ No e → NotStale (No e)
+pub no_stale : {o : Result Unit Error} {e : Error} → NotStale o → o ≡ Err e → NotStale (Err e)
 no_stale n q = subst NotStale q n
 
 -- as 01 has it
-pub told_not_stale : (o : Outcome) → NotStale o → outcome_of o ≡ refused 11 → ⊥
-told_not_stale Done n q = let z : ◌≡◌ {A = ℕ} 0 1 = cc in omega arith
-told_not_stale (No e) n q = let z : number_of e ≡ 11 = cc in eqb-false (number_of e) 11 n z
+pub told_not_stale : (o : Result Unit Error) → NotStale o → outcome_of o ≡ refused 11 → ⊥
+told_not_stale (Ok tt) n q = let z : ◌≡◌ {A = ℕ} 0 1 = cc in omega arith
+told_not_stale (Err e) n q = let z : number_of e ≡ 11 = cc in eqb-false (number_of e) 11 n z
 
 pub read_not_stale : (m : Medium) (k : ℕ) → NotStale (read_of m k)
 unfolding read_of

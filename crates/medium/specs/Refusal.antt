@@ -1,9 +1,8 @@
 -- 01, "Refused because of the input" and ".. of the state": the twelve refusals and their numbers; 13 to 15 are 02's, of S-1, and 16 of S-5. Assumes nothing.
+use Rattle.std.specs.Prelude.{Err, Ok, Result}
 use Rattle.std.specs.Prelude.{ℕ}
 use Rattle.medium.specs.declared.Error.{Error}
 use Rattle.medium.specs.declared.Error.TheVariants as no
-use Rattle.medium.specs.declared.Outcome.{Outcome}
-use Rattle.medium.specs.declared.Outcome.TheVariants.{Done, No}
 
 -- the number that 01, or 02, gives a refusal
 abbrev pub number_of : Error → ℕ
@@ -30,9 +29,9 @@ pub data Answer (A : Type 0) : Type 0 where
   refused : ℕ → Answer A
 
 -- a where all is done so far, else f of the refusal. It stays shut in proofs
-unfoldable pub on_done : {A : Type 0} → Outcome → A → (Error → A) → A
-on_done Done a f = a
-on_done (No e) a f = f e
+unfoldable pub on_done : {A : Type 0} → Result Unit Error → A → (Error → A) → A
+on_done (Ok tt) a f = a
+on_done (Err e) a f = f e
 
 -- g of the values where a call is accepted, else f of its number. It stays shut in proofs
 unfoldable pub on_ok : {A B : Type 0} → Answer A → (A → B) → (ℕ → B) → B
@@ -40,6 +39,6 @@ on_ok (ok a) g f = g a
 on_ok (refused n) g f = f n
 
 -- an outcome as 01 has it
-abbrev pub outcome_of : Outcome → Answer Unit
-outcome_of Done = ok tt
-outcome_of (No e) = refused (number_of e)
+abbrev pub outcome_of : Result Unit Error → Answer Unit
+outcome_of (Ok tt) = ok tt
+outcome_of (Err e) = refused (number_of e)

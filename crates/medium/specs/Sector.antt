@@ -1,11 +1,11 @@
 -- 01, "Volume and medium record". The volume is the list of its bytes. Assumes nothing.
+use Rattle.std.specs.Prelude.{Err, Ok, Result}
+use Rattle.medium.specs.declared.Error.{Error}
 use Rattle.std.specs.Prelude.{ℕ, ◌-◌, ◌*◌, ◌/◌, ◌≤◌, List, eqb, length}
 use Rattle.le.specs.Choice.{pick}
 use Rattle.le.specs.Part.{part, over}
 use Rattle.medium.specs.declared.Error.TheVariants.{Media}
 use Rattle.medium.specs.declared.Medium.{Medium}
-use Rattle.medium.specs.declared.Outcome.{Outcome}
-use Rattle.medium.specs.declared.Outcome.TheVariants.{Done, No}
 use Rattle.medium.specs.declared.Written.{Written}
 use Rattle.medium.specs.Refusal.{on_done}
 
@@ -21,8 +21,8 @@ unfoldable pub write_at : List ℕ → ℕ → List ℕ → List ℕ
 write_at vol k bytes = over (512 * k) bytes vol
 
 -- reading the unreadable sector is refused
-unfoldable pub read_of : Medium → ℕ → Outcome
-read_of m k = pick (eqb k m.unreadable) (No Media) Done
+unfoldable pub read_of : Medium → ℕ → Result Unit Error
+read_of m k = pick (eqb k m.unreadable) (Err Media) (Ok tt)
 
 -- every sector reads
 abbrev pub Readable : List ℕ → Medium → Type 0
@@ -32,8 +32,8 @@ Readable vol m = sectors_of vol ≤ m.unreadable
 unfoldable pub spend_of : Medium → Written
 spend_of m =
     pick (eqb m.left 0)
-    (record { outcome = No Media; medium = m })
-    (record { outcome = Done; medium = record { left = m.left - 1; unreadable = m.unreadable; entropy = m.entropy; token = m.token } })
+    (record { outcome = Err Media; medium = m })
+    (record { outcome = Ok tt; medium = record { left = m.left - 1; unreadable = m.unreadable; entropy = m.entropy; token = m.token } })
 
 -- a sector write: the volume after it, and the answer. Refused, it changes nothing
 pub record WriteOut : Type 0 where

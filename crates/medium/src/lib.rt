@@ -38,14 +38,8 @@ pub enum Error {
 }
 
 #[derive(Clone, Copy)]
-pub enum Outcome {
-    Done,
-    No(Error),
-}
-
-#[derive(Clone, Copy)]
 pub struct Written {
-    pub outcome: Outcome,
+    pub outcome: Result<(), Error>,
     pub medium: Medium,
 }
 
@@ -81,13 +75,13 @@ pub fn sectors(volume: &[u8]) -> u64
 }
 
 // Whether sector `at` can be read. Its bytes are then the volume's own.
-pub fn readable(medium: Medium, at: u64) -> Outcome
+pub fn readable(medium: Medium, at: u64) -> Result<(), Error>
     ensures { result ≡ read_of medium at }
 {
     if at == medium.unreadable {
-        return Outcome::No(Error::Media);
+        return Err(Error::Media);
     }
-    Outcome::Done
+    Ok(())
 }
 
 // Takes one from writes left. A caller that writes a sector in place asks this first.
@@ -98,31 +92,36 @@ pub fn spend(medium: Medium) -> Written
     let left = medium.left;
     if left == 0 {
         return Written {
-            outcome: Outcome::No(Error::Media),
+            outcome: Err(Error::Media),
             medium,
         };
     }
     let mut after = medium;
     after.left = left - 1;
     Written {
-        outcome: Outcome::Done,
+        outcome: Ok(()),
         medium: after,
     }
 }
 
 // Reads a sector into a buffer; refused, the buffer stays as it was.
-pub fn read_sector(volume: &[u8], medium: Medium, at: u64, sector: &mut [u8; 512]) -> Outcome
+pub fn read_sector(
+    volume: &[u8],
+    medium: Medium,
+    at: u64,
+    sector: &mut [u8; 512],
+) -> Result<(), Error>
     requires { at < sectors_of volume.now }
     ensures { (result ≡ read_of medium at)
         × (sector.new ≡ on_done (read_of medium at) (sector_at volume.now at) (λ _. sector.old)) }
 {
     if at == medium.unreadable {
-        return Outcome::No(Error::Media);
+        return Err(Error::Media);
     }
     let start = 512 * (at as usize);
     let end = start + 512;
     runs::put_bytes(sector, 0, &volume[start..end]);
-    Outcome::Done
+    Ok(())
 }
 
 // Writes a sector, where a write is left.
@@ -133,7 +132,7 @@ pub fn write_sector(volume: &mut [u8], medium: Medium, at: u64, sector: &[u8; 51
 {
     let w = spend(medium);
     let o = w.outcome;
-    if let Outcome::No(_) = o {
+    if let Err(_) = o {
         return w;
     }
     runs::put_bytes(volume, 512 * (at as usize), sector);
@@ -148,7 +147,7 @@ pub fn zero_sector(volume: &mut [u8], medium: Medium, at: u64) -> Written
 {
     let w = spend(medium);
     let o = w.outcome;
-    if let Outcome::No(_) = o {
+    if let Err(_) = o {
         return w;
     }
     runs::put_zeros(volume, 512 * (at as usize), 512);

@@ -1,5 +1,6 @@
 -- The order of the writes, and why a stop is harmless: from the first write to the last the header sector of the copy holds the first image, so it is
 -- no copy where that image is none. Assumes nothing.
+use Rattle.std.specs.Prelude.{Err, Ok}
 use mathlib.Core.Path.{◌≡◌, sym, ap, ◌∙◌}
 use mathlib.Core.List.{List}
 use mathlib.Core.Logic.{◌⊎◌, inl, inr}
@@ -8,7 +9,6 @@ use native.Mathlib.Omega.{arith}
 use lib.ListN.{length}
 use Rattle.medium.specs.declared.Error.{Error}
 use Rattle.medium.specs.declared.Medium.{Medium}
-use Rattle.medium.specs.declared.Outcome.TheVariants.{Done, No}
 use Rattle.medium.specs.Sector.{sectors_of, sector_at, WriteOut}
 use Rattle.medium.proofs.Laws.{on_done_keeps, not_done}
 use Rattle.medium.proofs.Frame.{write_none, write_there, write_kept}
@@ -23,17 +23,17 @@ use Rattle.plan.proofs.Keeps.{Ready, ready_still, body_stays}
 
 -- refused nothing was written, or the header sector holds the first image
 abbrev pub Stopped : Plan → List ℕ → Out → Type 0
-Stopped p vol o = (e : Error) → o.ans.outcome ≡ No e → (o.vol ≡ vol) ⊎ (sector_at o.vol (base_of p.copy) ≡ p.first)
+Stopped p vol o = (e : Error) → o.ans.outcome ≡ Err e → (o.vol ≡ vol) ⊎ (sector_at o.vol (base_of p.copy) ≡ p.first)
 
 module _ (p : Plan) (vol : List ℕ) (m : Medium) (r : Ready p vol) (most : p.head.chunks ≤ 2048) (size : length p.first ≡ 512) where
   inside : base_of p.copy < sectors_of vol
   inside = omega (arith, base_most p.copy, r.enough)
 
   -- the first write: accepted the first image is there, refused nothing changes
-  pub first_there : (first_of p vol m).ans.outcome ≡ Done → sector_at (first_of p vol m).vol (base_of p.copy) ≡ p.first
+  pub first_there : (first_of p vol m).ans.outcome ≡ Ok tt → sector_at (first_of p vol m).vol (base_of p.copy) ≡ p.first
   first_there q = write_there vol m (base_of p.copy) p.first size inside q
 
-  pub first_none : {e : Error} → (first_of p vol m).ans.outcome ≡ No e → (first_of p vol m).vol ≡ vol
+  pub first_none : {e : Error} → (first_of p vol m).ans.outcome ≡ Err e → (first_of p vol m).vol ≡ vol
   first_none q = write_none vol m (base_of p.copy) p.first q
 
   first_ready : Ready p (first_of p vol m).vol

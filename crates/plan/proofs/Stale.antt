@@ -1,9 +1,9 @@
 -- Writing a copy never gives 11. Assumes nothing.
+use Rattle.std.specs.Prelude.{Err}
 use mathlib.Core.List.{List}
 use Prim.Native.Nat.{ℕ, zero, suc, ◌+◌}
 use Rattle.le.proofs.Choices.{pick_keeps}
 use Rattle.medium.specs.declared.Medium.{Medium}
-use Rattle.medium.specs.declared.Outcome.TheVariants.{No}
 use Rattle.medium.specs.Sector.{WriteOut, write_of}
 use Rattle.medium.proofs.Laws.{on_done_keeps}
 use Rattle.medium.proofs.Stale.{NotStale, no_stale, write_not_stale}
@@ -18,7 +18,7 @@ abbrev Moves : Move → Type 0
 Moves unread = Unit
 Moves (matched c) = Unit
 Moves (put c bytes) = Unit
-Moves (bad e) = NotStale (No e)
+Moves (bad e) = NotStale (Err e)
 
 module _ (p : Plan) where
   moves : (vol : List ℕ) (m : Medium) (k : ℕ) → Moves (move_of p vol m k)

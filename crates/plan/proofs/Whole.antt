@@ -1,5 +1,6 @@
 -- What writing a whole copy keeps, whatever the writes left: every sector outside the copy, the medium record but for writes left, and the header's
 -- numbers. Of a refused one the store value is the given one. Assumes nothing.
+use Rattle.std.specs.Prelude.{Err, Ok}
 use mathlib.Core.Path.{◌≡◌, refl, sym, ap, ◌∙◌}
 use mathlib.Core.List.{List}
 use Prim.Native.Nat.{ℕ, ◌≤◌, ◌<◌}
@@ -7,7 +8,6 @@ use native.Mathlib.Omega.{arith}
 use lib.ListN.{length}
 use Rattle.medium.specs.declared.Error.{Error}
 use Rattle.medium.specs.declared.Medium.{Medium}
-use Rattle.medium.specs.declared.Outcome.TheVariants.{Done, No}
 use Rattle.medium.specs.Sector.{sectors_of, WriteOut, write_of}
 use Rattle.medium.proofs.Laws.{on_done_keeps, not_done}
 use Rattle.medium.specs.Frame.{Kept, Spends}
@@ -24,11 +24,11 @@ pub record Copied (p : Plan) (vol : List ℕ) (m : Medium) (o : Out) : Type 0 wh
   pub frame : Kept (base_of p.copy) 25 vol o.vol
   pub medium : Spends m o.ans.medium
   pub writer : o.ans.store.writer ≡ p.store.writer
-  pub refused : (e : Error) → o.ans.outcome ≡ No e → o.ans.store ≡ p.store
-  pub copy : o.ans.outcome ≡ Done → o.ans.store.copy ≡ p.copy
-  pub numbers : o.ans.outcome ≡ Done → o.ans.store.head ≡ with_crcs p.head o.ans.store.head.crcs
-  pub free : o.ans.outcome ≡ Done → o.ans.store.free ≡ free_after p vol
-  pub count : o.ans.outcome ≡ Done → length o.ans.store.head.crcs ≡ 24
+  pub refused : (e : Error) → o.ans.outcome ≡ Err e → o.ans.store ≡ p.store
+  pub copy : o.ans.outcome ≡ Ok tt → o.ans.store.copy ≡ p.copy
+  pub numbers : o.ans.outcome ≡ Ok tt → o.ans.store.head ≡ with_crcs p.head o.ans.store.head.crcs
+  pub free : o.ans.outcome ≡ Ok tt → o.ans.store.free ≡ free_after p vol
+  pub count : o.ans.outcome ≡ Ok tt → length o.ans.store.head.crcs ≡ 24
 
 module _ (p : Plan) (vol : List ℕ) (m : Medium) where
   abbrev Frame : List ℕ → Type 0

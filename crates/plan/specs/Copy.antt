@@ -1,12 +1,12 @@
 -- 01, "Commit" and "Header" (format): a copy written anew. A commit and a format differ in the first image of the header and in what is decided of
 -- each body sector. Writes left falls inside, so this settles the volume after every stop. Assumes nothing.
+use Rattle.std.specs.Prelude.{Err, Ok}
 use Rattle.std.specs.Prelude.{ℕ, zero, suc, ◌+◌, ◌≡◌, Bool, true, false, not, ◌&&◌, ◌||◌, List, [], ◌∷◌, eqb, ltb, get_or, set}
 use Rattle.le.specs.Choice.{pick}
 use Rattle.le.specs.Part.{zeros}
 use Rattle.checksum.specs.Crc.{crc32_of}
 use Rattle.medium.specs.declared.Error.{Error}
 use Rattle.medium.specs.declared.Medium.{Medium}
-use Rattle.medium.specs.declared.Outcome.TheVariants.{Done, No}
 use Rattle.medium.specs.Refusal.{on_done}
 use Rattle.medium.specs.Sector.{sector_at, WriteOut, write_of}
 use Rattle.freemap.specs.declared.FreeMap.{FreeMap}
@@ -75,9 +75,9 @@ abbrev pub with_crc : Header → ℕ → ℕ → Header
 with_crc h k c = with_crcs h (set h.crcs k c)
 
 unfoldable pub act_of : Plan → Move → List ℕ → Medium → Header → ℕ → BodyOut
-act_of p unread vol m h k = record { vol = vol; ans = record { outcome = Done; medium = m; head = h } }
-act_of p (matched c) vol m h k = record { vol = vol; ans = record { outcome = Done; medium = m; head = with_crc h k c } }
-act_of p (bad e) vol m h k = record { vol = vol; ans = record { outcome = No e; medium = m; head = h } }
+act_of p unread vol m h k = record { vol = vol; ans = record { outcome = Ok tt; medium = m; head = h } }
+act_of p (matched c) vol m h k = record { vol = vol; ans = record { outcome = Ok tt; medium = m; head = with_crc h k c } }
+act_of p (bad e) vol m h k = record { vol = vol; ans = record { outcome = Err e; medium = m; head = h } }
 act_of p (put c bytes) vol m h k =
     let w : WriteOut = write_of vol m (base_of p.copy + 1 + k) bytes in
     record { vol = w.vol; ans = record { outcome = w.ans.outcome; medium = w.ans.medium; head = with_crc h k c } }
@@ -88,7 +88,7 @@ body_sector_of p vol m h k = act_of p (move_of p vol m k) vol m h k
 
 -- n body sectors from k on; a refusal keeps the writes made so far
 unfoldable pub body_from : Plan → ℕ → ℕ → List ℕ → Medium → Header → BodyOut
-body_from p zero k vol m h = record { vol = vol; ans = record { outcome = Done; medium = m; head = h } }
+body_from p zero k vol m h = record { vol = vol; ans = record { outcome = Ok tt; medium = m; head = h } }
 body_from p (suc n) k vol m h =
     let s : BodyOut = body_sector_of p vol m h k in
     on_done s.ans.outcome (body_from p n (k + 1) s.vol s.ans.medium s.ans.head) (λ e. s)
@@ -134,7 +134,7 @@ steps_of kind o = on_done o.ans.outcome ((record { kind = kind; skipped = o.skip
 
 -- refused: the store value as given
 abbrev pub refused_out : Store → List ℕ → Medium → Error → Out
-refused_out st vol m e = record { vol = vol; ans = record { outcome = No e; medium = m; store = st }; skipped = [] }
+refused_out st vol m e = record { vol = vol; ans = record { outcome = Err e; medium = m; store = st }; skipped = [] }
 
 -- a move that leaves its sector unwritten
 unfoldable pub leaves : Move → Bool
@@ -179,7 +179,7 @@ last_of p free skipped vol m h =
     on_done w.ans.outcome
     (record {
       vol = w.vol;
-      ans = record { outcome = Done; medium = w.ans.medium; store = record { copy = p.copy; head = h; writer = p.store.writer; free = free } };
+      ans = record { outcome = Ok tt; medium = w.ans.medium; store = record { copy = p.copy; head = h; writer = p.store.writer; free = free } };
       skipped = skipped;
     })
     (refused_out p.store w.vol w.ans.medium)

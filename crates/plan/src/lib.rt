@@ -11,7 +11,7 @@ ghost use Rattle.plan.specs.Edit.{Fits, changes_of, entry_put, link_put, plain_l
 
 use handles::{Header, Store};
 pub use map::map_after;
-use medium::{Medium, Outcome};
+use medium::{Error, Medium};
 use table::Link;
 
 // A new store; a file's entry and its first link; a file's next link, and where `partial` the mark of its last chunk with its records; a file
@@ -40,7 +40,7 @@ pub enum Edit {
 // Body sectors written, or left: the header so far.
 #[derive(Clone, Copy)]
 pub struct BodyWritten {
-    pub outcome: Outcome,
+    pub outcome: Result<(), Error>,
     pub medium: Medium,
     pub head: Header,
 }
@@ -48,7 +48,7 @@ pub struct BodyWritten {
 // A copy written: the store of the last finished commit.
 #[derive(Clone, Copy)]
 pub struct Committed {
-    pub outcome: Outcome,
+    pub outcome: Result<(), Error>,
     pub medium: Medium,
     pub store: Store,
 }

@@ -1,5 +1,6 @@
 -- S-1: a walk over what a reader gives ends by itself, before its turns are up: each turn that goes on raises the number of the record that comes next,
 -- and a file has at most 2,048 chunks of 512 records. And a reader stays one of its file. Assumes nothing.
+use Rattle.std.specs.Prelude.{Err}
 use Prim.Native.Nat.{ℕ, zero, suc, ◌+◌, ◌*◌, ◌≤◌, ◌<◌}
 use mathlib.Core.Path.{◌≡◌, refl, ap, sym, subst, ◌∙◌}
 use mathlib.Core.Logic.{◌⊎◌, inl, inr}
@@ -17,7 +18,6 @@ use Rattle.walk.proofs.Laws.{walk_keeps}
 use Rattle.marks.specs.declared.Mark.{Mark}
 use Rattle.marks.specs.declared.Mark.TheVariants.{Nothing, At}
 use Rattle.medium.specs.declared.Medium.{Medium}
-use Rattle.medium.specs.declared.Outcome.TheVariants.{No}
 use Rattle.medium.specs.Refusal.{Answer, ok, refused, on_ok}
 use Rattle.medium.specs.Sector.{sectors_of}
 use Rattle.medium.proofs.Laws.{on_done_keeps}
@@ -83,7 +83,7 @@ module _ (vol : List ℕ) (m : Medium) (st : Store) where
         (λ t. on_done_keeps (λ (s : Visit Reader Arrived). s ≡ stop a → Came id a) (enter_of vol m st rd (k + 1) 0).outcome _ _
         (λ o q. absurd (let z : ◌≡◌ {A = ℕ} 0 1 = cc in omega arith))
         (λ x o q.
-        let z : ◌≡◌ {A = Arrived} (record { outcome = No x; reader = (enter_of vol m st rd (k + 1) 0).reader; more = false }) a = cc in
+        let z : ◌≡◌ {A = Arrived} (record { outcome = Err x; reader = (enter_of vol m st rd (k + 1) 0).reader; more = false }) a = cc in
         subst (Came id) z record { file = enter_id rd (k + 1) 0 ∙ p.file; inside = λ y. absurd (false≢true y) }))
         (λ t q.
         let z : rd ≡ a.reader = cc in

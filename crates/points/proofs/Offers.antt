@@ -1,4 +1,5 @@
 -- The calls, by the ways that they go: a law for each return, over plain values. Assumes nothing.
+use Rattle.std.specs.Prelude.{Err, Ok, Result}
 use Prim.Native.Nat.{ℕ, ◌+◌, ◌-◌, ◌≤◌}
 use mathlib.Core.Path.{◌≡◌, refl, sym, ap, ◌∙◌}
 use mathlib.Core.Bool.{Bool, true, false, ◌&&◌}
@@ -18,8 +19,6 @@ use Rattle.marks.specs.Line.{marks_name, line_of}
 use Rattle.medium.specs.declared.Error.{Error}
 use Rattle.medium.specs.declared.Error.TheVariants.{Name, Handle, Point}
 use Rattle.medium.specs.declared.Medium.{Medium}
-use Rattle.medium.specs.declared.Outcome.{Outcome}
-use Rattle.medium.specs.declared.Outcome.TheVariants.{Done, No}
 use Rattle.medium.specs.Refusal.{number_of, on_done, on_ok}
 use Rattle.medium.specs.Sector.{sectors_of}
 use Rattle.medium.proofs.Laws.{not_done}
@@ -50,21 +49,21 @@ Sets v r c = (v ≡ c.vol) × (marked_answer r ≡ c.call)
 -- ---- the tests of the input
 
 module _ (vol : List ℕ) (st : Store) (named : Bool) (p : List ℕ) {sectors : ℕ} (s : sectors ≡ sectors_of vol) {k : Bool} (e : k ≡ store_ok st sectors) where
-  pub asked_handle : k ≡ false → No Handle ≡ asked_point (asked_of vol st named) p
+  pub asked_handle : k ≡ false → Err Handle ≡ asked_point (asked_of vol st named) p
   unfolding asked_point asked_of on_done pick
   asked_handle h = rw (← s, ← e, h)
 
   module _ (h : k ≡ true) where
-    pub asked_name_lem : named ≡ false → No Name ≡ asked_point (asked_of vol st named) p
+    pub asked_name_lem : named ≡ false → Err Name ≡ asked_point (asked_of vol st named) p
     unfolding asked_point asked_of on_done pick
     asked_name_lem n = rw (← s, ← e, h, n)
 
     module _ (n : named ≡ true) {f : Bool} (g : f ≡ point_ok p) where
-      pub asked_point_lem : f ≡ false → No Point ≡ asked_point (asked_of vol st named) p
+      pub asked_point_lem : f ≡ false → Err Point ≡ asked_point (asked_of vol st named) p
       unfolding asked_point asked_of on_done pick
       asked_point_lem q = rw (← s, ← e, h, n, ← g, q)
 
-      pub asked_fine : f ≡ true → Done ≡ asked_point (asked_of vol st named) p
+      pub asked_fine : f ≡ true → (Ok tt) ≡ asked_point (asked_of vol st named) p
       unfolding asked_point asked_of on_done pick
       asked_fine q = rw (← s, ← e, h, n, ← g, q)
 
@@ -76,16 +75,16 @@ point_short p e =
     leb-true (length p) 16 (and_true (leb 1 (length p)) (leb (length p) 16) sizes).1
 
 -- 3, 1 and 13 are passed
-pub asked_passed : (o : Outcome) (p : List ℕ) {q : Outcome} → q ≡ asked_point o p → q ≡ Done → (o ≡ Done) × (point_ok p ≡ true)
+pub asked_passed : (o : Result Unit Error) (p : List ℕ) {q : Result Unit Error} → q ≡ asked_point o p → q ≡ Ok tt → (o ≡ Ok tt) × (point_ok p ≡ true)
 unfolding asked_point on_done pick
-asked_passed Done p e d = (refl, go (point_ok p) refl (sym e ∙ d))
+asked_passed (Ok tt) p e d = (refl, go (point_ok p) refl (sym e ∙ d))
   where
-    go : (b : Bool) → point_ok p ≡ b → pick b Done (No Point) ≡ Done → point_ok p ≡ true
+    go : (b : Bool) → point_ok p ≡ b → pick b (Ok tt) (Err Point) ≡ Ok tt → point_ok p ≡ true
     go true q r = q
     go false q r = not_done r
-asked_passed (No x) p e d = not_done (sym e ∙ d)
+asked_passed (Err x) p e d = not_done (sym e ∙ d)
 
-pub asked_short : (o : Outcome) (p : List ℕ) {q : Outcome} → q ≡ asked_point o p → q ≡ Done → length p ≤ 16
+pub asked_short : (o : Result Unit Error) (p : List ℕ) {q : Result Unit Error} → q ≡ asked_point o p → q ≡ Ok tt → length p ≤ 16
 asked_short o p e d = point_short p (asked_passed o p e d).1
 
 -- ---- `MARKS` opened, the line appended and synced
@@ -115,20 +114,20 @@ module _ (vol : List ℕ) (m : Medium) (st : Store) where
 
 module _ (fresh : Bool) (bytes : List ℕ) (number : ℕ) (vol : List ℕ) (m : Medium) (st : Store) {v₁ : List ℕ} (o : Handed)
     (w₁ : v₁ ≡ (open_of fresh vol m st).vol) (a₁ : app_answer o ≡ (open_of fresh vol m st).call) where
-  pub mark_unopened : {e : Error} (r : Marked) → o.outcome ≡ No e → marked_answer r ≡ told_by false number (app_answer o)
+  pub mark_unopened : {e : Error} (r : Marked) → o.outcome ≡ Err e → marked_answer r ≡ told_by false number (app_answer o)
       → Sets v₁ r (mark_of fresh bytes number vol m st)
   unfolding mark_of on_ok
   mark_unopened r q t = rw (← a₁, q) (w₁, rw q at t)
 
-  module _ (q₁ : o.outcome ≡ Done) {sent : List ℕ} (whole : sent ≡ bytes) {v₂ : List ℕ} (a : Handed)
+  module _ (q₁ : o.outcome ≡ Ok tt) {sent : List ℕ} (whole : sent ≡ bytes) {v₂ : List ℕ} (a : Handed)
       (w₂ : v₂ ≡ (append_call v₁ o.medium o.store o.appender sent).vol)
       (a₂ : app_answer a ≡ (append_call v₁ o.medium o.store o.appender sent).call) where
-    pub mark_unput : {e : Error} (r : Marked) → a.outcome ≡ No e → marked_answer r ≡ told_by true number (app_answer a)
+    pub mark_unput : {e : Error} (r : Marked) → a.outcome ≡ Err e → marked_answer r ≡ told_by true number (app_answer a)
         → Sets v₂ r (mark_of fresh bytes number vol m st)
     unfolding mark_of on_ok
     mark_unput r q t = rw (← whole, ← w₁, ← a₁, q₁, ← a₂, q) (w₂, rw q at t)
 
-    pub mark_synced : {v₃ : List ℕ} (s : Handed) (r : Marked) → a.outcome ≡ Done → v₃ ≡ (sync_call v₂ a.medium a.store a.appender).vol
+    pub mark_synced : {v₃ : List ℕ} (s : Handed) (r : Marked) → a.outcome ≡ Ok tt → v₃ ≡ (sync_call v₂ a.medium a.store a.appender).vol
         → app_answer s ≡ (sync_call v₂ a.medium a.store a.appender).call → marked_answer r ≡ told_by true number (app_answer s)
         → Sets v₃ r (mark_of fresh bytes number vol m st)
     unfolding mark_of on_ok
@@ -148,14 +147,14 @@ module _ (fresh : Bool) (vol : List ℕ) (m : Medium) (st : Store) (p name : Lis
   unfolding set_from on_ok
   from_marked r q w t = rw (← ends, q) (w, t)
 
-module _ (vol : List ℕ) (m : Medium) (st : Store) (p name : List ℕ) {o : Outcome} {named : Bool} (n : named ≡ name_ok name)
+module _ (vol : List ℕ) (m : Medium) (st : Store) (p name : List ℕ) {o : Result Unit Error} {named : Bool} (n : named ≡ name_ok name)
     (asked : o ≡ asked_point (asked_of vol st named) p) (r : Marked) where
-  pub set_refused : {e : Error} → o ≡ No e → marked_answer r ≡ (not_set [] m st (number_of e)).call
+  pub set_refused : {e : Error} → o ≡ Err e → marked_answer r ≡ (not_set [] m st (number_of e)).call
       → Sets vol r (set_call vol m st p name)
   unfolding set_call on_done
   set_refused q t = rw (← n, ← asked, q) (refl, t)
 
-  module _ (d : o ≡ Done) (l : Place) (looks : place_answer l ≡ look_of vol m st p) where
+  module _ (d : o ≡ Ok tt) (l : Place) (looks : place_answer l ≡ look_of vol m st p) where
     pub set_unread : {e : Error} → l ≡ told.Refused e → marked_answer r ≡ (not_set [] m st (number_of e)).call
         → Sets vol r (set_call vol m st p name)
     unfolding set_call on_done on_ok
@@ -178,12 +177,12 @@ module _ (vol : List ℕ) (m : Medium) (st : Store) (p name : List ℕ) {o : Out
 
 -- ---- reading up to a point
 
-module _ (vol : List ℕ) (m : Medium) (st : Store) (p : List ℕ) {o : Outcome} (asked : o ≡ asked_point (asked_of vol st true) p) (r : UptoAnswer) where
-  pub point_refused : {e : Error} → o ≡ No e → point_answer r ≡ no_point m (number_of e) → point_answer r ≡ point_call vol m st p
+module _ (vol : List ℕ) (m : Medium) (st : Store) (p : List ℕ) {o : Result Unit Error} (asked : o ≡ asked_point (asked_of vol st true) p) (r : UptoAnswer) where
+  pub point_refused : {e : Error} → o ≡ Err e → point_answer r ≡ no_point m (number_of e) → point_answer r ≡ point_call vol m st p
   unfolding point_call on_done
   point_refused q t = rw (← asked, q) t
 
-  module _ (d : o ≡ Done) (l : Place) (looks : place_answer l ≡ look_of vol m st p) where
+  module _ (d : o ≡ Ok tt) (l : Place) (looks : place_answer l ≡ look_of vol m st p) where
     pub point_unread : {e : Error} → l ≡ told.Refused e → point_answer r ≡ no_point m (number_of e) → point_answer r ≡ point_call vol m st p
     unfolding point_call on_done on_ok
     point_unread q t = rw (← asked, d, ← looks, q) t

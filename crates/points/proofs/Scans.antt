@@ -1,4 +1,5 @@
 -- The walks over `MARKS` and over a file, by the ways that they go: a law for each return, over plain values. Assumes nothing.
+use Rattle.std.specs.Prelude.{Err, Ok}
 use Prim.Native.Nat.{ℕ, ◌+◌, ◌≤◌, ◌<◌}
 use mathlib.Core.Path.{◌≡◌, refl, sym, ap, ◌∙◌}
 use mathlib.Core.Bool.{true, false}
@@ -17,7 +18,6 @@ use Rattle.marks.specs.declared.Mark.TheVariants.{Nothing, At}
 use Rattle.marks.specs.Line.{marks_name, says_of}
 use Rattle.medium.specs.declared.Error.{Error}
 use Rattle.medium.specs.declared.Medium.{Medium}
-use Rattle.medium.specs.declared.Outcome.TheVariants.{Done, No}
 use Rattle.medium.specs.Refusal.{Answer, ok, number_of, on_ok}
 use Rattle.medium.proofs.Laws.{on_done_keeps}
 use Rattle.handles.specs.declared.Store.{Store}
@@ -127,15 +127,15 @@ module _ {says : List ℕ → Mark} {vol : List ℕ} {m : Medium} {st : Store} {
 -- ---- what `MARKS` says of a point
 
 module _ (vol : List ℕ) (m : Medium) (st : Store) (p : List ℕ) (r : ReaderAnswer) (opened : reader_answer r ≡ reader_call vol m st marks_name) where
-  pub look_absent : {e : Error} {n : ℕ} → r.outcome ≡ No e → n ≡ number_of e → n ≡ 9 → place_answer told.Absent ≡ look_of vol m st p
+  pub look_absent : {e : Error} {n : ℕ} → r.outcome ≡ Err e → n ≡ number_of e → n ≡ 9 → place_answer told.Absent ≡ look_of vol m st p
   unfolding look_of on_ok pick
   look_absent q k h = rw (← opened, q, ← k, h)
 
-  pub look_refused : {e : Error} {n : ℕ} → r.outcome ≡ No e → n ≡ number_of e → eqb n 9 ≡ false → place_answer (told.Refused e) ≡ look_of vol m st p
+  pub look_refused : {e : Error} {n : ℕ} → r.outcome ≡ Err e → n ≡ number_of e → eqb n 9 ≡ false → place_answer (told.Refused e) ≡ look_of vol m st p
   unfolding look_of on_ok pick
   look_refused q k h = rw (← opened, q, ← k, h)
 
-  module _ (q : r.outcome ≡ Done) (w : Walked) (walks : walked_answer w ≡ walk_of (sought_of true p) vol m st r.reader) where
+  module _ (q : r.outcome ≡ Ok tt) (w : Walked) (walks : walked_answer w ≡ walk_of (sought_of true p) vol m st r.reader) where
     walks_on : walked_answer w ≡ walk_of (says_of p) vol m st (reader_call vol m st marks_name).reader
     unfolding sought_of pick
     walks_on = rw (← opened) walks
@@ -156,11 +156,11 @@ module _ (vol : List ℕ) (m : Medium) (st : Store) (p : List ℕ) (r : ReaderAn
 -- ---- where a file ends
 
 module _ (vol : List ℕ) (m : Medium) (st : Store) (name : List ℕ) (r : ReaderAnswer) (opened : reader_answer r ≡ reader_call vol m st name) where
-  pub end_refused : {e : Error} → r.outcome ≡ No e → ended_answer (ended.Refused e) ≡ end_of vol m st name
+  pub end_refused : {e : Error} → r.outcome ≡ Err e → ended_answer (ended.Refused e) ≡ end_of vol m st name
   unfolding end_of on_ok
   end_refused q = rw (← opened, q)
 
-  module _ (q : r.outcome ≡ Done) (p : List ℕ) (w : Walked) (walks : walked_answer w ≡ walk_of (sought_of false p) vol m st r.reader) where
+  module _ (q : r.outcome ≡ Ok tt) (p : List ℕ) (w : Walked) (walks : walked_answer w ≡ walk_of (sought_of false p) vol m st r.reader) where
     walks_past : walked_answer w ≡ walk_of (λ x. Nothing) vol m st (reader_call vol m st name).reader
     unfolding sought_of pick
     walks_past = rw (← opened) walks

@@ -1,5 +1,7 @@
 -- 02, S-1: what `MARKS` says of a point, and where a file's reader finds the end. Both files are read by their readers alone: "the first line of this
 -- form with the name counts; other records and holes are passed over". Order of the tests of the input: 3, 1, 13. Assumes nothing.
+use Rattle.std.specs.Prelude.{Err, Ok, Result}
+use Rattle.medium.specs.declared.Error.{Error}
 use Rattle.std.specs.Prelude.{ℕ, List, eqb, take}
 use Rattle.le.specs.Choice.{pick}
 use Rattle.le.specs.Part.{zeros}
@@ -10,8 +12,6 @@ use Rattle.marks.specs.declared.Mark.TheVariants.{Nothing, At}
 use Rattle.marks.specs.Line.{marks_name, says_of}
 use Rattle.medium.specs.declared.Error.TheVariants.{Point}
 use Rattle.medium.specs.declared.Medium.{Medium}
-use Rattle.medium.specs.declared.Outcome.{Outcome}
-use Rattle.medium.specs.declared.Outcome.TheVariants.{Done, No}
 use Rattle.medium.specs.Refusal.{Answer, ok, refused, on_done, on_ok}
 use Rattle.handles.specs.declared.Store.{Store}
 use Rattle.reader.specs.declared.Reader.{Reader}
@@ -20,8 +20,8 @@ use Rattle.store.specs.Reading.{ReaderCall, reader_call}
 use Rattle.points.specs.declared.Seen.{Seen}
 
 -- 13 comes after what is asked of the store value and the file's name
-unfoldable pub asked_point : Outcome → List ℕ → Outcome
-asked_point o p = on_done o (pick (point_ok p) Done (No Point)) No
+unfoldable pub asked_point : Result Unit Error → List ℕ → Result Unit Error
+asked_point o p = on_done o (pick (point_ok p) (Ok tt) (Err Point)) Err
 
 -- ---- a walk over what a reader gives
 

@@ -15,7 +15,7 @@ ghost use Rattle.points.specs.Reading.{point_answer, no_point, upto_of, point_ca
 use append::Appender;
 use handles::Store;
 use marks::Mark;
-use medium::{Error, Medium, Outcome};
+use medium::{Error, Medium};
 use reader::{Reader, Upto};
 use scan::{end_of, look};
 use store::ReaderAnswer;
@@ -23,7 +23,7 @@ use store::ReaderAnswer;
 // What setting hands back. `opened`: `MARKS` was opened, and `appender` is its own; an appender from before is stale. Else the caller keeps its own.
 #[derive(Clone, Copy)]
 pub struct Marked {
-    pub outcome: Outcome,
+    pub outcome: Result<(), Error>,
     pub number: u32,
     pub opened: bool,
     pub medium: Medium,
@@ -33,7 +33,7 @@ pub struct Marked {
 
 #[derive(Clone, Copy)]
 pub struct UptoAnswer {
-    pub outcome: Outcome,
+    pub outcome: Result<(), Error>,
     pub upto: Upto,
     pub medium: Medium,
 }
@@ -83,19 +83,19 @@ pub enum Ended {
 }
 
 // Refusals 3, 1 and 13; `named`: the file's name passes, where there is one.
-fn asked(volume: &[u8], store: Store, named: bool, point: &[u8]) -> Outcome
+fn asked(volume: &[u8], store: Store, named: bool, point: &[u8]) -> Result<(), Error>
     ensures { result ≡ asked_point (asked_of volume.now store named) point.now }
 {
     if !store.handle_ok(medium::sectors(volume)) {
-        return Outcome::No(Error::Handle);
+        return Err(Error::Handle);
     }
     if !named {
-        return Outcome::No(Error::Name);
+        return Err(Error::Name);
     }
     if !names::point_ok(point) {
-        return Outcome::No(Error::Point);
+        return Err(Error::Point);
     }
-    Outcome::Done
+    Ok(())
 }
 
 // The file read to its end, then the line written; `fresh`: there is no `MARKS` yet.
@@ -132,7 +132,7 @@ pub fn set_point(
         × (marked_answer result ≡ (set_call volume.old medium store point.now name.now).call) }
 {
     let o = asked(&volume[..], store, names::name_ok(name), point);
-    if let Outcome::No(e) = o {
+    if let Err(e) = o {
         return marking::not_set(e, medium, store);
     }
     let p = look(&volume[..], medium, store, point);
@@ -150,7 +150,7 @@ fn no_upto(e: Error, medium: Medium) -> UptoAnswer
 {
     let reader = reader::no_reader();
     UptoAnswer {
-        outcome: Outcome::No(e),
+        outcome: Err(e),
         upto: Upto { reader, limit: 0 },
         medium,
     }
@@ -164,16 +164,16 @@ fn up_to(r: ReaderAnswer, number: u32) -> UptoAnswer
     let reader = r.reader;
     let medium = r.medium;
     match outcome {
-        Outcome::Done => UptoAnswer {
-            outcome: Outcome::Done,
+        Ok(()) => UptoAnswer {
+            outcome: Ok(()),
             upto: Upto {
                 reader,
                 limit: number,
             },
             medium,
         },
-        Outcome::No(e) => UptoAnswer {
-            outcome: Outcome::No(e),
+        Err(e) => UptoAnswer {
+            outcome: Err(e),
             upto: Upto { reader, limit: 0 },
             medium,
         },
@@ -185,7 +185,7 @@ pub fn read_point(volume: &[u8], medium: Medium, store: Store, point: &[u8]) -> 
     ensures { point_answer result ≡ point_call volume.now medium store point.now }
 {
     let o = asked(volume, store, true, point);
-    if let Outcome::No(e) = o {
+    if let Err(e) = o {
         return no_upto(e, medium);
     }
     let p = look(volume, medium, store, point);

@@ -8,7 +8,7 @@ ghost use Rattle.points.specs.Set.{marked_answer, not_set, told_by, open_of, mar
 use super::Marked;
 use append::Handed;
 use handles::Store;
-use medium::{Error, Medium, Outcome};
+use medium::{Error, Medium};
 
 // Refused before `MARKS` is opened: all handles as given, and no appender.
 pub(crate) fn not_set(e: Error, medium: Medium, store: Store) -> Marked
@@ -16,7 +16,7 @@ pub(crate) fn not_set(e: Error, medium: Medium, store: Store) -> Marked
 {
     let appender = append::no_appender();
     Marked {
-        outcome: Outcome::No(e),
+        outcome: Err(e),
         number: 0,
         opened: false,
         medium,
@@ -34,16 +34,16 @@ fn told_by(opened: bool, number: u32, c: Handed) -> Marked
     let store = c.store;
     let appender = c.appender;
     match outcome {
-        Outcome::Done => Marked {
-            outcome: Outcome::Done,
+        Ok(()) => Marked {
+            outcome: Ok(()),
             number,
             opened,
             medium,
             store,
             appender,
         },
-        Outcome::No(e) => Marked {
-            outcome: Outcome::No(e),
+        Err(e) => Marked {
+            outcome: Err(e),
             number: 0,
             opened,
             medium,
@@ -82,14 +82,14 @@ pub(crate) fn mark(
     let length = marks::line(&mut bytes, point, id, number);
     let o = open(volume, medium, store, fresh);
     let done = o.outcome;
-    if let Outcome::No(_) = done {
+    if let Err(_) = done {
         return told_by(false, number, o);
     }
     let a = o
         .appender
         .append(volume, o.medium, o.store, &bytes[0..length]);
     let done = a.outcome;
-    if let Outcome::No(_) = done {
+    if let Err(_) = done {
         return told_by(true, number, a);
     }
     let s = a.appender.sync(volume, a.medium, a.store);

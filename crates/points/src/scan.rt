@@ -7,7 +7,7 @@ ghost use Rattle.points.specs.Told.{sought_of, sight_of, visit_of, walked_answer
 use super::{Ended, Place, Seen, Sight, Turn, Walked};
 use handles::Store;
 use marks::Mark;
-use medium::{Medium, Outcome};
+use medium::{Error, Medium};
 use reader::{Next, Numbered, Reader};
 
 // The most turns of a walk. It ends before: a reader goes forward, and a file has at most 2,048 chunks of 512 records.
@@ -115,7 +115,7 @@ pub(crate) fn look(volume: &[u8], medium: Medium, store: Store, point: &[u8]) ->
 {
     let r = store::reader(volume, medium, store, b"MARKS");
     let o = r.outcome;
-    if let Outcome::No(e) = o {
+    if let Err(e) = o {
         if medium::number(e) == 9 {
             return Place::Absent;
         }
@@ -140,7 +140,7 @@ pub(crate) fn end_of(volume: &[u8], medium: Medium, store: Store, name: &[u8]) -
 {
     let r = store::reader(volume, medium, store, name);
     let o = r.outcome;
-    if let Outcome::No(e) = o {
+    if let Err(e) = o {
         return Ended::Refused(e);
     }
     let w = walk(volume, medium, store, r.reader, false, name);

@@ -1,6 +1,7 @@
 -- Enough is enough: in a history whose generation is not spent, a call with as many writes left as its commit may take is accepted: delete of a file of
 -- the book, delete_oldest of any directory, and create of a new name that its rules take where the book has room. So is a sync with one write left where the chunk has
 -- room, and a format with its writes left. So none of them gives 4. Assumes nothing.
+use Rattle.std.specs.Prelude.{Ok}
 use Prim.Native.Nat.{ℕ, ◌-◌, ◌^◌, ◌≤◌, ◌<◌}
 use mathlib.Core.Path.{◌≡◌, refl, sym, ap, subst, ◌∙◌}
 use mathlib.Core.Logic.{◌⊎◌, inl, inr}
@@ -10,7 +11,6 @@ use mathlib.Core.List.{List, [], ◌∷◌, Memᴰ}
 use Rattle.le.specs.Choice.{pick}
 use Rattle.names.specs.Names.{name_ok, dir_ok}
 use Rattle.medium.specs.declared.Medium.{Medium}
-use Rattle.medium.specs.declared.Outcome.TheVariants.{Done}
 use Rattle.medium.specs.Refusal.{on_done}
 use Rattle.medium.specs.Sector.{sectors_of}
 use Rattle.medium.proofs.Laws.{on_done_done}
@@ -51,7 +51,7 @@ module _ (w : World) (b : Book) (k : Booked w b) (left : ℕ) (can : CanCommit w
   abbrev m : Medium
   m = with_left left w.medium
 
-  asks : (fine : Bool) → fine ≡ true → asked_of w.vol w.store fine ≡ Done
+  asks : (fine : Bool) → fine ≡ true → asked_of w.vol w.store fine ≡ Ok tt
   asks = asked w.vol m w.store k.keeps.layout k.fine k.keeps.whole k.keeps.readable
 
   -- ---- delete of a file of the book
@@ -109,9 +109,9 @@ module _ (w : World) (b : Book) (k : Booked w b) (left : ℕ) (can : CanCommit w
         let f : File = file_of p.name old.id (k.keeps.layout old.slot) in
         (f, rw (← same_files k) (k.keeps.whole.ties.into old.slot p.name old.id p.below p.entry), sym (spares f) ∙ goes_may dir keeping kept f p.goes)
 
-    done : (gone.ans.outcome ≡ Done) × ((any : Bool) × (gone.ans.any ≡ any) × Of any)
+    done : (gone.ans.outcome ≡ Ok tt) × ((any : Bool) × (gone.ans.any ≡ any) × Of any)
     done =
-        ways w.vol m w.store k.keeps.layout k.fine k.keeps.whole k.keeps.readable dir keeping kept (λ (g : GoneOut). (g.ans.outcome ≡ Done) × ((any : Bool) × (g.ans.any ≡ any) × Of any))
+        ways w.vol m w.store k.keeps.layout k.fine k.keeps.whole k.keeps.readable dir keeping kept (λ (g : GoneOut). (g.ans.outcome ≡ Ok tt) × ((any : Bool) × (g.ans.any ≡ any) × Of any))
         (λ old o t. let g = goer w.vol m w.store k.keeps.layout k.fine k.keeps.whole k.keeps.readable can.gens can.writes _ _ old.slot old.id in (g.within.0, (true, g.any, one_may old o t)))
         (λ old o t. (refl, (false, refl, none_may old o t)))
 
@@ -141,7 +141,7 @@ sync_accepted w b k left i writer tail room some one =
 
 -- ---- format of any volume whose headers read, of a size that fits, where the generations there are not spent
 
-pub format_accepted : (w : World) (m : Medium) (size seed : ℕ) → (headers_of w.vol m).outcome ≡ Done → 1 ≤ size → size ≤ 512
+pub format_accepted : (w : World) (m : Medium) (size seed : ℕ) → (headers_of w.vol m).outcome ≡ Ok tt → 1 ≤ size → size ≤ 512
     → (chunks_of (sectors_of w.vol) size ≡ 0 → ⊥) → (newest_of (headers_of w.vol m) ≡ 2 ^ 64 - 1 → ⊥) → commit_most (chunks_of (sectors_of w.vol) size) ≤ m.left
     → Tells w (format m size seed) (formatted ∷ [])
 format_accepted w m size seed headers least most some less enough =

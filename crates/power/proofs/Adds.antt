@@ -1,4 +1,6 @@
 -- Append and sync keep what each commit and record keeps, accepted, refused or stopped, on any volume and with any appender. Assumes nothing.
+use Rattle.std.specs.Prelude.{Err, Ok, Result}
+use Rattle.medium.specs.declared.Error.{Error}
 use Prim.Native.Nat.{ℕ, ◌+◌, ◌<◌}
 use mathlib.Core.Path.{◌≡◌, refl, sym, ap, ◌∙◌, subst}
 use mathlib.Core.Logic.{inl}
@@ -11,8 +13,6 @@ use Rattle.le.proofs.Choices.{pick_keeps, pick_keeps_by}
 use Rattle.le.proofs.Bools.{and_true}
 use Rattle.medium.specs.declared.Error.TheVariants.{Corrupt}
 use Rattle.medium.specs.declared.Medium.{Medium}
-use Rattle.medium.specs.declared.Outcome.{Outcome}
-use Rattle.medium.specs.declared.Outcome.TheVariants.{Done, No}
 use Rattle.medium.specs.Sector.{sectors_of, WriteOut}
 use Rattle.medium.proofs.Laws.{on_done_keeps}
 use Rattle.handles.specs.declared.Store.{Store}
@@ -56,13 +56,13 @@ module _ {P : Skipped → Type 0} {L : List ℕ → Store → Type 0} (rules : L
   KeptIf o = EachStep P o.steps → L o.vol o.ans.store
 
   then_lasts : (o : AppOut) (next : Next) → KeptIf o
-      → (o.ans.outcome ≡ Done → L o.vol o.ans.store → KeptIf (next o.vol o.ans.medium o.ans.store o.ans.appender))
+      → (o.ans.outcome ≡ Ok tt → L o.vol o.ans.store → KeptIf (next o.vol o.ans.medium o.ans.store o.ans.appender))
       → KeptIf (and_then o next)
   then_lasts o next first on = go o.ans.outcome refl
     where
-      go : (r : Outcome) → o.ans.outcome ≡ r → KeptIf (and_then o next)
-      go (No e) q = subst KeptIf (sym (then_no o next q)) first
-      go Done q =
+      go : (r : Result Unit Error) → o.ans.outcome ≡ r → KeptIf (and_then o next)
+      go (Err e) q = subst KeptIf (sym (then_no o next q)) first
+      go (Ok tt) q =
           let x : AppOut = next o.vol o.ans.medium o.ans.store o.ans.appender in
           subst KeptIf (sym (then_done o next q)) (λ each. let p = each_append P o.steps x.steps each in on q (first p.0) p.1)
 
@@ -81,7 +81,7 @@ module _ {P : Skipped → Type 0} {L : List ℕ → Store → Type 0} (rules : L
       abbrev g : GoneOut
       g = remove_oldest_of vol m st (dir_bytes a.dir) (is_open st.writer) (open_id st.writer)
 
-      gone_lasts : (g.ans.outcome ≡ Done → g.ans.any ≡ true → EachSkipped P g.skipped) → L g.vol g.ans.store
+      gone_lasts : (g.ans.outcome ≡ Ok tt → g.ans.any ≡ true → EachSkipped P g.skipped) → L g.vol g.ans.store
       gone_lasts due = (oldest_stays rules Unit vol m st good (l, λ _. tt) (dir_bytes a.dir) (is_open st.writer) (open_id st.writer) due).0
 
       once_lasts : a.position < 32767 → L g.vol g.ans.store

@@ -1,4 +1,5 @@
 -- Append and sync keep what holds between the calls: the bytes go one by one, and a record that fills is written. Assumes nothing.
+use Rattle.std.specs.Prelude.{Err, Ok, Result}
 use Prim.Native.Nat.{ℕ, ◌+◌, ◌<◌}
 use mathlib.Core.Path.{◌≡◌, refl, sym, ap, ap₂, ◌∙◌, subst}
 use mathlib.Core.Bool.{Bool, true, false, not, ◌&&◌, true≢false, false≢true}
@@ -14,8 +15,6 @@ use Rattle.le.proofs.Choices.{pick_keeps, pick_keeps_by, pick_true, pick_false}
 use Rattle.le.proofs.Bools.{and_true}
 use Rattle.medium.specs.declared.Error.{Error}
 use Rattle.medium.specs.declared.Medium.{Medium}
-use Rattle.medium.specs.declared.Outcome.{Outcome}
-use Rattle.medium.specs.declared.Outcome.TheVariants.{Done, No}
 use Rattle.medium.specs.Sector.{sectors_of}
 use Rattle.medium.proofs.Laws.{on_done_keeps}
 use Rattle.handles.specs.declared.Store.{Store}
@@ -94,7 +93,7 @@ append_kept (x ∷ xs) {vol = vol} {m = m} {st = st} {a = a} l s h =
 
 -- refused, the appender is closed
 abbrev Closes : AppOut → Type 0
-Closes o = (e : Error) → o.ans.outcome ≡ No e → is_closed o.ans.appender.tail ≡ true
+Closes o = (e : Error) → o.ans.outcome ≡ Err e → is_closed o.ans.appender.tail ≡ true
 
 byte_closes : (x : ℕ) (vol : List ℕ) (m : Medium) (st : Store) (a : Appender) → Closes (put_byte x vol m st a)
 unfolding put_byte
@@ -129,17 +128,17 @@ sync_closes vol m st a = pick_keeps Closes (eqb a.fill 0) _ _ (λ e q. clash q r
 abbrev world_of : AppOut → World
 world_of o = record { vol = o.vol; store = o.ans.store; appender = o.ans.appender; medium = o.ans.medium }
 
-kept_owns : {t : Terms} {b : Fine} (o : AppOut) (k : Kept t b [] o) → (o.ans.outcome ≡ Done → o.ans.appender.fill < 486) → Closes o
+kept_owns : {t : Terms} {b : Fine} (o : AppOut) (k : Kept t b [] o) → (o.ans.outcome ≡ Ok tt → o.ans.appender.fill < 486) → Closes o
     → is_closed o.ans.appender.tail ≡ false
     → Stands o.vol o.ans.store o.ans.appender k.layout (book_after t o.steps b) [] × (o.ans.appender.fill < 486)
 kept_owns {t} {b} o k room closes c = go o.ans.outcome refl
   where
-    go : (r : Outcome) → o.ans.outcome ≡ r
+    go : (r : Result Unit Error) → o.ans.outcome ≡ r
         → Stands o.vol o.ans.store o.ans.appender k.layout (book_after t o.steps b) [] × (o.ans.appender.fill < 486)
-    go Done q = (k.stands q, room q)
-    go (No e) q = absurd (true≢false (sym (closes e q) ∙ c))
+    go (Ok tt) q = (k.stands q, room q)
+    go (Err e) q = absurd (true≢false (sym (closes e q) ∙ c))
 
-kept_keeps : {t : Terms} {b : Fine} (o : AppOut) → Kept t b [] o → (o.ans.outcome ≡ Done → o.ans.appender.fill < 486) → Closes o → Keeps (world_of o) (book_after t o.steps b)
+kept_keeps : {t : Terms} {b : Fine} (o : AppOut) → Kept t b [] o → (o.ans.outcome ≡ Ok tt → o.ans.appender.fill < 486) → Closes o → Keeps (world_of o) (book_after t o.steps b)
 kept_keeps {t} {b} o k room closes =
     record {
       layout = k.layout;
@@ -154,7 +153,7 @@ kept_keeps {t} {b} o k room closes =
 
 -- ---- refusals 3 and 11
 
-pub may_live : (vol : List ℕ) (st : Store) (a : Appender) → may_write vol st a ≡ Done → live st a ≡ true
+pub may_live : (vol : List ℕ) (st : Store) (a : Appender) → may_write vol st a ≡ Ok tt → live st a ≡ true
 unfolding may_write
 may_live vol st a d = go (store_ok st (sectors_of vol) && appender_ok a st) refl (live st a) refl
   where
@@ -173,7 +172,7 @@ its_own (Open token id) a w e =
 
 module _ {vol : List ℕ} {st : Store} {a : Appender} {G : ℕ → List Segment} {b : Fine} (w : Whole vol st G b) where
   -- an appender that stands is never refused
-  pub stands_may : {rest : List ℕ} → Stands vol st a G b rest → a.fill < 486 → (x : Writer) → st.writer ≡ x → writes x a.token ≡ true → is_closed a.tail ≡ false → may_write vol st a ≡ Done
+  pub stands_may : {rest : List ℕ} → Stands vol st a G b rest → a.fill < 486 → (x : Writer) → st.writer ≡ x → writes x a.token ≡ true → is_closed a.tail ≡ false → may_write vol st a ≡ Ok tt
   unfolding may_write live
   stands_may s h x q y c =
       let p : (store_ok st (sectors_of vol) && appender_ok a st) ≡ true = rw w.inv.ok (stands_passes w s h) in
@@ -181,7 +180,7 @@ module _ {vol : List ℕ} {st : Store} {a : Appender} {G : ℕ → List Segment}
       pick_true _ _ p ∙ pick_true _ _ r
 
   -- so whatever a refused call counts of it does not matter
-  refused_owns : {e : Error} {c : Fine} → may_write vol st a ≡ No e → Owns vol st a G b → Owns vol st a G c
+  refused_owns : {e : Error} {c : Fine} → may_write vol st a ≡ Err e → Owns vol st a G b → Owns vol st a G c
   unfolding writes
   refused_owns {e} {c} n o = record { writes = go st.writer refl o.writes }
     where
@@ -226,7 +225,7 @@ module _ (w : World) (b : Fine) (k : Keeps w b) (left : ℕ) (c : Fine) (rest : 
         size = more.size ∙ k.whole.size;
       }
 
-  module _ (d : may_write w.vol w.store w.appender ≡ Done) where
+  module _ (d : may_write w.vol w.store w.appender ≡ Ok tt) where
     owner : (w.store.writer ≡ Open w.appender.token w.appender.id) × (Stands w.vol w.store w.appender k.layout b [] × (w.appender.fill < 486))
     unfolding live
     owner = its_own w.store.writer w.appender k.owns.writes (may_live w.vol w.store w.appender d)
@@ -262,7 +261,7 @@ module _ (w : World) (b : Fine) (k : Keeps w b) (left : ℕ) (c : Fine) (rest : 
   Stood y = EachStep Distinct y.steps → Keeps (ran_append y).world (book_after terms y.steps c)
 
   -- the work, or nothing
-  offered_stood : (o : AppOut) → (may_write w.vol w.store w.appender ≡ Done → EachStep Distinct o.steps → Keeps (world_of o) (book_after terms o.steps c))
+  offered_stood : (o : AppOut) → (may_write w.vol w.store w.appender ≡ Ok tt → EachStep Distinct o.steps → Keeps (world_of o) (book_after terms o.steps c))
       → Stood (offered w.vol m w.store w.appender o)
   unfolding offered entered_all
   offered_stood o f =

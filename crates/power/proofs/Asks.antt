@@ -1,4 +1,6 @@
 -- What a call that opens a file to append has asked of its input before it works: a name, and where a rollover is set its directory. Assumes nothing.
+use Rattle.std.specs.Prelude.{Ok, Result}
+use Rattle.medium.specs.declared.Error.{Error}
 use Prim.Native.Nat.{ℕ, ◌≤◌}
 use mathlib.Core.Path.{◌≡◌, refl, ap, sym, ◌∙◌}
 use mathlib.Core.Bool.{Bool, true, false, not, ◌||◌, false≢true}
@@ -11,8 +13,6 @@ use Rattle.le.specs.Part.{part, zeros}
 use Rattle.le.proofs.Choices.{pick_keeps_by, pick_true}
 use Rattle.le.proofs.Parts.{length_zeros, part_over}
 use Rattle.le.proofs.Bools.{and_true}
-use Rattle.medium.specs.declared.Outcome.{Outcome}
-use Rattle.medium.specs.declared.Outcome.TheVariants.{Done}
 use Rattle.names.specs.Names.{name_ok, dir_ok}
 use Rattle.names.proofs.Laws.{dir_short}
 use Rattle.files.specs.declared.Rollover.{Rollover}
@@ -24,11 +24,11 @@ use Rattle.store.specs.Opening.{open_fine, rollover_of}
 use Rattle.safe.proofs.Frame.{clash}
 use Rattle.power.specs.Book.{if_set}
 
-pub asked_fine : (vol : List ℕ) (st : Store) (fine : Bool) → asked_of vol st fine ≡ Done → fine ≡ true
+pub asked_fine : (vol : List ℕ) (st : Store) (fine : Bool) → asked_of vol st fine ≡ Ok tt → fine ≡ true
 unfolding asked_of
 asked_fine vol st fine =
-    pick_keeps_by (λ (o : Outcome). o ≡ Done → fine ≡ true) _ _ _
-    (λ h. pick_keeps_by (λ (o : Outcome). o ≡ Done → fine ≡ true) fine _ _ (λ f q. f) (λ f q. clash refl q))
+    pick_keeps_by (λ (o : Result Unit Error). o ≡ Ok tt → fine ≡ true) _ _ _
+    (λ h. pick_keeps_by (λ (o : Result Unit Error). o ≡ Ok tt → fine ≡ true) fine _ _ (λ f q. f) (λ f q. clash refl q))
     (λ h q. clash refl q)
 
 -- the rollover has the directory asked for
@@ -80,7 +80,7 @@ rollover_directed rolls dir passes =
           (rw (rollover_length rolls dir q) short, rw (rollover_dir rolls dir short q) (passes q));
     }
 
-pub asked_opens : (vol : List ℕ) (st : Store) (name : List ℕ) (rolls : Bool) (dir : List ℕ) → asked_of vol st (open_fine name rolls dir) ≡ Done → Opens name rolls dir
+pub asked_opens : (vol : List ℕ) (st : Store) (name : List ℕ) (rolls : Bool) (dir : List ℕ) → asked_of vol st (open_fine name rolls dir) ≡ Ok tt → Opens name rolls dir
 asked_opens vol st name rolls dir q =
     let a = and_true (name_ok name) (not rolls || dir_ok dir) (asked_fine vol st (open_fine name rolls dir) q) in
     record { name_fine = a.0; directed = rollover_directed rolls dir (λ e. set rolls (dir_ok dir) e a.1) }

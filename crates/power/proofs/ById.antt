@@ -1,12 +1,12 @@
 -- S-1: the reader of the file with an id. In a store that the book is kept of it starts in the slot of the book's file with the id, so it gives what that
 -- file's reader gives, and up to a number what stands below it; where no file of the book has the id it is refused with 15. Assumes nothing.
+use Rattle.std.specs.Prelude.{Ok}
 use Prim.Native.Nat.{ℕ}
 use mathlib.Core.Path.{◌≡◌, refl, subst}
 use mathlib.Core.Logic.{◌≢◌}
 use mathlib.Core.Bool.{true}
 use mathlib.Core.List.{List}
 use Rattle.medium.specs.declared.Medium.{Medium}
-use Rattle.medium.specs.declared.Outcome.TheVariants.{Done}
 use Rattle.medium.specs.Refusal.{ok, refused, on_done}
 use Rattle.medium.specs.Sector.{Readable}
 use Rattle.handles.specs.declared.Store.{Store}
@@ -33,7 +33,7 @@ module _ (vol : List ℕ) (m : Medium) (st : Store) (G : ℕ → List Segment) (
     abbrev at : Started vol m st G b w r f
     at = file_starts vol m st G b w r f mem
 
-    pub id_there : reader_of_id_call vol m st f.id ≡ reader_answer (record { outcome = Done; reader = start_of st at.slot f.id at.chain; medium = m })
+    pub id_there : reader_of_id_call vol m st f.id ≡ reader_answer (record { outcome = Ok tt; reader = start_of st at.slot f.id at.chain; medium = m })
     unfolding reader_of_id_call on_done on_found on_chain
     id_there =
         rw (

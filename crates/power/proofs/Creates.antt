@@ -1,4 +1,5 @@
 -- create keeps what holds between the calls: its steps stand, and accepted its appender stands at the start of the file made. Assumes nothing.
+use Rattle.std.specs.Prelude.{Ok}
 use Prim.Native.Nat.{ℕ, zero, suc, ◌+◌, ◌-◌, ◌^◌, ◌<◌}
 use mathlib.Core.Path.{◌≡◌, refl}
 use mathlib.Core.Bool.{Bool, true, false}
@@ -12,7 +13,6 @@ use Rattle.le.proofs.Choices.{pick_keeps_by}
 use Rattle.names.specs.Names.{name_ok}
 use Rattle.medium.specs.declared.Error.{Error}
 use Rattle.medium.specs.declared.Medium.{Medium}
-use Rattle.medium.specs.declared.Outcome.TheVariants.{Done}
 use Rattle.medium.specs.Refusal.{on_done, outcome_of}
 use Rattle.medium.proofs.Laws.{on_done_keeps}
 use Rattle.handles.specs.declared.Store.{Store}
@@ -52,7 +52,7 @@ use Rattle.power.proofs.Rules.{admits_asked, create_by_lem}
 use Rattle.power.proofs.Making.{make_stopped, make_done, made_keeps}
 use Rattle.safe.proofs.Invs.{inv_held}
 
-pub steps_done : (kind : Kind) (o : Out) → o.ans.outcome ≡ Done → steps_of kind o ≡ (record { kind = kind; skipped = o.skipped }) ∷ []
+pub steps_done : (kind : Kind) (o : Out) → o.ans.outcome ≡ Ok tt → steps_of kind o ≡ (record { kind = kind; skipped = o.skipped }) ∷ []
 unfolding steps_of on_done
 steps_done kind o d = rw d refl
 
@@ -84,7 +84,7 @@ module _ (t : Terms) where
 
 module _ (t : Terms) (over : Rollover) (spares : t.spared ≡ none) (directed : Directed over t.dir) (ok : name_ok t.name ≡ true) where
   -- the file is made
-  opened_ends : (w : World) (b : Fine) (o : Out) (slot id chunk : ℕ) → o.ans.outcome ≡ Done
+  opened_ends : (w : World) (b : Fine) (o : Out) (slot id chunk : ℕ) → o.ans.outcome ≡ Ok tt
       → (EachSkipped Distinct o.skipped
       → Keeps (record {
         vol = o.vol;

@@ -1,5 +1,6 @@
 -- create in a history, where the name is new and ids, generations and writes are left. With room for a file more it is accepted, with one step. Without,
 -- with a rollover and a file that may go, the oldest goes first: then there is room, and it is accepted, with two. Assumes nothing.
+use Rattle.std.specs.Prelude.{Ok}
 use Prim.Native.Nat.{ℕ, ◌+◌, ◌-◌, ◌^◌, ◌≤◌}
 use mathlib.Core.Path.{◌≡◌, refl, sym, ap, subst, ◌∙◌}
 use mathlib.Core.Logic.{◌⊎◌}
@@ -14,7 +15,6 @@ use Rattle.le.proofs.Bools.{and_true}
 use Rattle.names.specs.Names.{name_ok, dir_ok}
 use Rattle.names.proofs.Laws.{name_short}
 use Rattle.medium.specs.declared.Medium.{Medium}
-use Rattle.medium.specs.declared.Outcome.TheVariants.{Done}
 use Rattle.medium.specs.Sector.{Readable}
 use Rattle.medium.proofs.Laws.{on_done_done}
 use Rattle.handles.specs.declared.Header.{Header}
@@ -85,7 +85,7 @@ module _ (rules : Rules) (w : World) (left : ℕ) (name : List ℕ) (rolls : Boo
     short : name_ok name ≡ true
     short = (and_true (name_ok name) (not rolls || dir_ok dir) fine).0
 
-    asks : asked_of w.vol w.store (open_fine name rolls dir) ≡ Done
+    asks : asked_of w.vol w.store (open_fine name rolls dir) ≡ Ok tt
     asks = asked w.vol m w.store k.layout b k.whole k.readable (open_fine name rolls dir) fine
 
     call_is : create_by rules w.vol m w.store name rolls dir ≡ call_of (create_of name over w.vol m w.store)
@@ -94,7 +94,7 @@ module _ (rules : Rules) (w : World) (left : ℕ) (name : List ℕ) (rolls : Boo
     -- ---- there is room
 
     module _ (new : (f : File) → Memᴰ f b.files → f.name ≡ name → ⊥) (can : CanCommit w left) (has : HasRoom w (forget b)) where
-      done : (slot chunk : ℕ) → (creation name w.vol m w.store slot chunk).ans.outcome ≡ Done
+      done : (slot chunk : ℕ) → (creation name w.vol m w.store slot chunk).ans.outcome ≡ Ok tt
       done slot chunk =
           (commit_within (Create slot id chunk) name w.vol m w.store k.whole.inv k.readable (create_plain slot id chunk) (name_short name short) can.gens can.writes).0
 
@@ -191,7 +191,7 @@ module _ (rules : Rules) (w : World) (b : Book) (k : Booked w b) (left : ℕ) (n
     ample : 1 + 1 + table_of x.ans.store.head.chunks + 2 ≤ x.ans.medium.left
     ample = rw gone.chunks (omega (arith, gone.within.1, two))
 
-    then_done : (slot chunk : ℕ) → (creation name x.vol x.ans.medium x.ans.store slot chunk).ans.outcome ≡ Done
+    then_done : (slot chunk : ℕ) → (creation name x.vol x.ans.medium x.ans.store slot chunk).ans.outcome ≡ Ok tt
     then_done slot chunk =
         (commit_after (Create slot x.ans.store.head.next_id chunk) name x.vol x.ans.medium x.ans.store went.gone.whole.inv reads
         (create_plain slot x.ans.store.head.next_id chunk) (name_short name (short rules w left name true dir k.keeps allows fine)) fresh

@@ -1,4 +1,5 @@
 -- delete and delete_oldest keep what holds between the calls: their steps stand, whatever the writes left. Assumes nothing.
+use Rattle.std.specs.Prelude.{Err, Ok, Result}
 use Prim.Native.Nat.{ℕ}
 use mathlib.Core.Path.{◌≡◌, refl}
 use mathlib.Core.Bool.{false}
@@ -8,8 +9,6 @@ use Rattle.le.specs.Choice.{pick}
 use Rattle.le.proofs.Choices.{pick_keeps, pick_keeps_by}
 use Rattle.medium.specs.declared.Error.{Error}
 use Rattle.medium.specs.declared.Medium.{Medium}
-use Rattle.medium.specs.declared.Outcome.{Outcome}
-use Rattle.medium.specs.declared.Outcome.TheVariants.{Done, No}
 use Rattle.medium.specs.Refusal.{on_done}
 use Rattle.medium.proofs.Laws.{on_done_keeps}
 use Rattle.handles.specs.declared.Store.{Store}
@@ -92,11 +91,11 @@ module _ (w : World) (b : Fine) (k : Keeps w b) (left : ℕ) where
     idle_keeps : g.ans.any ≡ false → Keeps (left_by w g.vol g.ans.medium g.ans.store) b
     idle_keeps n = go g.ans.outcome refl
       where
-        go : (o : Outcome) → g.ans.outcome ≡ o → Keeps (left_by w g.vol g.ans.medium g.ans.store) b
-        go Done d =
+        go : (o : Result Unit Error) → g.ans.outcome ≡ o → Keeps (left_by w g.vol g.ans.medium g.ans.store) b
+        go (Ok tt) d =
             let x = oldest_none w.vol m w.store k.layout b k.whole k.readable dir (is_open w.store.writer) (open_id w.store.writer) d n in
             rw (x.0, x.1, x.2) same_keeps
-        go (No e) d = unmade_keeps w b k k.readable (oldest_stopped w.vol m w.store k.layout b k.whole k.readable dir (is_open w.store.writer) (open_id w.store.writer) d).0
+        go (Err e) d = unmade_keeps w b k k.readable (oldest_stopped w.vol m w.store k.layout b k.whole k.readable dir (is_open w.store.writer) (open_id w.store.writer) d).0
 
     gone_stood : StoodOld g
     unfolding oldest_told EachStep entered_all entered book.entered

@@ -1,5 +1,7 @@
 -- Where the store value is current, every sector reads and enough writes are left, a commit is done: as many as a commit may take, whatever the other
 -- copy is; and right after another commit as many as it may take then. Assumes nothing.
+use Rattle.std.specs.Prelude.{Ok, Result}
+use Rattle.medium.specs.declared.Error.{Error}
 use Prim.Native.Nat.{ℕ, zero, suc, ◌+◌, ◌-◌, ◌^◌, ◌≤◌, ◌<◌}
 use mathlib.Core.Path.{◌≡◌, refl, sym, ap, subst, ◌∙◌}
 use mathlib.Core.Bool.{Bool, true, false}
@@ -11,8 +13,6 @@ use Rattle.le.specs.Tally.{tally}
 use Rattle.le.proofs.Choices.{pick_keeps, pick_false}
 use Rattle.le.proofs.Tallies.{tally_le, tally_yes, tally_start}
 use Rattle.medium.specs.declared.Medium.{Medium}
-use Rattle.medium.specs.declared.Outcome.{Outcome}
-use Rattle.medium.specs.declared.Outcome.TheVariants.{Done}
 use Rattle.medium.specs.Sector.{Readable, WriteOut}
 use Rattle.medium.proofs.Laws.{on_done_done}
 use Rattle.medium.specs.Frame.{Kept}
@@ -40,8 +40,8 @@ use Rattle.power.proofs.Spends.{write_some}
 use Rattle.power.proofs.FirstCommit.{current_done, commit_is}
 
 -- done, by at most n writes
-abbrev pub Within : ℕ → Medium → Outcome → Medium → Type 0
-Within n m o u = (o ≡ Done) × Most n m u
+abbrev pub Within : ℕ → Medium → Result Unit Error → Medium → Type 0
+Within n m o u = (o ≡ Ok tt) × Most n m u
 
 -- a move that is no refusal
 abbrev Fine : Move → Type 0
@@ -50,30 +50,30 @@ Fine (matched c) = Unit {0}
 Fine (put c bytes) = Unit {0}
 Fine (bad e) = ⊥
 
-act_done : (p : Plan) (mv : Move) (v : List ℕ) (u : Medium) (h : Header) (k : ℕ) → Fine mv → 1 ≤ u.left → (act_of p mv v u h k).ans.outcome ≡ Done
+act_done : (p : Plan) (mv : Move) (v : List ℕ) (u : Medium) (h : Header) (k : ℕ) → Fine mv → 1 ≤ u.left → (act_of p mv v u h k).ans.outcome ≡ Ok tt
 unfolding act_of
 act_done p unread v u h k f l = refl
 act_done p (matched c) v u h k f l = refl
 act_done p (put c bytes) v u h k f l = (write_some v u (base_of p.copy + 1 + k) bytes l).0
 act_done p (bad e) v u h k f l = absurd f
 
-act_unread : (p : Plan) (v : List ℕ) (u : Medium) (h : Header) (k : ℕ) → (act_of p unread v u h k).ans.outcome ≡ Done
+act_unread : (p : Plan) (v : List ℕ) (u : Medium) (h : Header) (k : ℕ) → (act_of p unread v u h k).ans.outcome ≡ Ok tt
 unfolding act_of
 act_unread p v u h k = refl
 
 module _ (p : Plan) (vol : List ℕ) (m : Medium) (good : Good p vol) (fine : (k : ℕ) → k < body_count p → Fine (move_of p vol m k)) (f : ℕ → Bool) (left : Leaves p f) where
   sector_done : (v : List ℕ) (u : Medium) (h : Header) (k : ℕ) → k < body_count p → Kept (target p) 25 vol v → u.unreadable ≡ m.unreadable
-      → (f k ≡ true → 1 ≤ u.left) → (body_sector_of p v u h k).ans.outcome ≡ Done
+      → (f k ≡ true → 1 ≤ u.left) → (body_sector_of p v u h k).ans.outcome ≡ Ok tt
   unfolding body_sector_of
   sector_done v u h k l kept same some = go (f k) refl
     where
-      go : (t : Bool) → f k ≡ t → (act_of p (move_of p v u k) v u h k).ans.outcome ≡ Done
+      go : (t : Bool) → f k ≡ t → (act_of p (move_of p v u k) v u h k).ans.outcome ≡ Ok tt
       go true e =
           act_done p (move_of p v u k) v u h k (subst Fine (sym (move_before p vol good k (omega (arith, good.chunks)) kept m u same)) (fine k l)) (some e)
       go false e = ap (λ (mv : Move). (act_of p mv v u h k).ans.outcome) (left k e v u) ∙ act_unread p v u h k
 
   body_done : (n k : ℕ) (v : List ℕ) (u : Medium) (h : Header) → k + n ≤ body_count p → Kept (target p) 25 vol v → u.unreadable ≡ m.unreadable
-      → tally f (k + n) ≤ u.left + tally f k → (body_from p n k v u h).ans.outcome ≡ Done
+      → tally f (k + n) ≤ u.left + tally f k → (body_from p n k v u h).ans.outcome ≡ Ok tt
   unfolding body_from
   body_done zero k v u h fits kept same l = refl
   body_done (suc n) k v u h fits kept same l =
@@ -88,7 +88,7 @@ module _ (p : Plan) (vol : List ℕ) (m : Medium) (good : Good p vol) (fine : (k
       (body_done n (k + 1) s.vol s.ans.medium s.ans.head (omega arith) (kept_more kept (kept_wide (omega arith) (omega arith) stays.frame))
       (stays.medium.unreadable ∙ same) (omega (arith, one, enough)))
 
-  copy_done : tally f (body_count p) + 2 ≤ m.left → (copy_out p vol m).ans.outcome ≡ Done
+  copy_done : tally f (body_count p) + 2 ≤ m.left → (copy_out p vol m).ans.outcome ≡ Ok tt
   unfolding copy_out last_of
   copy_done l =
       let z : WriteOut = first_of p vol m in
@@ -116,7 +116,7 @@ module _ (edit : Edit) (name vol : List ℕ) (m : Medium) (st : Store) (inv : In
       (pick_keeps Fine _ _ _ tt (subst Fine (sym (on_done_done _ _ (inv_check vol m st inv r k l))) (due_fine k _)))
 
   module _ (short : length name ≤ 40) (less : st.head.generation ≡ 2 ^ 64 - 1 → ⊥) where
-    commit_done : (f : ℕ → Bool) → Leaves (plan_of edit name vol m st) f → tally f (body_of st.head.chunks) + 2 ≤ m.left → (commit_of edit name vol m st).ans.outcome ≡ Done
+    commit_done : (f : ℕ → Bool) → Leaves (plan_of edit name vol m st) f → tally f (body_of st.head.chunks) + 2 ≤ m.left → (commit_of edit name vol m st).ans.outcome ≡ Ok tt
     unfolding commit_plan head_after
     commit_done f left l =
         let good = plan_good edit name vol m st inv.ok inv.range.count short in

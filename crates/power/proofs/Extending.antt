@@ -1,4 +1,5 @@
 -- Another chunk for an appender's file, found free or made free by a rollover; stopped anywhere, the steps made stand. Assumes nothing.
+use Rattle.std.specs.Prelude.{Ok}
 use Prim.Native.Nat.{ℕ}
 use mathlib.Core.Path.{◌≡◌, refl}
 use mathlib.Core.Bool.{Bool}
@@ -9,7 +10,6 @@ use Rattle.le.proofs.Choices.{pick_keeps, pick_keeps_by}
 use Rattle.medium.specs.declared.Error.{Error}
 use Rattle.medium.specs.declared.Error.TheVariants.{Corrupt, Full}
 use Rattle.medium.specs.declared.Medium.{Medium}
-use Rattle.medium.specs.declared.Outcome.TheVariants.{Done}
 use Rattle.medium.proofs.Laws.{on_done_keeps}
 use Rattle.handles.specs.declared.Store.{Store}
 use Rattle.handles.specs.Handles.{is_open, open_id}
@@ -34,7 +34,7 @@ use Rattle.power.proofs.Rolling.{rolled_kept}
 -- ---- accepted, the appender moved to the chunk and is otherwise as it was
 
 abbrev pub Moves : Appender → AppOut → Type 0
-Moves a o = o.ans.outcome ≡ Done → (c : ℕ) × (o.ans.appender ≡ moved_to c a)
+Moves a o = o.ans.outcome ≡ Ok tt → (c : ℕ) × (o.ans.appender ≡ moved_to c a)
 
 module _ (vol : List ℕ) (m : Medium) (st : Store) (a : Appender) (partial : Bool) (records : ℕ) where
   link_moves : (v : List ℕ) (u : Medium) (s : Store) (c : ℕ) → Moves a (link_out v u s a partial records c)

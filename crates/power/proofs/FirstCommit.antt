@@ -1,5 +1,6 @@
 -- A commit where the other copy is none of this store, as after a format: it is done where enough writes are left, and then leaves no body sector
 -- unwritten; with fewer it is refused with 4. And with one write left no commit is done. Assumes nothing.
+use Rattle.std.specs.Prelude.{Err, Ok}
 use Prim.Native.Nat.{ℕ, ◌+◌, ◌-◌, ◌^◌, ◌≤◌, ◌<◌}
 use mathlib.Core.Path.{◌≡◌, refl, ap, ◌∙◌}
 use mathlib.Core.Bool.{Bool, true, false, not, ◌&&◌}
@@ -12,7 +13,6 @@ use Rattle.le.proofs.Choices.{pick_true, pick_false, pick_keeps}
 use Rattle.checksum.specs.Crc.{crc32_of}
 use Rattle.medium.specs.declared.Error.TheVariants.{Media}
 use Rattle.medium.specs.declared.Medium.{Medium}
-use Rattle.medium.specs.declared.Outcome.TheVariants.{Done, No}
 use Rattle.medium.proofs.Laws.{on_done_keeps, on_done_done}
 use Rattle.handles.specs.declared.Header.{Header}
 use Rattle.handles.specs.declared.Store.{Store}
@@ -60,7 +60,7 @@ module _ (edit : Edit) (name vol : List ℕ) (m : Medium) (st : Store) (inv : In
   unfolding is_current taken_of
   is_current_lem = rw (current, eq-eqb st.copy st.copy refl) (same_head_lem st.head)
 
-  pub current_done : ((current_of vol m).outcome ≡ Done) × (is_current (current_of vol m) st ≡ true)
+  pub current_done : ((current_of vol m).outcome ≡ Ok tt) × (is_current (current_of vol m) st ≡ true)
   unfolding taken_of
   current_done = (ap (λ (c : Current). c.outcome) current, is_current_lem)
 
@@ -98,11 +98,11 @@ module _ (edit : Edit) (name vol : List ℕ) (m : Medium) (st : Store) (inv : In
       )
 
       module _ (short : length name ≤ 40) (less : st.head.generation ≡ 2 ^ 64 - 1 → ⊥) where
-        pub commit_enough : body_of st.head.chunks + 2 ≤ m.left → ((commit_of edit name vol m st).ans.outcome ≡ Done) × ((commit_of edit name vol m st).skipped ≡ [])
+        pub commit_enough : body_of st.head.chunks + 2 ≤ m.left → ((commit_of edit name vol m st).ans.outcome ≡ Ok tt) × ((commit_of edit name vol m st).skipped ≡ [])
         unfolding commit_plan head_after
         commit_enough l = rw (commit_is less) (copy_enough plan vol m (plan_good edit name vol m st inv.ok inv.range.count short) all_put l)
 
-        pub commit_short : m.left < body_of st.head.chunks + 2 → (commit_of edit name vol m st).ans.outcome ≡ No Media
+        pub commit_short : m.left < body_of st.head.chunks + 2 → (commit_of edit name vol m st).ans.outcome ≡ Err Media
         unfolding commit_plan head_after
         commit_short l = rw (commit_is less) (copy_short plan vol m (plan_good edit name vol m st inv.ok inv.range.count short) all_put l)
 
@@ -116,7 +116,7 @@ module _ (p : Plan) (vol : List ℕ) (m : Medium) (good : Good p vol) (few : m.l
   b = body_from p (body_count p) 0 z.vol z.ans.medium p.head
 
   -- the first write takes it
-  none_left : z.ans.outcome ≡ Done → b.ans.medium.left ≡ 0
+  none_left : z.ans.outcome ≡ Ok tt → b.ans.medium.left ≡ 0
   none_left q =
       let first : Kept (target p) 1 vol z.vol = write_kept vol m (target p) p.first good.first (omega (arith, base_most p.copy, good.enough)) in
       let l = body_left p vol m good (body_count p) 0 z.vol z.ans.medium p.head (omega (arith, good.chunks)) (kept_wide (omega arith) (omega arith) first)
@@ -125,7 +125,7 @@ module _ (p : Plan) (vol : List ℕ) (m : Medium) (good : Good p vol) (few : m.l
       (λ e. clash (write_media vol m (target p) p.first e) q)
       (λ e. omega (arith, l.stays.medium.left, (write_some vol m (target p) p.first (omega (arith, e))).1, few))
 
-  copy_few : (copy_out p vol m).ans.outcome ≡ Done → ⊥
+  copy_few : (copy_out p vol m).ans.outcome ≡ Ok tt → ⊥
   unfolding copy_out last_of
   copy_few =
       on_done_keeps NotDone z.ans.outcome _ _
@@ -135,9 +135,9 @@ module _ (p : Plan) (vol : List ℕ) (m : Medium) (good : Good p vol) (few : m.l
       (λ e _. clash refl)
     where
       NotDone : Out → Type 0
-      NotDone o = o.ans.outcome ≡ Done → ⊥
+      NotDone o = o.ans.outcome ≡ Ok tt → ⊥
 
-pub commit_few : (edit : Edit) (name vol : List ℕ) (m : Medium) (st : Store) → Inv vol st → length name ≤ 40 → m.left ≤ 1 → (commit_of edit name vol m st).ans.outcome ≡ Done → ⊥
+pub commit_few : (edit : Edit) (name vol : List ℕ) (m : Medium) (st : Store) → Inv vol st → length name ≤ 40 → m.left ≤ 1 → (commit_of edit name vol m st).ans.outcome ≡ Ok tt → ⊥
 unfolding commit_of commit_plan head_after
 commit_few edit name vol m st inv short few =
     on_done_keeps NotDone (current_of vol m).outcome _ _
@@ -146,7 +146,7 @@ commit_few edit name vol m st inv short few =
     (λ e _. clash refl)
   where
     NotDone : Out → Type 0
-    NotDone o = o.ans.outcome ≡ Done → ⊥
+    NotDone o = o.ans.outcome ≡ Ok tt → ⊥
 
     good : Good (plan_of edit name vol m st) vol
     good = plan_good edit name vol m st inv.ok inv.range.count short

@@ -1,5 +1,6 @@
 -- The first create after a format: where enough writes are left it is accepted, with one step that leaves no sector unwritten; with fewer it is refused
 -- with 4, and makes no step. Assumes nothing.
+use Rattle.std.specs.Prelude.{Ok}
 use Prim.Native.Nat.{ℕ, ◌+◌, ◌-◌, ◌%◌, ◌^◌, ◌≤◌, ◌<◌, zero-le}
 use mathlib.Core.Path.{◌≡◌, refl, sym, ap, subst, ◌∙◌}
 use mathlib.Core.Bool.{Bool, true, false}
@@ -13,7 +14,6 @@ use Rattle.le.proofs.Choices.{pick_false, pick_keeps_by}
 use Rattle.names.specs.Names.{name_ok}
 use Rattle.names.proofs.Laws.{name_short}
 use Rattle.medium.specs.declared.Medium.{Medium}
-use Rattle.medium.specs.declared.Outcome.TheVariants.{Done}
 use Rattle.medium.specs.Refusal.{refused}
 use Rattle.medium.proofs.Laws.{on_done_no, on_done_done}
 use Rattle.medium.specs.Sector.{Readable}
@@ -143,7 +143,7 @@ module _ (vol : List ℕ) (m : Medium) (st : Store) (inv : Inv vol st) (map : Ma
     not_format = refl
 
     module _ (rules : Rules) (rolls : Bool) (dir : List ℕ) (allows : Allows rules name) (set : open_fine name rolls dir ≡ true) where
-      asked : asked_of vol st (open_fine name rolls dir) ≡ Done
+      asked : asked_of vol st (open_fine name rolls dir) ≡ Ok tt
       unfolding asked_of pick
       asked = rw (inv.ok, set)
 

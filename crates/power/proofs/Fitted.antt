@@ -1,4 +1,5 @@
 -- S-3: each commit, record, mount and format keeps that a fit map tells the table of the store's own copy, on any volume of bytes. Assumes nothing.
+use Rattle.std.specs.Prelude.{Err, Ok, Result}
 use Prim.Native.Nat.{ℕ, ◌+◌, ◌-◌, ◌^◌, ◌<◌, ◌≤◌}
 use mathlib.Core.Path.{◌≡◌, refl, sym, ap, ◌∙◌, subst}
 use mathlib.Core.Bool.{true, false, true≢false, false≢true}
@@ -8,8 +9,6 @@ use lib.ListN.{length}
 use Rattle.le.proofs.Parts.{length_zeros}
 use Rattle.medium.specs.declared.Error.{Error}
 use Rattle.medium.specs.declared.Medium.{Medium}
-use Rattle.medium.specs.declared.Outcome.{Outcome}
-use Rattle.medium.specs.declared.Outcome.TheVariants.{Done, No}
 use Rattle.medium.specs.Refusal.{outcome_of}
 use Rattle.medium.specs.Sector.{sectors_of, sector_at}
 use Rattle.medium.proofs.Laws.{on_done_keeps}
@@ -68,18 +67,18 @@ none_fitted : (vol : List ℕ) → Ranged vol → Fitted vol no_store
 unfolding no_store blank_of unfit_of
 none_fitted vol r = record { ranged = r; count = length_zeros 24; ok = ok_unfit 0; stands = λ f. absurd (false≢true f); map = λ f. absurd (false≢true f) }
 
-mount_none : (vol : List ℕ) (m : Medium) {e : Error} → (mount_of vol m).outcome ≡ No e → (mount_call vol m).store ≡ no_store
+mount_none : (vol : List ℕ) (m : Medium) {e : Error} → (mount_of vol m).outcome ≡ Err e → (mount_call vol m).store ≡ no_store
 unfolding mount_call mount_of
 mount_none vol m {e} q =
     on_done_keeps (λ (s : Store). s ≡ no_store) (mount_of vol m).outcome _ _ (λ d. clash q d)
-    (λ _ _. on_done_keeps (λ (r : Mounted). r.outcome ≡ No e → r.store ≡ no_store) (current_of vol m).outcome _ _ (λ _ z. clash z refl) (λ _ _ _. refl) q)
+    (λ _ _. on_done_keeps (λ (r : Mounted). r.outcome ≡ Err e → r.store ≡ no_store) (current_of vol m).outcome _ _ (λ _ z. clash z refl) (λ _ _ _. refl) q)
 
 pub mount_fitted : (vol : List ℕ) (m : Medium) → Ranged vol → Fitted vol (mount_call vol m).store
 mount_fitted vol m r = go (mount_of vol m).outcome refl
   where
-    go : (o : Outcome) → (mount_of vol m).outcome ≡ o → Fitted vol (mount_call vol m).store
-    go (No e) q = subst (Fitted vol) (sym (mount_none vol m q)) (none_fitted vol r)
-    go Done q =
+    go : (o : Result Unit Error) → (mount_of vol m).outcome ≡ o → Fitted vol (mount_call vol m).store
+    go (Err e) q = subst (Fitted vol) (sym (mount_none vol m q)) (none_fitted vol r)
+    go (Ok tt) q =
         let s : Stands vol (mount_call vol m).store.copy (mount_call vol m).store.head = rw (call_store vol m q) (mount_stands vol m q).1 in
         record {
           ranged = r;
@@ -134,9 +133,9 @@ unformatted : (vol : List ℕ) (m : Medium) (size seed : ℕ) (st : Store) → i
 unfolding format_call
 unformatted vol m size seed st n h = go (format_of size seed vol m).ans.outcome refl
   where
-    go : (o : Outcome) → (format_of size seed vol m).ans.outcome ≡ o → Fitted (format_of size seed vol m).vol st
-    go Done q = absurd (true≢false (ap (λ (x : Outcome). is_ok (outcome_of x)) (sym q) ∙ n))
-    go (No e) q =
+    go : (o : Result Unit Error) → (format_of size seed vol m).ans.outcome ≡ o → Fitted (format_of size seed vol m).vol st
+    go (Ok tt) q = absurd (true≢false (ap (λ (x : Result Unit Error). is_ok (outcome_of x)) (sym q) ∙ n))
+    go (Err e) q =
         let f : FormatStopped vol m (format_of size seed vol m) = format_stopped size seed vol m q in
         still (f.ranged h.ranged) (f.stands st) (f.body st) h
 
@@ -160,7 +159,7 @@ module _ (edit : Edit) (name vol : List ℕ) (m : Medium) (st : Store) (good : G
   abbrev out : Out
   out = commit_of edit name vol m st
 
-  unmade : Fitted vol st → {e : Error} → out.ans.outcome ≡ No e → Fitted out.vol out.ans.store
+  unmade : Fitted vol st → {e : Error} → out.ans.outcome ≡ Err e → Fitted out.vol out.ans.store
   unmade h {e} q =
       let copy = (store_facts st (sectors_of vol) good.ok).copy in
       let two : st.copy + (1 - st.copy) ≡ 1 = omega arith in
@@ -169,7 +168,7 @@ module _ (edit : Edit) (name vol : List ℕ) (m : Medium) (st : Store) (good : G
       (still (ranged_stopped (1 - st.copy) (omega arith) b.0 b.1 h.ranged) (λ s. stands_beside (1 - st.copy) s two b.0 b.1)
       (λ _. body_beside st.copy (1 - st.copy) two b.0) h)
 
-  made : Suits edit st → is_format edit ≡ false → Fitted vol st → out.ans.outcome ≡ Done → EachSkipped Honest out.skipped → Fitted out.vol out.ans.store
+  made : Suits edit st → is_format edit ≡ false → Fitted vol st → out.ans.outcome ≡ Ok tt → EachSkipped Honest out.skipped → Fitted out.vol out.ans.store
   made suits plain h accepted each =
       let c = commit_copies edit name vol m st accepted in
       let s : Stands vol st.copy st.head = own_stands vol m st c.0 c.1 in

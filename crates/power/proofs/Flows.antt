@@ -1,13 +1,12 @@
 -- What holds inside a call on an open appender, whatever happened so far: the steps that were made stand in the book, and an accepted part leaves the
 -- appender at the end of its file. One rule then serves one part after the other. Assumes nothing.
+use Rattle.std.specs.Prelude.{Err, Ok, Result}
 use Prim.Native.Nat.{ℕ}
 use mathlib.Core.Path.{◌≡◌, refl, sym, ap, ◌∙◌, subst}
 use mathlib.Core.Option.{some}
 use mathlib.Core.List.{List}
 use Rattle.medium.specs.declared.Error.{Error}
 use Rattle.medium.specs.declared.Medium.{Medium}
-use Rattle.medium.specs.declared.Outcome.{Outcome}
-use Rattle.medium.specs.declared.Outcome.TheVariants.{Done, No}
 use Rattle.medium.specs.Sector.{Readable}
 use Rattle.handles.specs.declared.Store.{Store}
 use Rattle.handles.specs.declared.Writer.TheVariants.{Open}
@@ -48,7 +47,7 @@ unmade_live l n =
 pub record Kept (t : Terms) (b : Fine) (rest : List ℕ) (o : AppOut) : Type 0 where
   pub layout : ℕ → List Segment
   pub live : Live t o.vol o.ans.medium o.ans.store o.ans.appender layout (book_after t o.steps b)
-  pub stands : o.ans.outcome ≡ Done → Stands o.vol o.ans.store o.ans.appender layout (book_after t o.steps b) rest
+  pub stands : o.ans.outcome ≡ Ok tt → Stands o.vol o.ans.store o.ans.appender layout (book_after t o.steps b) rest
 
 -- under the premise on its steps
 abbrev pub KeptIf : Terms → Fine → List ℕ → AppOut → Type 0
@@ -81,21 +80,21 @@ GoesOn t b mid rest o next =
     → Kept t (book_after t o.steps b) rest (next o.vol o.ans.medium o.ans.store o.ans.appender)
 
 module _ {t : Terms} {b : Fine} {mid rest : List ℕ} (o : AppOut) (next : Next) where
-  ended : {e : Error} → o.ans.outcome ≡ No e → Kept t b mid o → Kept t b rest (and_then o next)
+  ended : {e : Error} → o.ans.outcome ≡ Err e → Kept t b mid o → Kept t b rest (and_then o next)
   ended q k = subst (Kept t b rest) (sym (then_no o next q)) (record { layout = k.layout; live = k.live; stands = λ d. clash q d })
 
-  went_on : o.ans.outcome ≡ Done → Kept t b mid o → GoesOn t b mid rest o next
+  went_on : o.ans.outcome ≡ Ok tt → Kept t b mid o → GoesOn t b mid rest o next
       → EachStep Distinct (next o.vol o.ans.medium o.ans.store o.ans.appender).steps → Kept t b rest (and_then o next)
   went_on q k on each =
       let x : AppOut = next o.vol o.ans.medium o.ans.store o.ans.appender in
       subst (Kept t b rest) (sym (then_done o next q)) (kept_after o.steps x (on k.layout k.live (k.stands q) each))
 
-  pub kept_then : KeptIf t b mid o → (o.ans.outcome ≡ Done → GoesOn t b mid rest o next) → KeptIf t b rest (and_then o next)
+  pub kept_then : KeptIf t b mid o → (o.ans.outcome ≡ Ok tt → GoesOn t b mid rest o next) → KeptIf t b rest (and_then o next)
   kept_then first on each = go o.ans.outcome refl
     where
-      go : (r : Outcome) → o.ans.outcome ≡ r → Kept t b rest (and_then o next)
-      go (No e) q = ended q (first (subst (λ (x : AppOut). EachStep Distinct x.steps) (then_no o next q) each))
-      go Done q =
+      go : (r : Result Unit Error) → o.ans.outcome ≡ r → Kept t b rest (and_then o next)
+      go (Err e) q = ended q (first (subst (λ (x : AppOut). EachStep Distinct x.steps) (then_no o next q) each))
+      go (Ok tt) q =
           let x : AppOut = next o.vol o.ans.medium o.ans.store o.ans.appender in
           let p = each_append Distinct o.steps x.steps (subst (λ (y : AppOut). EachStep Distinct y.steps) (then_done o next q) each) in
           went_on q (first p.0) (on q) p.1

@@ -1,4 +1,5 @@
 -- A flush of a ready buffer: the record, with another chunk where it needs one; refused, it closes the appender. Assumes nothing.
+use Rattle.std.specs.Prelude.{Err}
 use Prim.Native.Nat.{ℕ, ◌≤◌}
 use mathlib.Core.Path.{◌≡◌, refl, ap, ◌∙◌, subst}
 use mathlib.Core.Bool.{Bool, true, false}
@@ -11,7 +12,6 @@ use Rattle.le.proofs.Choices.{pick_keeps_by}
 use Rattle.medium.specs.declared.Error.{Error}
 use Rattle.medium.specs.declared.Error.TheVariants.{Stale}
 use Rattle.medium.specs.declared.Medium.{Medium}
-use Rattle.medium.specs.declared.Outcome.TheVariants.{No}
 use Rattle.medium.proofs.Laws.{on_done_keeps}
 use Rattle.handles.specs.declared.Store.{Store}
 use Rattle.append.specs.declared.Appender.{Appender}
@@ -85,8 +85,8 @@ module _ {t : Terms} {vol : List ℕ} {m : Medium} {st : Store} {a : Appender} {
           }
 
 -- refused, it is closed
-pub flush_closes : (vol : List ℕ) (m : Medium) (st : Store) (a : Appender) (e : Error) → (flush_of vol m st a).ans.outcome ≡ No e → is_closed (flush_of vol m st a).ans.appender.tail ≡ true
+pub flush_closes : (vol : List ℕ) (m : Medium) (st : Store) (a : Appender) (e : Error) → (flush_of vol m st a).ans.outcome ≡ Err e → is_closed (flush_of vol m st a).ans.appender.tail ≡ true
 unfolding flush_of is_closed
 flush_closes vol m st a e =
-    on_done_keeps (λ (o : AppOut). o.ans.outcome ≡ No e → is_closed o.ans.appender.tail ≡ true) (write_out vol m st a).ans.outcome _ _
+    on_done_keeps (λ (o : AppOut). o.ans.outcome ≡ Err e → is_closed o.ans.appender.tail ≡ true) (write_out vol m st a).ans.outcome _ _
     (λ d q. clash q d) (λ x _ q. refl)

@@ -1,4 +1,5 @@
 -- Format keeps the invariant: refused it leaves what there was, accepted an empty store with an empty book. Assumes nothing.
+use Rattle.std.specs.Prelude.{Err, Ok, Result}
 use Prim.Native.Nat.{ℕ}
 use mathlib.Core.Path.{◌≡◌, refl, sym, subst, ◌∙◌}
 use mathlib.Core.Bool.{true}
@@ -6,8 +7,6 @@ use mathlib.Core.List.{List, [], ◌∷◌}
 use Rattle.le.specs.Choice.{pick}
 use Rattle.medium.specs.declared.Error.{Error}
 use Rattle.medium.specs.declared.Medium.{Medium}
-use Rattle.medium.specs.declared.Outcome.{Outcome}
-use Rattle.medium.specs.declared.Outcome.TheVariants.{Done, No}
 use Rattle.medium.specs.Refusal.{on_done}
 use Rattle.handles.specs.declared.Store.{Store}
 use Rattle.plan.specs.Copy.{formatted, Out, steps_of}
@@ -55,19 +54,19 @@ module _ (m : Medium) (size seed : ℕ) (w : World) (b : Fine) where
   abbrev left : Store → World
   left st = record { vol = out.vol; store = st; appender = w.appender; medium = out.ans.medium }
 
-  refused_world : {e : Error} → out.ans.outcome ≡ No e → (ran w (format m size seed)).world ≡ left w.store
+  refused_world : {e : Error} → out.ans.outcome ≡ Err e → (ran w (format m size seed)).world ≡ left w.store
   unfolding ran format_call if_ok
   refused_world q = rw q
 
-  made_world : out.ans.outcome ≡ Done → (ran w (format m size seed)).world ≡ left out.ans.store
+  made_world : out.ans.outcome ≡ Ok tt → (ran w (format m size seed)).world ≡ left out.ans.store
   unfolding ran format_call if_ok
   made_world q = rw q
 
-  refused_book : {e : Error} → out.ans.outcome ≡ No e → written (format m size seed) (fed_by w (format m size seed)) b ≡ b
+  refused_book : {e : Error} → out.ans.outcome ≡ Err e → written (format m size seed) (fed_by w (format m size seed)) b ≡ b
   unfolding written fed_by ran format_call steps_of on_done entered_all before_steps book.before_steps after_steps book.after_steps pick
   refused_book q = rw q
 
-  pub format_run : out.ans.outcome ≡ Done
+  pub format_run : out.ans.outcome ≡ Ok tt
       → ((ran w (format m size seed)).accepted ≡ true) × ((ran w (format m size seed)).steps ≡ (record { kind = formatted; skipped = out.skipped }) ∷ [])
   unfolding ran format_call steps_of on_done
   format_run q = rw q (refl, refl)
@@ -75,11 +74,11 @@ module _ (m : Medium) (size seed : ℕ) (w : World) (b : Fine) where
   abbrev emptied : Fine
   emptied = record { next = 1; files = []; file = b.file; rollover = b.rollover; unwritten = b.unwritten; parts = b.parts; ids = 1; size = size }
 
-  pub made_book : out.ans.outcome ≡ Done → written (format m size seed) (fed_by w (format m size seed)) b ≡ emptied
+  pub made_book : out.ans.outcome ≡ Ok tt → written (format m size seed) (fed_by w (format m size seed)) b ≡ emptied
   unfolding written fed_by ran format_call steps_of on_done entered_all entered book.entered before_steps book.before_steps after_steps book.after_steps pick
   made_book q = rw q
 
-  accepted : out.ans.outcome ≡ Done → is_ok (format_call w.vol m size seed).call.answer ≡ true
+  accepted : out.ans.outcome ≡ Ok tt → is_ok (format_call w.vol m size seed).call.answer ≡ true
   unfolding format_call
   accepted q = rw q
 
@@ -87,9 +86,9 @@ module _ (m : Medium) (size seed : ℕ) (w : World) (b : Fine) where
   unfolding format_call
   store_is = refl
 
-  by_outcome : (o : Outcome) → out.ans.outcome ≡ o → Keeps w b → Given w (format m size seed) → Keeps (ran w (format m size seed)).world (written (format m size seed) (fed_by w (format m size seed)) b)
+  by_outcome : (o : Result Unit Error) → out.ans.outcome ≡ o → Keeps w b → Given w (format m size seed) → Keeps (ran w (format m size seed)).world (written (format m size seed) (fed_by w (format m size seed)) b)
   unfolding Given
-  by_outcome (No e) q k g =
+  by_outcome (Err e) q k g =
       let f : FormatStopped w.vol m out = format_stopped size seed w.vol m q in
       let u : Unchanged (disk_of w.vol w.store) (disk_of out.vol w.store) = format_unchanged k.whole.inv f in
       rw (refused_world q, refused_book q)
@@ -99,7 +98,7 @@ module _ (m : Medium) (size seed : ℕ) (w : World) (b : Fine) where
         owns = owns_same u refl k.owns;
         readable = readable_still w.vol out.vol f.used f.size g.0;
       })
-  by_outcome Done q k g =
+  by_outcome (Ok tt) q k g =
       let f : FormatMade size w.vol m out = format_again size seed w.vol m k.whole.inv q in
       rw (made_world q, made_book q)
       (record {

@@ -1,5 +1,6 @@
 -- The oldest file of a directory removed, where one may go and enough writes and generations are left: it goes, and with it a file and its chunks.
 -- Assumes nothing.
+use Rattle.std.specs.Prelude.{Ok}
 use Prim.Native.Nat.{ℕ, ◌+◌, ◌-◌, ◌^◌, ◌≤◌, ◌<◌}
 use mathlib.Core.Path.{◌≡◌, refl, sym, ap, subst, ◌∙◌}
 use mathlib.Core.Bool.{Bool, true}
@@ -7,7 +8,6 @@ use mathlib.Core.List.{List, [], Memᴰ}
 use lib.Dec.{lit≤}
 use lib.ListN.{length}
 use Rattle.medium.specs.declared.Medium.{Medium}
-use Rattle.medium.specs.declared.Outcome.TheVariants.{Done}
 use Rattle.medium.specs.Sector.{Readable}
 use Rattle.medium.proofs.Laws.{on_done_done}
 use Rattle.handles.specs.declared.Header.{Header}
@@ -49,7 +49,7 @@ module _ (vol : List ℕ) (m : Medium) (st : Store) (G : ℕ → List Segment) (
 
   pub remove_is : (slot id : ℕ) → remove_of vol m st slot id ≡ record {
     vol = (commit slot).vol;
-    ans = record { outcome = Done; medium = (commit slot).ans.medium; store = closed_for id (commit slot).ans.store };
+    ans = record { outcome = Ok tt; medium = (commit slot).ans.medium; store = closed_for id (commit slot).ans.store };
     skipped = (commit slot).skipped;
   }
   unfolding remove_of

@@ -1,5 +1,6 @@
 -- A sync in a history whose record takes another chunk. Where one is free it is linked and the record written; where none is, with a rollover and a file
 -- that may go, the oldest goes first. Assumes nothing.
+use Rattle.std.specs.Prelude.{Ok}
 use Prim.Native.Nat.{ℕ, ◌+◌, ◌-◌, ◌^◌, ◌≤◌, ◌<◌}
 use mathlib.Core.Path.{◌≡◌, refl, sym, ap, subst, ◌∙◌}
 use mathlib.Core.Bool.{Bool, true, false}
@@ -11,7 +12,6 @@ use lib.Dec.{leb, lit≤}
 use Rattle.le.proofs.Choices.{pick_true, pick_false}
 use Rattle.medium.specs.declared.Error.TheVariants.{Corrupt}
 use Rattle.medium.specs.declared.Medium.{Medium}
-use Rattle.medium.specs.declared.Outcome.TheVariants.{Done}
 use Rattle.medium.proofs.Laws.{on_done_done, on_done_keeps}
 use Rattle.handles.specs.declared.Header.{Header}
 use Rattle.handles.specs.declared.Store.{Store}
@@ -101,7 +101,7 @@ module _ (vol : List ℕ) (m : Medium) (st : Store) {G : ℕ → List Segment} {
     linked_is : link_out vol m st a partial records c ≡ after (step vol m st a partial records c ∷ []) (moved vol m st a partial records c)
     linked_is = link_made vol m st a partial records c within.0
 
-    last_done : (last.ans.outcome ≡ Done) × (last.steps ≡ (record { kind = recorded; skipped = [] }) ∷ []) × (last.ans.store ≡ o.ans.store)
+    last_done : (last.ans.outcome ≡ Ok tt) × (last.steps ≡ (record { kind = recorded; skipped = [] }) ∷ []) × (last.ans.store ≡ o.ans.store)
     unfolding record_out
     last_done = rw (on_done_done _ _ (write_some o.vol o.ans.medium _ _ (omega (arith, within.1, enough))).0) (refl, refl, refl)
 

@@ -1,4 +1,5 @@
 -- What has to be kept by each commit, record, mount and format, on any volume; and that a file's removal keeps it then. Assumes nothing.
+use Rattle.std.specs.Prelude.{Err, Ok, Result}
 use Prim.Native.Nat.{ℕ, ◌-◌, ◌^◌, ◌≤◌, ◌<◌}
 use mathlib.Core.Path.{◌≡◌, refl, sym, ap, ◌∙◌}
 use mathlib.Core.Bool.{Bool, true, false}
@@ -8,8 +9,6 @@ use lib.ListN.{length}
 use Rattle.le.proofs.Choices.{pick_keeps_by}
 use Rattle.medium.specs.declared.Error.{Error}
 use Rattle.medium.specs.declared.Medium.{Medium}
-use Rattle.medium.specs.declared.Outcome.{Outcome}
-use Rattle.medium.specs.declared.Outcome.TheVariants.{Done, No}
 use Rattle.medium.specs.Sector.{sectors_of, sector_at}
 use Rattle.medium.proofs.Laws.{on_done_keeps}
 use Rattle.handles.specs.declared.Store.{Store}
@@ -52,10 +51,10 @@ Suits Format st = Fits Format st.head.chunks
 pub record Lasts (P : Skipped → Type 0) (L : List ℕ → Store → Type 0) : Type 0 where
   pub count : (vol : List ℕ) (st : Store) → L vol st → store_ok st (sectors_of vol) ≡ true → length st.head.crcs ≡ 24
   pub made : (edit : Edit) (name vol : List ℕ) (m : Medium) (st : Store) → Good vol st → length name ≤ 40 → Suits edit st → is_format edit ≡ false → L vol st
-      → (commit_of edit name vol m st).ans.outcome ≡ Done → EachSkipped P (commit_of edit name vol m st).skipped
+      → (commit_of edit name vol m st).ans.outcome ≡ Ok tt → EachSkipped P (commit_of edit name vol m st).skipped
       → L (commit_of edit name vol m st).vol (commit_of edit name vol m st).ans.store
   pub unmade : (edit : Edit) (name vol : List ℕ) (m : Medium) (st : Store) → Good vol st → length name ≤ 40 → L vol st
-      → {e : Error} → (commit_of edit name vol m st).ans.outcome ≡ No e
+      → {e : Error} → (commit_of edit name vol m st).ans.outcome ≡ Err e
       → L (commit_of edit name vol m st).vol (commit_of edit name vol m st).ans.store
   pub beyond : (vol v : List ℕ) (st : Store) → length v ≡ length vol → ((j : ℕ) → j < 64 → sector_at v j ≡ sector_at vol j) → L vol st → L v st
   pub closed : (vol : List ℕ) (st : Store) (id : ℕ) → L vol st → L vol (closed_for id st)
@@ -80,7 +79,7 @@ free_keeps K vol m st good f a g p n q = on_pick_keeps K (free_of vol m st) f a 
 
 -- what is known of a commit's body sectors, if it was finished
 abbrev pub Due : (Skipped → Type 0) → Out → Type 0
-Due P o = o.ans.outcome ≡ Done → EachSkipped P o.skipped
+Due P o = o.ans.outcome ≡ Ok tt → EachSkipped P o.skipped
 
 pub step_due : (P : Skipped → Type 0) (kind : Kind) (o : Out) → EachStep P (steps_of kind o) → Due P o
 unfolding EachStep
@@ -112,9 +111,9 @@ module _ {P : Skipped → Type 0} {L : List ℕ → Store → Type 0} (rules : L
           let k = commit_keeps edit name vol m st good.ok good.count short in
           (go (commit_of edit name vol m st).ans.outcome refl, λ t. stays.1 (ap is_open (sym k.writer) ∙ t))
         where
-          go : (r : Outcome) → (commit_of edit name vol m st).ans.outcome ≡ r → L (commit_of edit name vol m st).vol (commit_of edit name vol m st).ans.store
-          go (No e) q = rules.unmade edit name vol m st good short stays.0 q
-          go Done q = rules.made edit name vol m st good short suits plain stays.0 q (due q)
+          go : (r : Result Unit Error) → (commit_of edit name vol m st).ans.outcome ≡ r → L (commit_of edit name vol m st).vol (commit_of edit name vol m st).ans.store
+          go (Err e) q = rules.unmade edit name vol m st good short stays.0 q
+          go (Ok tt) q = rules.made edit name vol m st good short suits plain stays.0 q (due q)
 
       -- ---- a file goes
 
@@ -131,7 +130,7 @@ module _ {P : Skipped → Type 0} {L : List ℕ → Store → Type 0} (rules : L
           (λ _ _. k)
 
       abbrev GoneStays : GoneOut → Type 0
-      GoneStays g = (g.ans.outcome ≡ Done → g.ans.any ≡ true → EachSkipped P g.skipped) → Stays g.vol g.ans.store
+      GoneStays g = (g.ans.outcome ≡ Ok tt → g.ans.any ≡ true → EachSkipped P g.skipped) → Stays g.vol g.ans.store
 
       gone_stays : (name : List ℕ) (len : ℕ) (o : Out) → OutStays o → GoneStays (gone_of name len o)
       unfolding gone_of

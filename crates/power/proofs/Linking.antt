@@ -1,4 +1,5 @@
 -- A free chunk linked to an appender's file: a segment more, and in the book a chunk more; the appender moves to it. Assumes nothing.
+use Rattle.std.specs.Prelude.{Err, Ok, Result}
 use Prim.Native.Nat.{ℕ, ◌+◌, ◌≤◌, ◌<◌}
 use mathlib.Core.Path.{◌≡◌, refl, sym, ap, ◌∙◌, subst}
 use mathlib.Core.Logic.{◌≢◌}
@@ -10,8 +11,6 @@ use lib.ListN.{length}
 use lib.Seq.{get_or_at}
 use Rattle.medium.specs.declared.Error.{Error}
 use Rattle.medium.specs.declared.Medium.{Medium}
-use Rattle.medium.specs.declared.Outcome.{Outcome}
-use Rattle.medium.specs.declared.Outcome.TheVariants.{Done, No}
 use Rattle.medium.specs.Refusal.{on_done}
 use Rattle.handles.specs.declared.Store.{Store}
 use Rattle.table.specs.declared.Link.{Link}
@@ -71,11 +70,11 @@ module _ (vol : List ℕ) (m : Medium) (st : Store) (a : Appender) (partial : Bo
   abbrev pub moved : AppOut
   moved = done commit.vol commit.ans.medium commit.ans.store (moved_to c a)
 
-  pub link_made : commit.ans.outcome ≡ Done → link_out vol m st a partial records c ≡ after (step ∷ []) moved
+  pub link_made : commit.ans.outcome ≡ Ok tt → link_out vol m st a partial records c ≡ after (step ∷ []) moved
   unfolding link_out steps_of on_done
   link_made q = rw q
 
-  pub link_refused : {e : Error} → commit.ans.outcome ≡ No e → link_out vol m st a partial records c ≡ stopped commit.vol commit.ans.medium commit.ans.store a e
+  pub link_refused : {e : Error} → commit.ans.outcome ≡ Err e → link_out vol m st a partial records c ≡ stopped commit.vol commit.ans.medium commit.ans.store a e
   unfolding link_out steps_of on_done
   link_refused q = rw q
 
@@ -113,7 +112,7 @@ module _ {t : Terms} {vol : List ℕ} {m : Medium} {st : Store} {a : Appender} {
   )
 
   -- refused: nothing changed
-  refused_live : {e : Error} → o.ans.outcome ≡ No e → Live t o.vol o.ans.medium o.ans.store a G b
+  refused_live : {e : Error} → o.ans.outcome ≡ Err e → Live t o.vol o.ans.medium o.ans.store a G b
   refused_live q = unmade_live l (commit_unmade l.whole (commit_stopped edit [] vol m st l.whole.inv (lit≤ tt) q))
 
   -- a chunk that is marked was not full
@@ -133,7 +132,7 @@ module _ {t : Terms} {vol : List ℕ} {m : Medium} {st : Store} {a : Appender} {
       rw (full_mark st.head.chunk a.slot (G a.slot) c a.position s.last k.1)
       (extended_full (sane l.whole s) made s.below fits.1 unused.0 (chunk_in l.whole s) other (sym q) last_link)
 
-  module _ (q : o.ans.outcome ≡ Done) (each : EachSkipped Distinct o.skipped) where
+  module _ (q : o.ans.outcome ≡ Ok tt) (each : EachSkipped Distinct o.skipped) where
     made : CommitMade edit [] vol m st o
     made = commit_made edit [] vol m st l.whole.inv (lit≤ tt) fits (commit_distinct edit [] vol m st q each) q
 
@@ -194,9 +193,9 @@ module _ {t : Terms} {vol : List ℕ} {m : Medium} {st : Store} {a : Appender} {
   unfolding entered_all EachStep
   link_kept each = go o.ans.outcome refl
     where
-      go : (r : Outcome) → o.ans.outcome ≡ r → Kept t b rest (link_out vol m st a partial records c)
-      go (No e) q = subst (Kept t b rest) (sym (link_refused vol m st a partial records c q)) (kept_stopped e (refused_live q))
-      go Done q =
+      go : (r : Result Unit Error) → o.ans.outcome ≡ r → Kept t b rest (link_out vol m st a partial records c)
+      go (Err e) q = subst (Kept t b rest) (sym (link_refused vol m st a partial records c q)) (kept_stopped e (refused_live q))
+      go (Ok tt) q =
           let h : EachStep Distinct (after (step vol m st a partial records c ∷ []) (moved vol m st a partial records c)).steps = subst (λ (x : AppOut). EachStep Distinct x.steps) (link_made vol m st a partial records c q) each in
           subst (Kept t b rest) (sym (link_made vol m st a partial records c q))
           (kept_after (step vol m st a partial records c ∷ []) (moved vol m st a partial records c) (kept_done (extended_live q h.0) (extended_stands q h.0)))

@@ -1,4 +1,5 @@
 -- A file made, as a step: refused, all is as it was; accepted, the book with the file, and its appender at the file's start. Assumes nothing.
+use Rattle.std.specs.Prelude.{Err, Ok}
 use Prim.Native.Nat.{ℕ, ◌+◌, ◌-◌, ◌^◌, ◌<◌}
 use mathlib.Core.Path.{◌≡◌, refl, sym, ◌∙◌}
 use mathlib.Core.Bool.{true}
@@ -9,7 +10,6 @@ use Rattle.le.proofs.Parts.{length_zeros}
 use Rattle.names.specs.Names.{name_ok}
 use Rattle.names.proofs.Laws.{name_short}
 use Rattle.medium.specs.declared.Error.{Error}
-use Rattle.medium.specs.declared.Outcome.TheVariants.{Done, No}
 use Rattle.handles.specs.declared.Store.{Store}
 use Rattle.table.specs.declared.LinkAt.TheVariants as link
 use Rattle.plan.specs.declared.Edit.TheVariants.{Create}
@@ -61,10 +61,10 @@ module _ (w : World) (b : Fine) (k : Keeps w b) (t : Terms) (slot chunk : ℕ) (
   abbrev o : Out
   o = commit_of (Create slot id chunk) t.name w.vol w.medium w.store
 
-  pub make_stopped : {e : Error} → o.ans.outcome ≡ No e → Unmade w.vol w.medium w.store k.layout b o.vol o.ans.medium o.ans.store
+  pub make_stopped : {e : Error} → o.ans.outcome ≡ Err e → Unmade w.vol w.medium w.store k.layout b o.vol o.ans.medium o.ans.store
   make_stopped d = commit_unmade k.whole (commit_stopped (Create slot id chunk) t.name w.vol w.medium w.store k.whole.inv (name_short t.name ok) d)
 
-  pub make_done : o.ans.outcome ≡ Done → EachSkipped Distinct o.skipped → CommitMade (Create slot id chunk) t.name w.vol w.medium w.store o
+  pub make_done : o.ans.outcome ≡ Ok tt → EachSkipped Distinct o.skipped → CommitMade (Create slot id chunk) t.name w.vol w.medium w.store o
   make_done d h =
       commit_made (Create slot id chunk) t.name w.vol w.medium w.store k.whole.inv (name_short t.name ok) (hs, small, hc)
       (commit_distinct (Create slot id chunk) t.name w.vol w.medium w.store d h) d

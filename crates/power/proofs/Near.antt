@@ -1,6 +1,7 @@
 -- How far an appender's position gets in one call of append or sync, whether it is accepted, refused or stopped: number 3 lets in 2,047, each chunk
 -- more is one more of its slot, and its slot is freed at most once. Proved of any volume under demand 3's premise in the customer's words, and under
 -- the weaker one of any volume as it is between the calls. The appender may be forged. Assumes nothing.
+use Rattle.std.specs.Prelude.{Err, Ok, Result}
 use Prim.Native.Nat.{ℕ, ◌+◌, ◌≤◌, ◌<◌}
 use mathlib.Core.Path.{◌≡◌, refl, sym, ap, ◌∙◌, subst}
 use mathlib.Core.Logic.{inl}
@@ -16,8 +17,6 @@ use Rattle.le.proofs.Bools.{and_true}
 use Rattle.medium.specs.declared.Error.{Error}
 use Rattle.medium.specs.declared.Error.TheVariants.{Corrupt, Full, Stale}
 use Rattle.medium.specs.declared.Medium.{Medium}
-use Rattle.medium.specs.declared.Outcome.{Outcome}
-use Rattle.medium.specs.declared.Outcome.TheVariants.{Done, No}
 use Rattle.medium.specs.Sector.{sectors_of, sector_at, WriteOut}
 use Rattle.medium.proofs.Laws.{on_done_keeps}
 use Rattle.handles.specs.declared.Store.{Store}
@@ -71,19 +70,19 @@ module _ {P : Skipped → Type 0} {Fine : List ℕ → Store → Type 0} (rules 
 
   -- of what a part of the call gives
   abbrev Kept : AppOut → Type 0
-  Kept o = (o.ans.appender.position ≤ 6143) × (o.ans.outcome ≡ Done → Going o.vol o.ans.store o.ans.appender)
+  Kept o = (o.ans.appender.position ≤ 6143) × (o.ans.outcome ≡ Ok tt → Going o.vol o.ans.store o.ans.appender)
 
   abbrev KeptIf : AppOut → Type 0
   KeptIf o = EachStep P o.steps → Kept o
 
   then_near : (o : AppOut) (next : Next) → KeptIf o
-      → (o.ans.outcome ≡ Done → Going o.vol o.ans.store o.ans.appender → KeptIf (next o.vol o.ans.medium o.ans.store o.ans.appender))
+      → (o.ans.outcome ≡ Ok tt → Going o.vol o.ans.store o.ans.appender → KeptIf (next o.vol o.ans.medium o.ans.store o.ans.appender))
       → KeptIf (and_then o next)
   then_near o next first on each = go o.ans.outcome refl
     where
-      go : (r : Outcome) → o.ans.outcome ≡ r → Kept (and_then o next)
-      go (No e) q = subst Kept (sym (then_no o next q)) (first (subst (λ (x : AppOut). EachStep P x.steps) (then_no o next q) each))
-      go Done q =
+      go : (r : Result Unit Error) → o.ans.outcome ≡ r → Kept (and_then o next)
+      go (Err e) q = subst Kept (sym (then_no o next q)) (first (subst (λ (x : AppOut). EachStep P x.steps) (then_no o next q) each))
+      go (Ok tt) q =
           let x : AppOut = next o.vol o.ans.medium o.ans.store o.ans.appender in
           let p = each_append P o.steps x.steps (subst (λ (y : AppOut). EachStep P y.steps) (then_done o next q) each) in
           subst Kept (sym (then_done o next q)) (on q ((first p.0).1 q) p.1)
@@ -116,7 +115,7 @@ module _ {P : Skipped → Type 0} {Fine : List ℕ → Store → Type 0} (rules 
         chunks : o.ans.store.head.chunks ≡ st.head.chunks
         chunks = (commit_stands edit [] vol m st good (lit≤ tt)).chunks
 
-        linked_near : o.ans.outcome ≡ Done → EachSkipped P o.skipped → Going o.vol o.ans.store (moved_to c a)
+        linked_near : o.ans.outcome ≡ Ok tt → EachSkipped P o.skipped → Going o.vol o.ans.store (moved_to c a)
         linked_near q each =
             let unused = free_chunk vol m st (store_facts st (sectors_of vol) good.ok) going.0.1 found in
             let hp : a.position + 1 < 32768 = omega (arith, few) in
@@ -131,9 +130,9 @@ module _ {P : Skipped → Type 0} {Fine : List ℕ → Store → Type 0} (rules 
         unfolding EachStep
         link_near each = go o.ans.outcome refl
           where
-            go : (r : Outcome) → o.ans.outcome ≡ r → Kept (link_out vol m st a partial records c)
-            go (No e) q = subst Kept (sym (link_refused vol m st a partial records c q)) (few, λ d. clash refl d)
-            go Done q =
+            go : (r : Result Unit Error) → o.ans.outcome ≡ r → Kept (link_out vol m st a partial records c)
+            go (Err e) q = subst Kept (sym (link_refused vol m st a partial records c q)) (few, λ d. clash refl d)
+            go (Ok tt) q =
                 let h : EachSkipped P o.skipped × Unit = subst (λ (x : AppOut). EachStep P x.steps) (link_made vol m st a partial records c q) each in
                 let g : Going o.vol o.ans.store (moved_to c a) = linked_near q h.0 in
                 subst Kept (sym (link_made vol m st a partial records c q))
@@ -145,11 +144,11 @@ module _ {P : Skipped → Type 0} {Fine : List ℕ → Store → Type 0} (rules 
     made slot = commit_of (Remove slot) [] vol m st
 
     remove_near : (slot id : ℕ) → slot < 64 → {name : List ℕ} {i : ℕ} → (disk_of vol st).entry slot ≡ named name i
-        → (remove_of vol m st slot id).ans.outcome ≡ Done → EachSkipped P (remove_of vol m st slot id).skipped
+        → (remove_of vol m st slot id).ans.outcome ≡ Ok tt → EachSkipped P (remove_of vol m st slot id).skipped
         → Going (remove_of vol m st slot id).vol (remove_of vol m st slot id).ans.store a
     unfolding remove_of
     remove_near slot id below was =
-        on_done_keeps (λ (x : Out). x.ans.outcome ≡ Done → EachSkipped P x.skipped → Going x.vol x.ans.store a) (made slot).ans.outcome _ _
+        on_done_keeps (λ (x : Out). x.ans.outcome ≡ Ok tt → EachSkipped P x.skipped → Going x.vol x.ans.store a) (made slot).ans.outcome _ _
         (λ d _ each.
         let t : Store = (made slot).ans.store in
         let r = rules.commit (Remove slot) vol m st good below going.0.0 d each in

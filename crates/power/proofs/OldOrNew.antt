@@ -1,4 +1,6 @@
 -- 02, S-7: after a format, refused or accepted, a mount gives the old store or the new. Assumes nothing.
+use Rattle.std.specs.Prelude.{Err, Ok, Result}
+use Rattle.medium.specs.declared.Error.{Error}
 use mathlib.Core.Path.{◌≡◌, refl, sym, ◌∙◌, subst, ap}
 use mathlib.Core.Bool.{Bool, true, false, ◌||◌}
 use mathlib.Core.List.{List}
@@ -7,8 +9,6 @@ use native.Mathlib.Omega.{arith}
 use lib.ListN.{length}
 use Rattle.le.proofs.Choices.{pick_keeps_by}
 use Rattle.medium.specs.declared.Medium.{Medium}
-use Rattle.medium.specs.declared.Outcome.{Outcome}
-use Rattle.medium.specs.declared.Outcome.TheVariants.{Done, No}
 use Rattle.medium.specs.Refusal.{on_done, ok}
 use Rattle.medium.specs.Sector.{sectors_of, sector_at}
 use Rattle.medium.proofs.Laws.{done_told, not_done, on_done_done}
@@ -48,7 +48,7 @@ stands_gives vol st w s u r =
     (ap (λ (x : FreeMap). record { answer = ok tt; store = record { copy = st.copy; head = st.head; writer = st.writer; free = x }; medium = u }) (map_again vol u st _ refl refl))
 
 -- and the store of an accepted mount is one
-pub mount_stands : (vol : List ℕ) (u : Medium) → (mount_of vol u).outcome ≡ Done → ((mount_of vol u).store.writer ≡ Nobody) × Stands vol (mount_of vol u).store.copy (mount_of vol u).store.head
+pub mount_stands : (vol : List ℕ) (u : Medium) → (mount_of vol u).outcome ≡ Ok tt → ((mount_of vol u).store.writer ≡ Nobody) × Stands vol (mount_of vol u).store.copy (mount_of vol u).store.head
 mount_stands vol u q =
     let t = mount_current vol u q in
     subst (λ (r : Mounted). (r.store.writer ≡ Nobody) × Stands vol r.store.copy r.store.head) (sym t.1) (refl, current_stands vol u t.0)
@@ -72,9 +72,9 @@ module _ (vol : List ℕ) (m : Medium) (size seed : ℕ) (st : Store) (w : st.wr
   abbrev out : Out
   out = format_of size seed vol m
 
-  by_outcome : (o : Outcome) → out.ans.outcome ≡ o → OldOrNew vol st (format_call vol m size seed)
+  by_outcome : (o : Result Unit Error) → out.ans.outcome ≡ o → OldOrNew vol st (format_call vol m size seed)
   unfolding format_call
-  by_outcome (No e) q =
+  by_outcome (Err e) q =
       let f : FormatStopped vol m out = format_stopped size seed vol m q in
       record {
         old = λ n _. record {
@@ -85,7 +85,7 @@ module _ (vol : List ℕ) (m : Medium) (size seed : ℕ) (st : Store) (w : st.wr
         };
         new = λ t. not_done (sym q ∙ done_told out.ans.outcome t);
       }
-  by_outcome Done q =
+  by_outcome (Ok tt) q =
       let f : FormatMade size vol m out = format_bytes size seed vol m bytes q in
       record {
         old = λ n t. absurd (let z : ◌≡◌ {A = ℕ} 0 1 = cc in omega arith);
@@ -103,7 +103,7 @@ old_or_new vol u m size seed bytes a =
 -- ---- 02's words for such a volume
 
 -- with a valid copy one is taken
-choice_done : (c : Copies) → (is_ours c.a || is_ours c.b) ≡ true → (choice_of c).outcome ≡ Done
+choice_done : (c : Copies) → (is_ours c.a || is_ours c.b) ≡ true → (choice_of c).outcome ≡ Ok tt
 unfolding choice_of takes_b taken_of
 choice_done c v =
     pick_keeps_by Taken (takes_b c) _ _ (λ _. refl)
@@ -111,7 +111,7 @@ choice_done c v =
     (λ a. let b : is_ours c.b ≡ true = rw a at v in no_way (sym (rw (a, b) at t))))
   where
     Taken : Current → Type 0
-    Taken r = r.outcome ≡ Done
+    Taken r = r.outcome ≡ Ok tt
 
 -- and there are 64 sectors
 valid_room : (vol : List ℕ) (k : ℕ) → is_ours (copy_of vol k).kind ≡ true → 64 ≤ sectors_of vol

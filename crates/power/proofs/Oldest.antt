@@ -1,4 +1,5 @@
 -- The oldest file of a directory removed, as a step: refused, none there, or gone, and then it is the file that the book's list loses. Assumes nothing.
+use Rattle.std.specs.Prelude.{Err, Ok}
 use Prim.Native.Nat.{ℕ, ◌<◌}
 use mathlib.Core.Path.{◌≡◌, refl, sym}
 use mathlib.Core.Logic.{◌≢◌}
@@ -12,7 +13,6 @@ use Rattle.le.specs.Part.{part}
 use Rattle.le.proofs.Choices.{pick_keeps_by}
 use Rattle.medium.specs.declared.Error.{Error}
 use Rattle.medium.specs.declared.Medium.{Medium}
-use Rattle.medium.specs.declared.Outcome.TheVariants.{Done, No}
 use Rattle.medium.specs.Sector.{Readable}
 use Rattle.medium.proofs.Laws.{on_done_keeps}
 use Rattle.handles.specs.declared.Store.{Store}
@@ -73,7 +73,7 @@ module _ (vol : List ℕ) (m : Medium) (st : Store) (G : ℕ → List Segment) (
   removing old = gone_of (part 0 40 (entry_at vol st old.slot)) old.len (removal old)
 
   abbrev idle : GoneOut
-  idle = none_out (record { vol = vol; ans = record { outcome = Done; medium = m; store = st }; skipped = [] })
+  idle = none_out (record { vol = vol; ans = record { outcome = Ok tt; medium = m; store = st }; skipped = [] })
 
   -- a file is picked, or none may go
   pub ways : (P : GoneOut → Type 0) → ((old : Old) → Olds vol st dir keeping kept 64 old → old.any ≡ true → P (removing old))
@@ -81,29 +81,29 @@ module _ (vol : List ℕ) (m : Medium) (st : Store) (G : ℕ → List Segment) (
   unfolding remove_oldest_of oldest_gone
   ways P f n = rw found.1 (pick_keeps_by P found.0.any _ _ (λ e. f found.0 found.2 e) (λ e. n found.0 found.2 e))
 
-  pub oldest_stopped : {e : Error} → (remove_oldest_of vol m st dir keeping kept).ans.outcome ≡ No e
+  pub oldest_stopped : {e : Error} → (remove_oldest_of vol m st dir keeping kept).ans.outcome ≡ Err e
       → Unmade vol m st G b (remove_oldest_of vol m st dir keeping kept).vol (remove_oldest_of vol m st dir keeping kept).ans.medium (remove_oldest_of vol m st dir keeping kept).ans.store
       × ((remove_oldest_of vol m st dir keeping kept).ans.any ≡ false)
   unfolding gone_of
   oldest_stopped {e} =
-      ways (λ (x : GoneOut). x.ans.outcome ≡ No e → Unmade vol m st G b x.vol x.ans.medium x.ans.store × (x.ans.any ≡ false))
-      (λ old o t. on_done_keeps (λ (x : GoneOut). x.ans.outcome ≡ No e → Unmade vol m st G b x.vol x.ans.medium x.ans.store × (x.ans.any ≡ false)) (removal old).ans.outcome _ _
+      ways (λ (x : GoneOut). x.ans.outcome ≡ Err e → Unmade vol m st G b x.vol x.ans.medium x.ans.store × (x.ans.any ≡ false))
+      (λ old o t. on_done_keeps (λ (x : GoneOut). x.ans.outcome ≡ Err e → Unmade vol m st G b x.vol x.ans.medium x.ans.store × (x.ans.any ≡ false)) (removal old).ans.outcome _ _
       (λ d q. clash q refl)
       (λ x d q. (remove_stopped vol m st G b w old.slot old.id (o.some t).below q, refl)))
       (λ old o t q. clash q refl)
 
   -- none may go: nothing is done
-  pub oldest_none : (remove_oldest_of vol m st dir keeping kept).ans.outcome ≡ Done → (remove_oldest_of vol m st dir keeping kept).ans.any ≡ false
+  pub oldest_none : (remove_oldest_of vol m st dir keeping kept).ans.outcome ≡ Ok tt → (remove_oldest_of vol m st dir keeping kept).ans.any ≡ false
       → ((remove_oldest_of vol m st dir keeping kept).vol ≡ vol) × ((remove_oldest_of vol m st dir keeping kept).ans.medium ≡ m) × ((remove_oldest_of vol m st dir keeping kept).ans.store ≡ st)
   unfolding gone_of
   oldest_none =
-      ways (λ (x : GoneOut). x.ans.outcome ≡ Done → x.ans.any ≡ false → (x.vol ≡ vol) × (x.ans.medium ≡ m) × (x.ans.store ≡ st))
-      (λ old o t. on_done_keeps (λ (x : GoneOut). x.ans.outcome ≡ Done → x.ans.any ≡ false → (x.vol ≡ vol) × (x.ans.medium ≡ m) × (x.ans.store ≡ st)) (removal old).ans.outcome _ _
+      ways (λ (x : GoneOut). x.ans.outcome ≡ Ok tt → x.ans.any ≡ false → (x.vol ≡ vol) × (x.ans.medium ≡ m) × (x.ans.store ≡ st))
+      (λ old o t. on_done_keeps (λ (x : GoneOut). x.ans.outcome ≡ Ok tt → x.ans.any ≡ false → (x.vol ≡ vol) × (x.ans.medium ≡ m) × (x.ans.store ≡ st)) (removal old).ans.outcome _ _
       (λ d q n. absurd (false≢true (sym n)))
       (λ x d q. clash d q))
       (λ old o t q n. (refl, refl, refl))
 
-  went : (old : Old) → Olds vol st dir keeping kept 64 old → old.any ≡ true → (removal old).ans.outcome ≡ Done → EachSkipped Distinct (removal old).skipped
+  went : (old : Old) → Olds vol st dir keeping kept 64 old → old.any ≡ true → (removal old).ans.outcome ≡ Ok tt → EachSkipped Distinct (removal old).skipped
       → (g : GoneOut) → g.vol ≡ (removal old).vol → g.ans.medium ≡ (removal old).ans.medium → g.ans.store ≡ (removal old).ans.store → Went vol m st G b dir keeping kept g
   went old o t d h g gv gm gs =
       let p : Picked vol st dir keeping kept old = o.some t in

@@ -1,5 +1,6 @@
 -- S-1: an appender opened on the file of a name without rollover, by an accepted create or open_append, and the line appended to it: it is the store's
 -- writer, the file of the name is its file, and only the line is unwritten. Assumes nothing.
+use Rattle.std.specs.Prelude.{Err, Ok, Result}
 use Prim.Native.Nat.{ℕ, ◌+◌, ◌-◌, ◌<◌}
 use mathlib.Core.Path.{◌≡◌, refl, ap, sym, subst, ◌∙◌}
 use mathlib.Core.Logic.{◌⊎◌, inl, inr}
@@ -14,8 +15,6 @@ use Rattle.le.specs.Choice.{pick}
 use Rattle.le.proofs.Choices.{pick_keeps, pick_keeps_by}
 use Rattle.medium.specs.declared.Error.{Error}
 use Rattle.medium.specs.declared.Medium.{Medium}
-use Rattle.medium.specs.declared.Outcome.{Outcome}
-use Rattle.medium.specs.declared.Outcome.TheVariants.{Done, No}
 use Rattle.medium.specs.Refusal.{outcome_of, on_done}
 use Rattle.medium.proofs.Laws.{on_done_keeps}
 use Rattle.handles.specs.declared.Store.{Store}
@@ -61,9 +60,9 @@ pub record Begun (name bytes : List ℕ) (w : World) (b : Fine) : Type 0 where
   pub own : (f : File) → Mem f b.files → f.name ≡ name → f.id ≡ b.file
   pub there : (f : File) × Mem f b.files × (f.name ≡ name)
 
-pub done_of : (o : Outcome) → is_ok (outcome_of o) ≡ true → o ≡ Done
-done_of Done h = refl
-done_of (No x) h = absurd (false≢true h)
+pub done_of : (o : Result Unit Error) → is_ok (outcome_of o) ≡ true → o ≡ Ok tt
+done_of (Ok tt) h = refl
+done_of (Err x) h = absurd (false≢true h)
 
 -- ---- open_append
 
@@ -98,11 +97,11 @@ module _ (rules : Rules) (w : World) (b : Fine) (k : Keeps w b) (left : ℕ) (na
 -- ---- create: accepted it makes the file and nothing else, refused it makes no step
 
 record Made (o : AppOut) : Type 0 where
-  kinds : o.ans.outcome ≡ Done → kinds_of o.steps ≡ created ∷ []
-  writer : o.ans.outcome ≡ Done → o.ans.store.writer ≡ Open o.ans.appender.token o.ans.appender.id
-  live : o.ans.outcome ≡ Done → is_closed o.ans.appender.tail ≡ false
-  fill : o.ans.outcome ≡ Done → o.ans.appender.fill ≡ 0
-  none : (e : Error) → o.ans.outcome ≡ No e → kinds_of o.steps ≡ []
+  kinds : o.ans.outcome ≡ Ok tt → kinds_of o.steps ≡ created ∷ []
+  writer : o.ans.outcome ≡ Ok tt → o.ans.store.writer ≡ Open o.ans.appender.token o.ans.appender.id
+  live : o.ans.outcome ≡ Ok tt → is_closed o.ans.appender.tail ≡ false
+  fill : o.ans.outcome ≡ Ok tt → o.ans.appender.fill ≡ 0
+  none : (e : Error) → o.ans.outcome ≡ Err e → kinds_of o.steps ≡ []
 
 refused_made : (vol : List ℕ) (m : Medium) (st : Store) (e : Error) → Made (refused_at vol m st e)
 refused_made vol m st e = record { kinds = λ d. clash refl d; writer = λ d. clash refl d; live = λ d. clash refl d; fill = λ d. clash refl d; none = λ _ _. refl }
@@ -149,7 +148,7 @@ module _ (rules : Rules) (w : World) (b : Fine) (k : Keeps w b) (left : ℕ) (na
   out_made = on_done_keeps Made _ _ _ (λ _. create_made) (λ e _. refused_made _ _ _ e)
 
   module _ (accepted : (ran w making).accepted ≡ true) where
-    is_done : out.ans.outcome ≡ Done
+    is_done : out.ans.outcome ≡ Ok tt
     is_done = done_of _ (rw is_out at accepted)
 
     pub create_told : Tells w making (created ∷ [])
@@ -196,9 +195,9 @@ module _ (rules : Rules) (w : World) (b : Fine) (k : Keeps w b) (left : ℕ) (na
   unfolding written fed_by entered_all before_steps book.before_steps pick
   create_unmade refused = go out.ans.outcome refl
     where
-      go : (o : Outcome) → out.ans.outcome ≡ o → written making (fed_by w making) b ≡ b
-      go Done q = absurd (true≢false (sym (ap (λ (o : Outcome). is_ok (outcome_of o)) q) ∙ (rw is_out at refused)))
-      go (No e) q = rw (is_out, q, out_made.none e q)
+      go : (o : Result Unit Error) → out.ans.outcome ≡ o → written making (fed_by w making) b ≡ b
+      go (Ok tt) q = absurd (true≢false (sym (ap (λ (o : Result Unit Error). is_ok (outcome_of o)) q) ∙ (rw is_out at refused)))
+      go (Err e) q = rw (is_out, q, out_made.none e q)
 
 -- ---- append, of a line shorter than a record takes
 

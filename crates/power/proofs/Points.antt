@@ -1,6 +1,8 @@
 -- S-1: the pins beside the book through a history of calls. They are forgotten where a call leaves no file of the name that holds their lines. While no
 -- record but a setting's goes to that file, it holds their lines, and each pin's file, if it is there, gives below the pin's number what the pin has.
 -- Assumes nothing.
+use Rattle.std.specs.Prelude.{Err, Ok, Result}
+use Rattle.medium.specs.declared.Error.{Error}
 use Prim.Native.Nat.{ℕ, zero, suc}
 use mathlib.Core.Path.{◌≡◌, refl, ap, sym, subst, ◌∙◌}
 use mathlib.Core.Logic.{◌≢◌}
@@ -12,8 +14,6 @@ use Rattle.le.proofs.Choices.{pick_keeps_by}
 use Rattle.runs.specs.Run.{same_bytes}
 use Rattle.runs.proofs.Tests.{same_true, same_self}
 use Rattle.medium.specs.declared.Medium.{Medium}
-use Rattle.medium.specs.declared.Outcome.{Outcome}
-use Rattle.medium.specs.declared.Outcome.TheVariants.{Done, No}
 use Rattle.medium.specs.Refusal.{outcome_of}
 use Rattle.medium.specs.Sector.{Readable}
 use Rattle.medium.proofs.Laws.{on_done_keeps}
@@ -169,13 +169,13 @@ module _ (name : List ℕ) (some : name ≢ []) (l : List (List ℕ)) (w : World
 
 -- ---- an accepted format leaves no file
 
-format_accepted : (m : Medium) (size seed : ℕ) (w : World) → (ran w (format m size seed)).accepted ≡ true → (format_of size seed w.vol m).ans.outcome ≡ Done
+format_accepted : (m : Medium) (size seed : ℕ) (w : World) → (ran w (format m size seed)).accepted ≡ true → (format_of size seed w.vol m).ans.outcome ≡ Ok tt
 unfolding ran format_call
 format_accepted m size seed w = go (format_of size seed w.vol m).ans.outcome
   where
-    go : (o : Outcome) → is_ok (outcome_of o) ≡ true → o ≡ Done
-    go Done h = refl
-    go (No x) h = absurd (false≢true h)
+    go : (o : Result Unit Error) → is_ok (outcome_of o) ≡ true → o ≡ Ok tt
+    go (Ok tt) h = refl
+    go (Err x) h = absurd (false≢true h)
 
 begins_empty : (c : Call) (w : World) (b : Fine) → begins c (ran w c).accepted ≡ true → (written c (fed_by w c) b).files ≡ []
 unfolding begins

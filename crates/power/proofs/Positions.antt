@@ -1,5 +1,6 @@
 -- How far an appender's position gets in one call, as a bound on what the bytes say of its slot: 2,047 and the chunks that the slot has; once the slot
 -- was freed, and its entry with it, as many again as there are. And the premises under which an accepted commit edits the body. Assumes nothing.
+use Rattle.std.specs.Prelude.{Ok}
 use Prim.Native.Nat.{ℕ, ◌+◌, ◌≤◌, ◌<◌}
 use mathlib.Core.Path.{◌≡◌, ap, ◌∙◌}
 use mathlib.Core.List.{List, []}
@@ -8,7 +9,6 @@ use lib.Dec.{lit≤}
 use lib.ListN.{length}
 use Rattle.le.proofs.Tallies.{tally_le}
 use Rattle.medium.specs.declared.Medium.{Medium}
-use Rattle.medium.specs.declared.Outcome.TheVariants.{Done}
 use Rattle.medium.specs.Sector.{sectors_of, sector_at}
 use Rattle.handles.specs.declared.Store.{Store}
 use Rattle.handles.proofs.Laws.{Sane}
@@ -36,7 +36,7 @@ use Rattle.power.specs.History.{Honest}
 
 pub record Carries (P : Skipped → Type 0) (Fine : List ℕ → Store → Type 0) : Type 0 where
   pub commit : (edit : Edit) (vol : List ℕ) (m : Medium) (st : Store) → Good vol st → Fits edit st.head.chunks → Fine vol st
-      → (commit_of edit [] vol m st).ans.outcome ≡ Done → EachSkipped P (commit_of edit [] vol m st).skipped
+      → (commit_of edit [] vol m st).ans.outcome ≡ Ok tt → EachSkipped P (commit_of edit [] vol m st).skipped
       → Edited edit [] vol st (commit_of edit [] vol m st).vol (commit_of edit [] vol m st).ans.store
       × Fine (commit_of edit [] vol m st).vol (commit_of edit [] vol m st).ans.store
   pub beyond : (vol v : List ℕ) (st : Store) → length v ≡ length vol → ((j : ℕ) → j < 64 → sector_at v j ≡ sector_at vol j) → Fine vol st → Fine v st

@@ -1,4 +1,5 @@
 -- A record written at the end of an appender's file: a payload more in its last segment, and in the book. Assumes nothing.
+use Rattle.std.specs.Prelude.{Err, Ok}
 use Prim.Native.Nat.{ℕ, ◌+◌, ◌*◌, ◌^◌, ◌≤◌, ◌<◌}
 use mathlib.Core.Path.{◌≡◌, sym, ap, ◌∙◌, subst, refl}
 use mathlib.Core.List.{List, [], ◌∷◌, ◌++◌, append-nil}
@@ -9,7 +10,6 @@ use Rattle.le.specs.Part.{part}
 use Rattle.le.proofs.Parts.{length_part}
 use Rattle.medium.specs.declared.Error.{Error}
 use Rattle.medium.specs.declared.Medium.{Medium}
-use Rattle.medium.specs.declared.Outcome.TheVariants.{Done, No}
 use Rattle.medium.specs.Sector.{sectors_of, WriteOut}
 use Rattle.medium.proofs.Laws.{on_done_keeps}
 use Rattle.medium.proofs.Frame.{write_spends, write_kept, write_none}
@@ -99,7 +99,7 @@ module _ {t : Terms} {vol : List ℕ} {m : Medium} {st : Store} {a : Appender} {
       (omega (arith, room, (sane l.whole s).size_most))
 
   -- refused: the volume as it was
-  refused_live : {e : Error} → w.ans.outcome ≡ No e → Live t w.vol w.ans.medium st a G b
+  refused_live : {e : Error} → w.ans.outcome ≡ Err e → Live t w.vol w.ans.medium st a G b
   refused_live q =
       let n : w.vol ≡ vol = write_none vol m (data_at st a.chunk i) bytes q in
       record {
@@ -110,7 +110,7 @@ module _ {t : Terms} {vol : List ℕ} {m : Medium} {st : Store} {a : Appender} {
         dir = l.dir;
       }
 
-  module _ (q : w.ans.outcome ≡ Done) where
+  module _ (q : w.ans.outcome ≡ Ok tt) where
     change : Recorded (disk_of vol st) (disk_of w.vol st) (segment_at (G a.slot) a.position).chunk i a.id (a.position * st.head.chunk + i) x
     unfolding number_at
     change =

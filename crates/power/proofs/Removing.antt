@@ -1,5 +1,6 @@
 -- A file's removal as a step, whatever the writes left: refused, all is as it was; accepted, the book without the file, and its appender open no more.
 -- Assumes nothing.
+use Rattle.std.specs.Prelude.{Err, Ok}
 use Prim.Native.Nat.{ℕ, ◌-◌, ◌<◌}
 use mathlib.Core.Path.{◌≡◌, refl, ap as cong, sym, ◌∙◌, subst}
 use mathlib.Core.Logic.{◌≢◌}
@@ -11,7 +12,6 @@ use lib.ListN.{length}
 use Rattle.le.proofs.Choices.{pick_keeps_by}
 use Rattle.medium.specs.declared.Error.{Error}
 use Rattle.medium.specs.declared.Medium.{Medium}
-use Rattle.medium.specs.declared.Outcome.TheVariants.{Done, No}
 use Rattle.medium.proofs.Laws.{on_done_keeps}
 use Rattle.handles.specs.declared.Store.{Store}
 use Rattle.handles.specs.declared.Writer.{Writer}
@@ -104,11 +104,11 @@ module _ (vol : List ℕ) (m : Medium) (st : Store) (G : ℕ → List Segment) (
   abbrev made : Out
   made = commit_of (Remove s) [] vol m st
 
-  pub remove_stopped : {e : Error} → (remove_of vol m st s id).ans.outcome ≡ No e
+  pub remove_stopped : {e : Error} → (remove_of vol m st s id).ans.outcome ≡ Err e
       → Unmade vol m st G b (remove_of vol m st s id).vol (remove_of vol m st s id).ans.medium (remove_of vol m st s id).ans.store
   unfolding remove_of
   remove_stopped {e} =
-      on_done_keeps (λ (o : Out). o.ans.outcome ≡ No e → Unmade vol m st G b o.vol o.ans.medium o.ans.store) made.ans.outcome _ _
+      on_done_keeps (λ (o : Out). o.ans.outcome ≡ Err e → Unmade vol m st G b o.vol o.ans.medium o.ans.store) made.ans.outcome _ _
       (λ d q. clash q refl)
       (λ x d q. commit_unmade w (commit_stopped (Remove s) [] vol m st w.inv (omega arith) d))
 
@@ -141,10 +141,10 @@ module _ (vol : List ℕ) (m : Medium) (st : Store) (G : ℕ → List Segment) (
           used = c.used;
         }
 
-    pub remove_made : (remove_of vol m st s id).ans.outcome ≡ Done → EachSkipped Distinct (remove_of vol m st s id).skipped
+    pub remove_made : (remove_of vol m st s id).ans.outcome ≡ Ok tt → EachSkipped Distinct (remove_of vol m st s id).skipped
         → Gone vol m st G b s name id (remove_of vol m st s id).vol (remove_of vol m st s id).ans.medium (remove_of vol m st s id).ans.store
     unfolding remove_of
     remove_made =
-        on_done_keeps (λ (o : Out). o.ans.outcome ≡ Done → EachSkipped Distinct o.skipped → Gone vol m st G b s name id o.vol o.ans.medium o.ans.store) made.ans.outcome _ _
+        on_done_keeps (λ (o : Out). o.ans.outcome ≡ Ok tt → EachSkipped Distinct o.skipped → Gone vol m st G b s name id o.vol o.ans.medium o.ans.store) made.ans.outcome _ _
         (λ d q h. commit_gone (commit_made (Remove s) [] vol m st w.inv (omega arith) hs (commit_distinct (Remove s) [] vol m st d h) d))
         (λ x d q. clash d q)

@@ -1,4 +1,5 @@
 -- open_append keeps the invariant: it changes nothing on the volume, and the appender that it opens stands at the end of the file found. Assumes nothing.
+use Rattle.std.specs.Prelude.{Err, Ok, Result}
 use Prim.Native.Nat.{ℕ, zero, suc, ◌+◌, ◌-◌, ◌*◌, ◌≤◌, ◌<◌}
 use mathlib.Core.Path.{◌≡◌, refl, sym, ap, subst, ◌∙◌}
 use mathlib.Core.Bool.{Bool, true}
@@ -17,8 +18,6 @@ use Rattle.runs.specs.Run.{same_bytes}
 use Rattle.runs.proofs.Tests.{same_true, same_self}
 use Rattle.medium.specs.declared.Error.{Error}
 use Rattle.medium.specs.declared.Medium.{Medium}
-use Rattle.medium.specs.declared.Outcome.{Outcome}
-use Rattle.medium.specs.declared.Outcome.TheVariants.{Done, No}
 use Rattle.medium.specs.Refusal.{on_done}
 use Rattle.medium.specs.Sector.{sectors_of, sector_at, Readable}
 use Rattle.medium.proofs.Laws.{on_done_done, length_sector}
@@ -265,14 +264,14 @@ module _ (rules : Rules) (left : ℕ) (name : List ℕ) (rolls : Bool) (dir : Li
   unfolding on_done
   open_ways P f g = by_asked (admits w.vol w.store name rolls dir rules) refl
     where
-      by_way : admits w.vol w.store name rolls dir rules ≡ Done
+      by_way : admits w.vol w.store name rolls dir rules ≡ Ok tt
           → Way w.vol m w.store k.layout b k.whole k.readable name roll (reopen_of name roll w.vol m w.store) → P
       by_way a (refuses e q) = f e (rw a q)
       by_way a (opens s id h e q) = g s id h e (asked_opens w.vol w.store name rolls dir (admits_asked w.vol w.store name rolls dir rules a)).directed (rw a q)
 
-      by_asked : (o : Outcome) → admits w.vol w.store name rolls dir rules ≡ o → P
-      by_asked (No e) q = f e (rw q)
-      by_asked Done q = by_way q (way w.vol m w.store k.layout b k.whole k.readable name roll)
+      by_asked : (o : Result Unit Error) → admits w.vol w.store name rolls dir rules ≡ o → P
+      by_asked (Err e) q = f e (rw q)
+      by_asked (Ok tt) q = by_way q (way w.vol m w.store k.layout b k.whole k.readable name roll)
 
   pub open_keeps : Kept
   open_keeps = open_ways Kept refused_keeps opened_keeps

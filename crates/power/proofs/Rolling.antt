@@ -1,4 +1,5 @@
 -- A rollover inside extending: the oldest file of the directory goes, never the appender's own; then a chunk is free, and is linked. Assumes nothing.
+use Rattle.std.specs.Prelude.{Err, Ok}
 use Prim.Native.Nat.{ℕ}
 use mathlib.Core.Path.{◌≡◌, refl, sym, ap, ◌∙◌}
 use mathlib.Core.Logic.{◌≢◌}
@@ -11,7 +12,6 @@ use Rattle.le.proofs.Choices.{pick_keeps_by}
 use Rattle.medium.specs.declared.Error.{Error}
 use Rattle.medium.specs.declared.Error.TheVariants.{Corrupt, Full}
 use Rattle.medium.specs.declared.Medium.{Medium}
-use Rattle.medium.specs.declared.Outcome.TheVariants.{Done, No}
 use Rattle.medium.proofs.Laws.{on_done_keeps}
 use Rattle.handles.specs.declared.Store.{Store}
 use Rattle.handles.specs.Handles.{is_open, open_id}
@@ -48,10 +48,10 @@ module _ {t : Terms} {vol : List ℕ} {m : Medium} {st : Store} {a : Appender} {
   step = record { kind = rolled_over; skipped = g.skipped }
 
   -- refused, or none went: all as it was
-  stopped_live : {e : Error} → g.ans.outcome ≡ No e → Live t g.vol g.ans.medium g.ans.store a G b
+  stopped_live : {e : Error} → g.ans.outcome ≡ Err e → Live t g.vol g.ans.medium g.ans.store a G b
   stopped_live q = unmade_live l (oldest_stopped vol m st G b l.whole l.readable (dir_bytes a.dir) (is_open st.writer) (open_id st.writer) q).0
 
-  idle_live : g.ans.outcome ≡ Done → g.ans.any ≡ false → Live t g.vol g.ans.medium g.ans.store a G b
+  idle_live : g.ans.outcome ≡ Ok tt → g.ans.any ≡ false → Live t g.vol g.ans.medium g.ans.store a G b
   idle_live d y =
       let n = oldest_none vol m st G b l.whole l.readable (dir_bytes a.dir) (is_open st.writer) (open_id st.writer) d y in
       rw (n.0, n.1, n.2) l

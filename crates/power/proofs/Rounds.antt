@@ -1,5 +1,6 @@
 -- A round of create that finds the name new, in the book's words: with room for a file more it makes the file, where its commit is done; without, the
 -- oldest file of the rollover's directory is to go. And the free chunk, where there is one and where there is none. Assumes nothing.
+use Rattle.std.specs.Prelude.{Ok}
 use Prim.Native.Nat.{ℕ, ◌-◌, ◌^◌, ◌<◌}
 use mathlib.Core.Path.{◌≡◌, refl, ap, ◌∙◌}
 use mathlib.Core.Logic.{◌⊎◌, inl, inr}
@@ -11,7 +12,6 @@ use lib.ListN.{length}
 use Rattle.le.specs.Choice.{pick}
 use Rattle.le.proofs.Choices.{pick_false}
 use Rattle.medium.specs.declared.Medium.{Medium}
-use Rattle.medium.specs.declared.Outcome.TheVariants.{Done}
 use Rattle.medium.specs.Sector.{Readable}
 use Rattle.medium.proofs.Laws.{on_done_done}
 use Rattle.handles.specs.declared.Store.{Store}
@@ -102,7 +102,7 @@ module _ (vol : List ℕ) (m : Medium) (st : Store) {G : ℕ → List Segment} {
         go seen l e true f (inr all) = rw (l.answer, e, f, none_found all) refl
 
     -- there is room, and the commit is done wherever the file goes
-    module _ (ids : b.next ≡ 2 ^ 32 - 1 → ⊥) (done : (slot chunk : ℕ) → (creation name vol m st slot chunk).ans.outcome ≡ Done) where
+    module _ (ids : b.next ≡ 2 ^ 32 - 1 → ⊥) (done : (slot chunk : ℕ) → (creation name vol m st slot chunk).ans.outcome ≡ Ok tt) where
       make_makes : (slot chunk : ℕ) → Makes name vol m st over (make_out name over vol m st slot chunk)
       unfolding make_out
       make_makes slot chunk =

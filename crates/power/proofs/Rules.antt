@@ -1,11 +1,11 @@
 -- S-5: a create or an opening by either rules. Its input is admitted and it works, or it is refused with all as given. Assumes nothing.
+use Rattle.std.specs.Prelude.{Ok, Result}
+use Rattle.medium.specs.declared.Error.{Error}
 use mathlib.Core.Path.{◌≡◌, refl, ◌∙◌}
 use mathlib.Core.Bool.{Bool}
 use mathlib.Core.List.{List}
 use Prim.Native.Nat.{ℕ}
 use Rattle.medium.specs.declared.Medium.{Medium}
-use Rattle.medium.specs.declared.Outcome.{Outcome}
-use Rattle.medium.specs.declared.Outcome.TheVariants.{Done}
 use Rattle.medium.specs.Refusal.{on_done}
 use Rattle.handles.specs.declared.Store.{Store}
 use Rattle.append.specs.Calls.{call_of}
@@ -21,15 +21,15 @@ use Rattle.power.specs.Room.{Allows}
 
 module _ (vol : List ℕ) (st : Store) (name : List ℕ) (rolls : Bool) (dir : List ℕ) where
   -- what the input comes to
-  abbrev pub admits : Rules → Outcome
+  abbrev pub admits : Rules → Result Unit Error
   admits earlier = asked_of vol st (open_fine name rolls dir)
   admits present = admitted_of vol st name rolls dir
 
-  pub admits_asked : (rules : Rules) → admits rules ≡ Done → asked_of vol st (open_fine name rolls dir) ≡ Done
+  pub admits_asked : (rules : Rules) → admits rules ≡ Ok tt → asked_of vol st (open_fine name rolls dir) ≡ Ok tt
   admits_asked earlier q = q
   admits_asked present q = admitted_asked vol st name rolls dir q
 
-  pub admits_done : (rules : Rules) → Allows rules name → asked_of vol st (open_fine name rolls dir) ≡ Done → admits rules ≡ Done
+  pub admits_done : (rules : Rules) → Allows rules name → asked_of vol st (open_fine name rolls dir) ≡ Ok tt → admits rules ≡ Ok tt
   admits_done earlier allows q = q
   admits_done present allows q = admitted_same vol st name rolls dir (λ _. allows) ∙ q
 

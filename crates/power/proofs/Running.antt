@@ -1,5 +1,6 @@
 -- What append, sync and delete give in a history, where it can be told: an appender keeps fewer bytes than a record takes, and where its chunk has room a
 -- sync writes them by one write; and a delete with one write left makes no step. Assumes nothing.
+use Rattle.std.specs.Prelude.{Err, Ok}
 use Prim.Native.Nat.{ℕ, zero, suc, ◌+◌, ◌≤◌, ◌<◌}
 use mathlib.Core.Path.{◌≡◌, refl, ap, subst, ◌∙◌}
 use mathlib.Core.Bool.{true, false}
@@ -12,7 +13,6 @@ use Rattle.le.specs.Part.{part}
 use Rattle.le.proofs.Choices.{pick_false}
 use Rattle.medium.specs.declared.Error.{Error}
 use Rattle.medium.specs.declared.Medium.{Medium}
-use Rattle.medium.specs.declared.Outcome.TheVariants.{Done, No}
 use Rattle.medium.proofs.Laws.{on_done_keeps, on_done_no, on_done_done}
 use Rattle.handles.specs.declared.Store.{Store}
 use Rattle.handles.specs.declared.Writer.{Writer}
@@ -55,7 +55,7 @@ some_bytes buffer zero e some = absurd (some e)
 some_bytes buffer (suc n) e some = omega arith
 
 -- a flush that is done
-flush_done : (vol : List ℕ) (m : Medium) (st : Store) (a : Appender) {o : AppOut} → write_out vol m st a ≡ o → o.ans.outcome ≡ Done → flush_of vol m st a ≡ o
+flush_done : (vol : List ℕ) (m : Medium) (st : Store) (a : Appender) {o : AppOut} → write_out vol m st a ≡ o → o.ans.outcome ≡ Ok tt → flush_of vol m st a ≡ o
 unfolding flush_of
 flush_done vol m st a q d = rw q (on_done_done _ _ d)
 
@@ -64,7 +64,7 @@ module _ {w : World} {b : Fine} (k : Keeps w b) (y : Opened w) where
   stands =
       (subst (λ (x : Writer). Writes x w.appender (Stands w.vol w.store w.appender k.layout b [] × (w.appender.fill < 486))) y.writer k.owns.writes).2 y.live
 
-  pub may : may_write w.vol w.store w.appender ≡ Done
+  pub may : may_write w.vol w.store w.appender ≡ Ok tt
   may = stands_may k.whole stands.0 stands.1 (Open w.appender.token w.appender.id) y.writer (own_token w.appender.token w.appender.id) y.live
 
   pub some_kept : (b.unwritten ≡ [] → ⊥) → 1 ≤ w.appender.fill
@@ -87,7 +87,7 @@ module _ {w : World} {b : Fine} (k : Keeps w b) (y : Opened w) where
     unfolding ran sync_call offered sync_of
     sync_flush = ap ran_append (on_done_done _ _ may ∙ ap call_of (pick_false _ _ (ne_eqb w.appender.fill 0 (λ e. omega (arith, e)))))
 
-    pub sync_done : {o : AppOut} → write_out w.vol (with_left left w.medium) w.store w.appender ≡ o → o.ans.outcome ≡ Done → ran w (sync left) ≡ ran_append (call_of o)
+    pub sync_done : {o : AppOut} → write_out w.vol (with_left left w.medium) w.store w.appender ≡ o → o.ans.outcome ≡ Ok tt → ran w (sync left) ≡ ran_append (call_of o)
     sync_done q d = sync_flush ∙ ap (λ (o : AppOut). ran_append (call_of o)) (flush_done w.vol (with_left left w.medium) w.store w.appender q d)
 
 -- ---- one whose next record is number i of its chunk, with n bytes unwritten
@@ -115,7 +115,7 @@ module _ {w : World} {b : Fine} {i n : ℕ} (k : Keeps w b) (y : Ready w i n) wh
     abbrev given : Medium
     given = with_left left w.medium
 
-    record_steps : ((record_out i w.vol given w.store w.appender).ans.outcome ≡ Done)
+    record_steps : ((record_out i w.vol given w.store w.appender).ans.outcome ≡ Ok tt)
         × ((record_out i w.vol given w.store w.appender).steps ≡ (record { kind = recorded; skipped = [] }) ∷ [])
         × ((record_out i w.vol given w.store w.appender).ans.store ≡ w.store)
         × ((record_out i w.vol given w.store w.appender).ans.appender ≡ filed i w.appender)
@@ -134,11 +134,11 @@ module _ {w : World} {b : Fine} {i n : ℕ} (k : Keeps w b) (y : Ready w i n) wh
 
 -- ---- a delete with one write left, or none
 
-no_steps : (kind : Kind) (o : Out) {e : Error} → o.ans.outcome ≡ No e → steps_of kind o ≡ []
+no_steps : (kind : Kind) (o : Out) {e : Error} → o.ans.outcome ≡ Err e → steps_of kind o ≡ []
 unfolding steps_of
 no_steps kind o q = on_done_no _ _ q
 
-removed_none : (vol : List ℕ) (m : Medium) (st : Store) (slot id : ℕ) → ((commit_of (Remove slot) [] vol m st).ans.outcome ≡ Done → ⊥) → steps_of deleted (remove_of vol m st slot id) ≡ []
+removed_none : (vol : List ℕ) (m : Medium) (st : Store) (slot id : ℕ) → ((commit_of (Remove slot) [] vol m st).ans.outcome ≡ Ok tt → ⊥) → steps_of deleted (remove_of vol m st slot id) ≡ []
 unfolding remove_of
 removed_none vol m st slot id none =
     let o : Out = commit_of (Remove slot) [] vol m st in

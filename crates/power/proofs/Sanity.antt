@@ -1,6 +1,7 @@
 -- The claim is not empty. On a zeroed volume a history meets its premises in which a file is created, a batch is appended and synced, the file's delete
 -- has too few writes left to make its step, and a mount follows; and what is claimed of it is that the volume holds this file with this batch. And the
 -- edge of 01: with one write too few the first create after a format gives 4, and a mount finds no file. Assumes nothing.
+use Rattle.std.specs.Prelude.{Ok}
 use Prim.Native.Nat.{ℕ, ◌+◌, ◌-◌, ◌/◌, ◌^◌, ◌≤◌, ◌<◌}
 use mathlib.Core.Path.{◌≡◌, refl, sym, ap, subst, ◌∙◌}
 use mathlib.Core.Bool.{Bool, true, false}
@@ -16,7 +17,6 @@ use Rattle.le.specs.Part.{zeros}
 use Rattle.le.proofs.Parts.{length_zeros}
 use Rattle.names.specs.Names.{name_ok}
 use Rattle.medium.specs.declared.Medium.{Medium}
-use Rattle.medium.specs.declared.Outcome.TheVariants.{Done}
 use Rattle.medium.specs.Refusal.{ok, refused}
 use Rattle.medium.specs.Sector.{Readable}
 use Rattle.handles.specs.declared.Header.{Header}
@@ -66,7 +66,7 @@ module _ (n size seed : ℕ) (m : Medium) (ap₀ : Appender) (enough : 64 ≤ n 
   abbrev pub start : World
   start = started (format_call (zeros n) m size seed) ap₀
 
-  formatted : (format_of size seed (zeros n) m).ans.outcome ≡ Done
+  formatted : (format_of size seed (zeros n) m).ans.outcome ≡ Ok tt
   formatted = zero_done n size seed m enough r least most some room
 
   pub made : FormatMade size (zeros n) m (format_of size seed (zeros n) m)

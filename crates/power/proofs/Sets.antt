@@ -1,4 +1,5 @@
 -- S-1: the sync of a setting: accepted, its line stands behind the others and its pin beside theirs; refused, all is as it was. Assumes nothing.
+use Rattle.std.specs.Prelude.{Err, Ok, Result}
 use Prim.Native.Nat.{ℕ, ◌<◌}
 use mathlib.Core.Path.{◌≡◌, refl, ap, sym, subst, ◌∙◌}
 use mathlib.Core.Logic.{◌≢◌, inl, inr}
@@ -13,8 +14,6 @@ use Rattle.le.specs.Choice.{pick}
 use Rattle.le.proofs.Choices.{pick_keeps, pick_true}
 use Rattle.medium.specs.declared.Error.{Error}
 use Rattle.medium.specs.declared.Medium.{Medium}
-use Rattle.medium.specs.declared.Outcome.{Outcome}
-use Rattle.medium.specs.declared.Outcome.TheVariants.{Done, No}
 use Rattle.medium.specs.Refusal.{outcome_of}
 use Rattle.medium.proofs.Laws.{on_done_keeps}
 use Rattle.append.specs.Calls.{AppCall, may_write, offered, sync_call}
@@ -65,9 +64,9 @@ unfolding book.entered_all book.entered
 stays_named name t b ks (inl e) f m n = rw e (f, m, n)
 stays_named name t b ks (inr e) f m n = rw e (named_on b.file with_chunk (λ x. refl) name b.files f m n)
 
-no_of : (o : Outcome) → is_ok (outcome_of o) ≡ false → (e : Error) × (o ≡ No e)
-no_of Done h = absurd (true≢false h)
-no_of (No e) h = (e, refl)
+no_of : (o : Result Unit Error) → is_ok (outcome_of o) ≡ false → (e : Error) × (o ≡ Err e)
+no_of (Ok tt) h = absurd (true≢false h)
+no_of (Err e) h = (e, refl)
 
 length_zero : (l : List ℕ) → length l ≡ 0 → l ≡ []
 length_zero [] e = refl

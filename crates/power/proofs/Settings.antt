@@ -1,5 +1,6 @@
 -- S-1: the steps of a sync with bytes to write, on an appender without rollover. Accepted, one record stands, behind a chunk more or not; refused, none.
 -- So on 01's book the file of the lines gets exactly the line. Assumes nothing.
+use Rattle.std.specs.Prelude.{Err, Ok, Result}
 use Prim.Native.Nat.{ℕ}
 use mathlib.Core.Path.{◌≡◌, refl, ap, sym, ◌∙◌}
 use mathlib.Core.Logic.{◌≢◌, ◌⊎◌, inl, inr}
@@ -11,8 +12,6 @@ use lib.ListN.{take}
 use Rattle.le.proofs.Choices.{pick_keeps, pick_keeps_by, pick_false}
 use Rattle.medium.specs.declared.Error.{Error}
 use Rattle.medium.specs.declared.Medium.{Medium}
-use Rattle.medium.specs.declared.Outcome.{Outcome}
-use Rattle.medium.specs.declared.Outcome.TheVariants.{Done, No}
 use Rattle.medium.specs.Refusal.{on_done}
 use Rattle.medium.proofs.Laws.{on_done_keeps}
 use Rattle.handles.specs.declared.Store.{Store}
@@ -31,7 +30,7 @@ use Rattle.power.proofs.Marks.{Holding, Quiet, holding_entered, holding_record}
 
 -- what a part of the call makes, by its outcome
 abbrev By : (List Kind → Type 0) → (List Kind → Type 0) → AppOut → Type 0
-By P Q o = (o.ans.outcome ≡ Done → P (kinds_of o.steps)) × ((e : Error) → o.ans.outcome ≡ No e → Q (kinds_of o.steps))
+By P Q o = (o.ans.outcome ≡ Ok tt → P (kinds_of o.steps)) × ((e : Error) → o.ans.outcome ≡ Err e → Q (kinds_of o.steps))
 
 abbrev Is : List Kind → List Kind → Type 0
 Is ks x = x ≡ ks
@@ -46,7 +45,7 @@ record_by : (i : ℕ) (vol : List ℕ) (m : Medium) (st : Store) (a : Appender) 
 unfolding record_out
 record_by i vol m st a = on_done_keeps (By (Is (recorded ∷ [])) (Is [])) _ _ _ (λ q. (λ _. refl, λ e d. clash d refl)) (λ e q. (λ d. clash refl d, λ _ _. refl))
 
-made_by : (o : Out) → (o.ans.outcome ≡ Done → kinds_of (steps_of extended o) ≡ extended ∷ []) × ((e : Error) → o.ans.outcome ≡ No e → kinds_of (steps_of extended o) ≡ [])
+made_by : (o : Out) → (o.ans.outcome ≡ Ok tt → kinds_of (steps_of extended o) ≡ extended ∷ []) × ((e : Error) → o.ans.outcome ≡ Err e → kinds_of (steps_of extended o) ≡ [])
 unfolding steps_of on_done
 made_by o = (λ d. rw d refl, λ e d. rw d refl)
 
@@ -68,9 +67,9 @@ module _ (vol : List ℕ) (m : Medium) (st : Store) (a : Appender) (rolls : a.ro
   next_by : (o : AppOut) → By (Is (extended ∷ [])) (Is []) o → By OneRecord NoRecord (and_then o (record_out 0))
   next_by o b = go o.ans.outcome refl
     where
-      go : (r : Outcome) → o.ans.outcome ≡ r → By OneRecord NoRecord (and_then o (record_out 0))
-      go (No e) q = rw (then_no o (record_out 0) q) (λ d. clash q d, λ x d. inl (b.1 x d))
-      go Done q =
+      go : (r : Result Unit Error) → o.ans.outcome ≡ r → By OneRecord NoRecord (and_then o (record_out 0))
+      go (Err e) q = rw (then_no o (record_out 0) q) (λ d. clash q d, λ x d. inl (b.1 x d))
+      go (Ok tt) q =
           let x : AppOut = record_out 0 o.vol o.ans.medium o.ans.store o.ans.appender in
           let k : kinds_of (o.steps ++ x.steps) ≡ extended ∷ kinds_of x.steps = map-append _ o.steps x.steps ∙ ap (λ (y : List Kind). y ++ kinds_of x.steps) (b.0 q) in
           let y = record_by 0 o.vol o.ans.medium o.ans.store o.ans.appender in

@@ -1,4 +1,6 @@
 -- The end of demand 3: a volume on which the invariant holds is mounted, lists exactly the book's files, and gives the payloads of each. Assumes nothing.
+use Rattle.std.specs.Prelude.{Ok, Result}
+use Rattle.medium.specs.declared.Error.{Error}
 use Prim.Native.Nat.{ℕ, ◌*◌, ◌≤◌, ◌<◌}
 use mathlib.Core.Path.{◌≡◌, refl, sym, ap, subst, ◌∙◌}
 use mathlib.Core.Logic.{◌≢◌}
@@ -13,8 +15,6 @@ use Rattle.le.specs.Part.{part, over, zeros}
 use Rattle.names.specs.Names.{name_ok, dir_ok}
 use Rattle.names.proofs.Laws.{in_root}
 use Rattle.medium.specs.declared.Medium.{Medium}
-use Rattle.medium.specs.declared.Outcome.{Outcome}
-use Rattle.medium.specs.declared.Outcome.TheVariants.{Done}
 use Rattle.medium.specs.Refusal.{ok, refused, on_done}
 use Rattle.medium.specs.Sector.{Readable}
 use Rattle.handles.specs.declared.Store.{Store}
@@ -99,7 +99,7 @@ module _ (vol : List ℕ) (m : Medium) (st : Store) (G : ℕ → List Segment) (
   ok_all : Checked vol m st
   ok_all = inv_checked m w.inv r
 
-  pub asked : (fine : Bool) → fine ≡ true → asked_of vol st fine ≡ Done
+  pub asked : (fine : Bool) → fine ≡ true → asked_of vol st fine ≡ Ok tt
   unfolding asked_of pick
   asked fine e = rw (w.inv.ok, e)
 
@@ -113,10 +113,10 @@ module _ (vol : List ℕ) (m : Medium) (st : Store) (G : ℕ → List Segment) (
     all_rows : Listing vol st G [] counted made
     all_rows = list_view vol m st ok_all G w.good [] counts rows counters room
 
-    list_gives : list_at m Done made.made.count counted.counts made.made.rows ≡ list_call vol m st [] counts rows
+    list_gives : list_at m (Ok tt) made.made.count counted.counts made.made.rows ≡ list_call vol m st [] counts rows
     list_gives =
         rows_told_lem vol m st [] counts rows (long_enough counts rows counters room) root (sym (asked true refl)) refl refl (sym all_rows.counted, refl) refl
-        (ap (λ (o : Outcome). rows_told (record { outcome = o; count = made.made.count }) made.made.rows) (sym all_rows.made))
+        (ap (λ (o : Result Unit Error). rows_told (record { outcome = o; count = made.made.count }) made.made.rows) (sym all_rows.made))
 
     pub lists : Shows (list_call vol m st [] counts rows) b.files
     lists =
@@ -136,7 +136,7 @@ module _ (vol : List ℕ) (m : Medium) (st : Store) (G : ℕ → List Segment) (
 
   -- the file of a slot, from its start
   module _ (s : ℕ) (name : List ℕ) (id : ℕ) (h : s < 64) (e : (disk_of vol st).entry s ≡ named name id) where
-    reader_gives : reader_call vol m st name ≡ reader_answer (record { outcome = Done; reader = start_of st s id (chain_for st.head.chunk s (G s)); medium = m })
+    reader_gives : reader_call vol m st name ≡ reader_answer (record { outcome = Ok tt; reader = start_of st s id (chain_for st.head.chunk s (G s)); medium = m })
     unfolding reader_call on_done on_found on_chain
     reader_gives =
         rw (

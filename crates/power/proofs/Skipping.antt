@@ -1,6 +1,7 @@
 -- The premise on sectors left unwritten, met by sectors: on a zeroed volume a file is created and deleted at once. The delete writes the copy that the
 -- format wrote, where every body sector holds the zeros that are due again. So it leaves all nine unwritten, and 01's two writes are enough. Assumes
 -- nothing.
+use Rattle.std.specs.Prelude.{Ok}
 use Prim.Native.Nat.{ℕ, ◌+◌, ◌-◌, ◌^◌, ◌≤◌, ◌<◌}
 use mathlib.Core.Path.{◌≡◌, refl, sym, ap, ◌∙◌}
 use mathlib.Core.Bool.{Bool, true, false, not, ◌&&◌, ◌||◌}
@@ -17,7 +18,6 @@ use Rattle.le.proofs.Parts.{length_zeros, drop_over, over_zeros}
 use Rattle.checksum.specs.Crc.{crc32_of}
 use Rattle.walk.specs.Walk.{walk, visits}
 use Rattle.medium.specs.declared.Medium.{Medium}
-use Rattle.medium.specs.declared.Outcome.TheVariants.{Done}
 use Rattle.medium.specs.Sector.{sector_at, Readable}
 use Rattle.handles.specs.declared.Header.{Header}
 use Rattle.handles.specs.declared.Store.{Store}
@@ -160,6 +160,6 @@ module _ (vol₀ : List ℕ) (m₀ : Medium) (st₀ : Store) (inv₀ : Inv vol�
   as_many = all_listed plan o.vol m (plan_good (Remove 0) [] o.vol m st inv.ok inv.range.count (lit≤ tt)) all_skip (body_count plan) 0 (omega arith) ∙ ap body_of chunks
 
   pub commit_two : 2 ≤ m.left → (st.head.generation ≡ 2 ^ 64 - 1 → ⊥)
-      → ((commit_of (Remove 0) [] o.vol m st).ans.outcome ≡ Done) × ((commit_of (Remove 0) [] o.vol m st).skipped ≡ skipped_from plan o.vol m (body_count plan) 0)
+      → ((commit_of (Remove 0) [] o.vol m st).ans.outcome ≡ Ok tt) × ((commit_of (Remove 0) [] o.vol m st).skipped ≡ skipped_from plan o.vol m (body_count plan) 0)
   commit_two l less =
       rw (commit_is (Remove 0) [] o.vol m st inv r less) (copy_two plan o.vol m (plan_good (Remove 0) [] o.vol m st inv.ok inv.range.count (lit≤ tt)) all_skip l)

@@ -1,5 +1,6 @@
 -- The number of writes of a copy of whose body nothing is known: each body sector is written, and the header twice. With fewer left it is refused with
 -- 4; and none of its sectors is left unwritten. And of one whose body sectors are all left: two. Assumes nothing.
+use Rattle.std.specs.Prelude.{Err, Ok}
 use Prim.Native.Nat.{ℕ, zero, suc, ◌+◌, ◌≤◌, ◌<◌}
 use mathlib.Core.Path.{◌≡◌, refl, ap, subst, ◌∙◌}
 use mathlib.Core.Bool.{Bool, true, false}
@@ -12,7 +13,6 @@ use Rattle.le.specs.Choice.{pick}
 use Rattle.le.proofs.Choices.{pick_true}
 use Rattle.medium.specs.declared.Error.TheVariants.{Media}
 use Rattle.medium.specs.declared.Medium.{Medium}
-use Rattle.medium.specs.declared.Outcome.TheVariants.{Done, No}
 use Rattle.medium.specs.Refusal.{on_done}
 use Rattle.medium.specs.Sector.{sectors_of, spend_of, WriteOut, write_of}
 use Rattle.medium.proofs.Laws.{on_done_no, on_done_done}
@@ -31,11 +31,11 @@ use Rattle.layout.proofs.Facts.{case}
 -- ---- one write
 
 module _ (vol : List ℕ) (m : Medium) (k : ℕ) (bytes : List ℕ) where
-  pub write_some : 1 ≤ m.left → ((write_of vol m k bytes).ans.outcome ≡ Done) × ((write_of vol m k bytes).ans.medium.left + 1 ≡ m.left)
+  pub write_some : 1 ≤ m.left → ((write_of vol m k bytes).ans.outcome ≡ Ok tt) × ((write_of vol m k bytes).ans.medium.left + 1 ≡ m.left)
   unfolding write_of spend_of pick
   write_some h = let z = ne_eqb m.left 0 (λ e. omega arith) in rw z (refl, omega arith)
 
-  pub write_media : m.left ≡ 0 → (write_of vol m k bytes).ans.outcome ≡ No Media
+  pub write_media : m.left ≡ 0 → (write_of vol m k bytes).ans.outcome ≡ Err Media
   unfolding write_of spend_of pick
   write_media h = rw (eq-eqb m.left 0 h)
 
@@ -43,8 +43,8 @@ module _ (vol : List ℕ) (m : Medium) (k : ℕ) (bytes : List ℕ) where
 
 -- n writes from the medium u on
 pub record Spent (n : ℕ) (u : Medium) (o : BodyOut) : Type 0 where
-  pub enough : n ≤ u.left → (o.ans.outcome ≡ Done) × (o.ans.medium.left + n ≡ u.left)
-  pub short : u.left < n → o.ans.outcome ≡ No Media
+  pub enough : n ≤ u.left → (o.ans.outcome ≡ Ok tt) × (o.ans.medium.left + n ≡ u.left)
+  pub short : u.left < n → o.ans.outcome ≡ Err Media
 
 -- every body sector is written
 abbrev pub AllPut : Plan → List ℕ → Medium → Type 0
@@ -115,11 +115,11 @@ module _ (p : Plan) (vol : List ℕ) (m : Medium) (good : Good p vol) (puts : Al
   abbrev last_part : Out
   last_part = last_of p (free_after p vol) (skipped_from p vol m (body_count p) 0) b.vol b.ans.medium b.ans.head
 
-  reaches : z.ans.outcome ≡ Done → b.ans.outcome ≡ Done → copy_out p vol m ≡ last_part
+  reaches : z.ans.outcome ≡ Ok tt → b.ans.outcome ≡ Ok tt → copy_out p vol m ≡ last_part
   unfolding copy_out
   reaches s t = on_done_done _ _ s ∙ on_done_done _ _ t
 
-  pub copy_enough : body_count p + 2 ≤ m.left → ((copy_out p vol m).ans.outcome ≡ Done) × ((copy_out p vol m).skipped ≡ [])
+  pub copy_enough : body_count p + 2 ≤ m.left → ((copy_out p vol m).ans.outcome ≡ Ok tt) × ((copy_out p vol m).skipped ≡ [])
   unfolding last_of
   copy_enough l =
       let s = write_some vol m (target p) p.first (omega arith) in
@@ -128,14 +128,14 @@ module _ (p : Plan) (vol : List ℕ) (m : Medium) (good : Good p vol) (puts : Al
       let x = reaches s.0 t.0 ∙ on_done_done _ _ u.0 in
       (ap (λ (o : Out). o.ans.outcome) x, ap (λ (o : Out). o.skipped) x ∙ none_skipped (body_count p) 0 (omega arith))
 
-  pub copy_short : m.left < body_count p + 2 → (copy_out p vol m).ans.outcome ≡ No Media
+  pub copy_short : m.left < body_count p + 2 → (copy_out p vol m).ans.outcome ≡ Err Media
   unfolding copy_out last_of
   copy_short l =
       case m.left 0
       (λ e. ap (λ (o : Out). o.ans.outcome) (on_done_no _ _ (write_media vol m (target p) p.first e)))
       (λ e. let s = write_some vol m (target p) p.first (omega (arith, e)) in go s.0 s.1 (ltb z.ans.medium.left (body_count p)) refl)
     where
-      go : z.ans.outcome ≡ Done → z.ans.medium.left + 1 ≡ m.left → (t : Bool) → ltb z.ans.medium.left (body_count p) ≡ t → (copy_out p vol m).ans.outcome ≡ No Media
+      go : z.ans.outcome ≡ Ok tt → z.ans.medium.left + 1 ≡ m.left → (t : Bool) → ltb z.ans.medium.left (body_count p) ≡ t → (copy_out p vol m).ans.outcome ≡ Err Media
       go s r true t = ap (λ (o : Out). o.ans.outcome) (on_done_done _ _ s ∙ on_done_no _ _ (body.short (ltb-true _ _ t)))
       go s r false t =
           let y = body.enough (ltb-false _ _ t) in
@@ -146,7 +146,7 @@ module _ (p : Plan) (vol : List ℕ) (m : Medium) (good : Good p vol) (puts : Al
 
 module _ (p : Plan) (vol : List ℕ) (m : Medium) (good : Good p vol) (all : (k : ℕ) → k < body_count p → skips p vol m k ≡ true) where
   act_none : (mv : Move) (v : List ℕ) (u : Medium) (h : Header) (k : ℕ) → leaves mv ≡ true
-      → ((act_of p mv v u h k).vol ≡ v) × ((act_of p mv v u h k).ans.outcome ≡ Done) × ((act_of p mv v u h k).ans.medium ≡ u)
+      → ((act_of p mv v u h k).vol ≡ v) × ((act_of p mv v u h k).ans.outcome ≡ Ok tt) × ((act_of p mv v u h k).ans.medium ≡ u)
   unfolding act_of leaves
   act_none unread v u h k e = (refl, refl, refl)
   act_none (matched c) v u h k e = (refl, refl, refl)
@@ -154,7 +154,7 @@ module _ (p : Plan) (vol : List ℕ) (m : Medium) (good : Good p vol) (all : (k 
   act_none (bad x) v u h k e = no_way e
 
   body_none : (n k : ℕ) (v : List ℕ) (u : Medium) (h : Header) → k + n ≤ body_count p → Kept (target p) 25 vol v → u.unreadable ≡ m.unreadable
-      → ((body_from p n k v u h).ans.outcome ≡ Done) × ((body_from p n k v u h).ans.medium ≡ u)
+      → ((body_from p n k v u h).ans.outcome ≡ Ok tt) × ((body_from p n k v u h).ans.medium ≡ u)
   unfolding body_from body_sector_of skips
   body_none zero k v u h fits kept same = (refl, refl)
   body_none (suc n) k v u h fits kept same =
@@ -170,7 +170,7 @@ module _ (p : Plan) (vol : List ℕ) (m : Medium) (good : Good p vol) (all : (k 
   all_listed zero k fits = refl
   all_listed (suc n) k fits = ap length (pick_true _ _ (all k (omega arith))) ∙ ap suc (all_listed n (k + 1) (omega arith))
 
-  pub copy_two : 2 ≤ m.left → ((copy_out p vol m).ans.outcome ≡ Done) × ((copy_out p vol m).skipped ≡ skipped_from p vol m (body_count p) 0)
+  pub copy_two : 2 ≤ m.left → ((copy_out p vol m).ans.outcome ≡ Ok tt) × ((copy_out p vol m).skipped ≡ skipped_from p vol m (body_count p) 0)
   unfolding copy_out last_of
   copy_two l =
       let z : WriteOut = first_of p vol m in

@@ -1,5 +1,6 @@
 -- Calls of a history in a store of two chunks of one record each, where they are accepted: create, append, the sync of a first record, the sync that
 -- finds no chunk free, open_append, and a format. What each tells the book, and what holds after it. Assumes nothing.
+use Rattle.std.specs.Prelude.{Ok}
 use Prim.Native.Nat.{ℕ, ◌+◌, ◌*◌, ◌^◌, ◌≤◌, ◌<◌}
 use mathlib.Core.Path.{◌≡◌, refl, sym, ap, subst, ◌∙◌}
 use mathlib.Core.Bool.{Bool, true}
@@ -11,7 +12,6 @@ use lib.Dec.{lit≤}
 use lib.ListN.{length}
 use Rattle.le.specs.Choice.{pick}
 use Rattle.medium.specs.declared.Medium.{Medium}
-use Rattle.medium.specs.declared.Outcome.TheVariants.{Done}
 use Rattle.medium.specs.Sector.{sectors_of}
 use Rattle.handles.specs.declared.Store.{Store}
 use Rattle.handles.specs.declared.Writer.TheVariants.{Open}
@@ -199,7 +199,7 @@ module _ {w : World} {b : Book} {n : ℕ} (s : Stage w b n) where
         let taken : w.store.head.chunks * w.store.head.chunk ≡ 2 = rw (s.chunks, s.size) refl in
         omega (arith, e, taken, (inv_sane s.keeps.keeps.whole.inv).room)
 
-    formats : (format_of 1 seed w.vol u).ans.outcome ≡ Done
+    formats : (format_of 1 seed w.vol u).ans.outcome ≡ Ok tt
     unfolding Given
     formats =
         again_done 1 seed w.vol u s.keeps.keeps.whole.inv given.0 (lit≤ tt) (lit≤ tt) some_chunk (λ e. omega (arith, e, s.generation, less))

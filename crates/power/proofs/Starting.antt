@@ -1,5 +1,6 @@
 -- After an accepted format the other copy is none of the new store, whatever it is. And a zeroed volume meets the premises that a history starts with:
 -- its format is accepted, and none of its sectors passes as a record. Assumes nothing.
+use Rattle.std.specs.Prelude.{Ok}
 use Prim.Native.Nat.{ℕ, zero, suc, ◌+◌, ◌-◌, ◌*◌, ◌/◌, ◌^◌, ◌≤◌, ◌<◌}
 use mathlib.Core.Path.{◌≡◌, refl, sym, ap, ◌∙◌}
 use mathlib.Core.Bool.{true, false}
@@ -14,7 +15,6 @@ use Rattle.le.proofs.Parts.{length_zeros, part_zeros}
 use Rattle.le.proofs.Bools.{and_true}
 use Rattle.runs.specs.Run.{starts_with}
 use Rattle.medium.specs.declared.Medium.{Medium}
-use Rattle.medium.specs.declared.Outcome.TheVariants.{Done}
 use Rattle.medium.specs.Refusal.{ok, outcome_of}
 use Rattle.handles.specs.declared.Header.{Header}
 use Rattle.handles.specs.declared.Store.{Store}
@@ -48,7 +48,7 @@ use Rattle.power.specs.History.{Clean}
 
 -- ---- after any format
 
-module _ (size seed : ℕ) (vol : List ℕ) (m : Medium) (done : (format_of size seed vol m).ans.outcome ≡ Done) where
+module _ (size seed : ℕ) (vol : List ℕ) (m : Medium) (done : (format_of size seed vol m).ans.outcome ≡ Ok tt) where
   abbrev out : Out
   out = format_of size seed vol m
 
@@ -103,7 +103,7 @@ module _ (size seed : ℕ) (vol : List ℕ) (m : Medium) (done : (format_of size
 
 pub again_done : (size seed : ℕ) (vol : List ℕ) (m : Medium) {st : Store} → Inv vol st → Readable vol m → 1 ≤ size → size ≤ 512
     → (chunks_of (sectors_of vol) size ≡ 0 → ⊥) → (st.head.generation ≡ 2 ^ 64 - 1 → ⊥) → body_of (chunks_of (sectors_of vol) size) + 2 ≤ m.left
-    → (format_of size seed vol m).ans.outcome ≡ Done
+    → (format_of size seed vol m).ans.outcome ≡ Ok tt
 again_done size seed vol m {st} inv r least most some less left =
     let e : 64 ≤ sectors_of vol = inv.sound.stands.enough in
     let h = stands_headers vol st.head m (reads m vol r 0 (omega arith)) (reads m vol r 32 (omega arith)) st.copy inv.sound.stands in
@@ -152,7 +152,7 @@ module _ (n size seed : ℕ) (m : Medium) (enough : 64 ≤ n / 512) (r : Readabl
   zero_newest = rw headers_none
 
   module _ (least : 1 ≤ size) (most : size ≤ 512) (some : chunks_of (n / 512) size ≡ 0 → ⊥) (left : body_of (chunks_of (n / 512) size) + 2 ≤ m.left) where
-    pub zero_done : (format_of size seed vol m).ans.outcome ≡ Done
+    pub zero_done : (format_of size seed vol m).ans.outcome ≡ Ok tt
     zero_done =
         format_done size seed vol m (rw headers_none refl) least most (rw sectors some) (λ e. let z : 0 ≡ 2 ^ 64 - 1 = sym zero_newest ∙ e in omega (arith, z)) (rw sectors left)
 

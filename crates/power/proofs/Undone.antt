@@ -1,5 +1,7 @@
 -- The claim's premise on sectors left unwritten is met by sectors: on 128 sectors of zeros a file is created and deleted at once. The delete is accepted
 -- with 01's two writes, its step lists all nine body sectors as left unwritten, each holds the bytes due, and the volume holds no file. Assumes nothing.
+use Rattle.std.specs.Prelude.{Ok, Result}
+use Rattle.medium.specs.declared.Error.{Error}
 use Prim.Native.Nat.{ℕ, ◌+◌, ◌-◌, ◌/◌, ◌^◌, ◌≤◌, ◌<◌}
 use mathlib.Core.Path.{◌≡◌, refl, sym, ap, subst, ◌∙◌}
 use mathlib.Core.Bool.{true, false}
@@ -14,8 +16,6 @@ use Rattle.le.proofs.Parts.{length_zeros}
 use Rattle.names.specs.Names.{name_ok}
 use Rattle.names.proofs.Laws.{name_short}
 use Rattle.medium.specs.declared.Medium.{Medium}
-use Rattle.medium.specs.declared.Outcome.{Outcome}
-use Rattle.medium.specs.declared.Outcome.TheVariants.{Done}
 use Rattle.medium.specs.Refusal.{outcome_of}
 use Rattle.medium.specs.Sector.{sector_at, Readable}
 use Rattle.handles.specs.declared.Header.{Header}
@@ -146,7 +146,7 @@ module _ (seed : ℕ) (m : Medium) (ap₀ : Appender) (left : 11 ≤ m.left) (r 
   abbrev gone : Out
   gone = remove_of w₁.vol u w₁.store 0 1
 
-  is_gone : (gone.ans.outcome ≡ Done) × (gone.skipped ≡ skipped)
+  is_gone : (gone.ans.outcome ≡ Ok tt) × (gone.skipped ≡ skipped)
   unfolding remove_of
   is_gone =
       let c = commit_two w₀.vol (with_left 11 w₀.medium) w₀.store keeps₀.keeps.whole.inv empty name 1 (name_short name fine) first.out first.made u w₁.store refl refl refl
@@ -154,7 +154,7 @@ module _ (seed : ℕ) (m : Medium) (ap₀ : Appender) (left : 11 ≤ m.left) (r 
       let x = on_done_done _ _ c.0 in
       (ap (λ (o : Out). o.ans.outcome) x, ap (λ (o : Out). o.skipped) x ∙ c.1)
 
-  asked : asked_name w₁.vol w₁.store name ≡ Done
+  asked : asked_name w₁.vol w₁.store name ≡ Ok tt
   unfolding asked_of pick
   asked = rw (keeps₁.keeps.whole.inv.ok, fine)
 
@@ -163,7 +163,7 @@ module _ (seed : ℕ) (m : Medium) (ap₀ : Appender) (left : 11 ≤ m.left) (r 
   deletes =
       let x = on_done_done (on_found (find_of w₁.vol u w₁.store name) (refused_out w₁.store w₁.vol u) (remove_of w₁.vol u w₁.store)) _ asked
       ∙ ap (λ (f : Found). on_found f (refused_out w₁.store w₁.vol u) (remove_of w₁.vol u w₁.store)) named_at in (
-        ap (λ (o : Out). is_ok (outcome_of o.ans.outcome)) x ∙ ap (λ (o : Outcome). is_ok (outcome_of o)) is_gone.0,
+        ap (λ (o : Out). is_ok (outcome_of o.ans.outcome)) x ∙ ap (λ (o : Result Unit Error). is_ok (outcome_of o)) is_gone.0,
         ap (steps_of deleted) x ∙ steps_done deleted gone is_gone.0 ∙ ap (λ (l : List Skipped). (record { kind = deleted; skipped = l }) ∷ []) is_gone.1,
       )
 

@@ -1,8 +1,8 @@
 -- 02, S-7, beside demand 3: a format on any volume of bytes that has a store. Whatever the size, the seed and the medium record, and so after a stop at
 -- any of its writes, a mount gives the old store or the new, and the answer tells which. No history comes before it. Assumes nothing.
+use Rattle.std.specs.Prelude.{Ok}
 use Rattle.std.specs.Prelude.{ℕ, ◌≤◌, ◌<◌, ◌≡◌, true, false, ◌||◌, List, get_or}
 use Rattle.medium.specs.declared.Medium.{Medium}
-use Rattle.medium.specs.declared.Outcome.TheVariants.{Done}
 use Rattle.medium.specs.Refusal.{ok, refused}
 use Rattle.medium.specs.Sector.{sector_at, read_of}
 use Rattle.handles.specs.declared.Store.{Store}
@@ -15,7 +15,7 @@ use Rattle.store.specs.Writing.{WriteCall, format_call}
 
 -- both header sectors read
 abbrev pub HeadersRead : Medium → Type 0
-HeadersRead u = (read_of u 0 ≡ Done) × (read_of u 32 ≡ Done)
+HeadersRead u = (read_of u 0 ≡ Ok tt) × (read_of u 32 ≡ Ok tt)
 
 -- mount gives this store, by every medium record with which both header sectors read; by S-3 with the map that its table then gives
 abbrev pub MountGives : List ℕ → Store → Type 0

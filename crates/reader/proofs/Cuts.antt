@@ -1,4 +1,5 @@
 -- S-1: a reader up to a record number. Each law is a way out of its function, over plain values. Assumes nothing.
+use Rattle.std.specs.Prelude.{Err, Ok, Result}
 use mathlib.Core.Path.{◌≡◌, refl, ap, ◌∙◌}
 use mathlib.Core.Bool.{Bool, true, false, ◌&&◌}
 use mathlib.Core.List.{List}
@@ -12,8 +13,6 @@ use Rattle.le.proofs.Bools.{and_true}
 use Rattle.medium.specs.declared.Error.{Error}
 use Rattle.medium.specs.declared.Error.TheVariants.{Range}
 use Rattle.medium.specs.declared.Medium.{Medium}
-use Rattle.medium.specs.declared.Outcome.{Outcome}
-use Rattle.medium.specs.declared.Outcome.TheVariants.{Done, No}
 use Rattle.medium.specs.Refusal.{on_done}
 use Rattle.handles.specs.declared.Store.{Store}
 use Rattle.record.specs.Record.{number_at}
@@ -79,11 +78,11 @@ module _ (limit : ℕ) (vol : List ℕ) (m : Medium) (st : Store) (rd : Reader) 
   below_given h = rw (← is, le-leb limit here h) (refl, refl)
 
   module _ (more : here < limit) {a : Arrived} (came : a ≡ arrive_of vol m st rd) where
-    pub below_refused : {e : Error} → a.outcome ≡ No e → (out ≡ (below_of limit vol m st rd out).out) × (tells (found.Refused e) a.reader ≡ (below_of limit vol m st rd out).ans)
+    pub below_refused : {e : Error} → a.outcome ≡ Err e → (out ≡ (below_of limit vol m st rd out).out) × (tells (found.Refused e) a.reader ≡ (below_of limit vol m st rd out).ans)
     unfolding below_of pick on_done
     below_refused q = rw (← is, lt-leb limit here more, ← came, q) (refl, refl)
 
-    module _ (q : a.outcome ≡ Done) {there : ℕ} (at : there ≡ stands_at st a.reader) where
+    module _ (q : a.outcome ≡ Ok tt) {there : ℕ} (at : there ≡ stands_at st a.reader) where
       pub below_end : (a.more && ltb there limit) ≡ false → (out ≡ (below_of limit vol m st rd out).out) × (tells found.End a.reader ≡ (below_of limit vol m st rd out).ans)
       unfolding below_of pick on_done
       below_end t = rw (← is, lt-leb limit here more, ← came, q, ← at, t) (refl, refl)
@@ -95,7 +94,7 @@ module _ (limit : ℕ) (vol : List ℕ) (m : Medium) (st : Store) (rd : Reader) 
 
 -- it gives what the reader gives: where that arrives at a record below the number, what next then gives, a hole that crosses the number ending there
 pub below_next : (limit : ℕ) (vol : List ℕ) (m : Medium) (st : Store) (rd : Reader) (out : List ℕ) → stands_at st rd < limit
-    → (arrive_of vol m st rd).outcome ≡ Done → (arrive_of vol m st rd).more ≡ true → stands_at st (arrive_of vol m st rd).reader < limit
+    → (arrive_of vol m st rd).outcome ≡ Ok tt → (arrive_of vol m st rd).more ≡ true → stands_at st (arrive_of vol m st rd).reader < limit
     → below_of limit vol m st rd out ≡ cut_out limit st (arrive_of vol m st rd).reader (next_of vol m st rd out)
 unfolding below_of next_of pick on_done
 below_next limit vol m st rd out h o more k = rw (lt-leb limit (stands_at st rd) h, o, more, lt-ltb (stands_at st (arrive_of vol m st rd).reader) limit k)
@@ -107,12 +106,12 @@ module _ (vol : List ℕ) (m : Medium) (st : Store) (u : Upto) (out : List ℕ) 
   unfolding below_call pick
   upto_short h = rw (lt-ltb _ _ h)
 
-  module _ (enough : 486 ≤ length out) {o : Outcome} (asked : o ≡ usable_of vol st u.reader) where
-    pub upto_no : {e : Error} → o ≡ No e → upto_answer (record { next = item.Refused e; upto = u; medium = m }) out ≡ below_call vol m st u out
+  module _ (enough : 486 ≤ length out) {o : Result Unit Error} (asked : o ≡ usable_of vol st u.reader) where
+    pub upto_no : {e : Error} → o ≡ Err e → upto_answer (record { next = item.Refused e; upto = u; medium = m }) out ≡ below_call vol m st u out
     unfolding below_call pick on_done
     upto_no q = rw (le-ltb _ _ enough, ← asked, q)
 
-    pub upto_done : {t : Taken} {l : List ℕ} {n : Next} → o ≡ Done → l ≡ (below_of u.limit vol m st u.reader out).out
+    pub upto_done : {t : Taken} {l : List ℕ} {n : Next} → o ≡ Ok tt → l ≡ (below_of u.limit vol m st u.reader out).out
         → t ≡ (below_of u.limit vol m st u.reader out).ans → n ≡ counted_of vol st t.reader t.next
         → upto_answer (record { next = n; upto = same_limit u t.reader; medium = m }) l ≡ below_call vol m st u out
     unfolding below_call pick on_done

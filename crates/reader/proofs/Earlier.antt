@@ -1,5 +1,6 @@
 -- S-4: "Reopening and reading keep their earlier results in all else": for all arguments, a call with the count forgotten is the call of before, in
 -- its answer, reader, every byte of the output and medium record. Assumes nothing.
+use Rattle.std.specs.Prelude.{Err, Ok, Result}
 use mathlib.Core.Path.{◌≡◌, refl}
 use mathlib.Core.Bool.{Bool, true, false}
 use mathlib.Core.List.{List}
@@ -9,8 +10,6 @@ use lib.ListN.{length}
 use Rattle.le.specs.Choice.{pick}
 use Rattle.medium.specs.declared.Error.{Error}
 use Rattle.medium.specs.declared.Medium.{Medium}
-use Rattle.medium.specs.declared.Outcome.{Outcome}
-use Rattle.medium.specs.declared.Outcome.TheVariants.{Done, No}
 use Rattle.medium.specs.Refusal.{on_done}
 use Rattle.handles.specs.declared.Store.{Store}
 use Rattle.reader.specs.declared.Reader.{Reader}
@@ -31,11 +30,11 @@ forgets vol st rd (found.Hole from to) = refl
 forgets vol st rd found.End = refl
 
 -- both calls choose alike
-through : {A B : Type 0} (f : A → B) (b : Bool) (o : Outcome) (x y : A) (g : Error → A) → f (pick b x (on_done o y g)) ≡ pick b (f x) (on_done o (f y) (λ e. f (g e)))
+through : {A B : Type 0} (f : A → B) (b : Bool) (o : Result Unit Error) (x y : A) (g : Error → A) → f (pick b x (on_done o y g)) ≡ pick b (f x) (on_done o (f y) (λ e. f (g e)))
 unfolding pick on_done
 through f true o x y g = refl
-through f false Done x y g = refl
-through f false (No e) x y g = refl
+through f false (Ok tt) x y g = refl
+through f false (Err e) x y g = refl
 
 module _ (vol : List ℕ) (m : Medium) (st : Store) (out : List ℕ) where
   pub next_earlier_lem : (rd : Reader) → next_forgot (next_call vol m st rd out) ≡ next_earlier vol m st rd out

@@ -1,4 +1,6 @@
 -- What a reader that passes refusal 3 tells, and the moves that keep it so. Assumes nothing.
+use Rattle.std.specs.Prelude.{Err, Ok, Result}
+use Rattle.medium.specs.declared.Error.{Error}
 use mathlib.Core.Path.{◌≡◌, refl}
 use mathlib.Core.Bool.{Bool, true, false}
 use mathlib.Core.List.{List}
@@ -13,8 +15,6 @@ use Rattle.le.proofs.Turns.{told}
 use Rattle.le.proofs.Bools.{and_true}
 use Rattle.medium.specs.declared.Error.TheVariants.{Handle, Stale}
 use Rattle.medium.specs.declared.Medium.{Medium}
-use Rattle.medium.specs.declared.Outcome.{Outcome}
-use Rattle.medium.specs.declared.Outcome.TheVariants.{Done, No}
 use Rattle.medium.specs.Sector.{sectors_of}
 use Rattle.medium.proofs.Laws.{not_done}
 use Rattle.handles.specs.declared.Store.{Store}
@@ -76,12 +76,12 @@ unfolding reader_ok no_reader
 none_fails st = refl
 
 -- the store value and the reader of an accepted call
-used : (a b : Bool) → pick a (pick b Done (No Stale)) (No Handle) ≡ Done → a ≡ true
+used : (a b : Bool) → ◌≡◌ {A = Result Unit Error} (pick a (pick b (Ok tt) (Err Stale)) (Err Handle)) (Ok tt) → a ≡ true
 unfolding pick
 used true b e = refl
 used false b e = not_done e
 
-pub usable_facts : (vol : List ℕ) (st : Store) (rd : Reader) {o : Outcome} → o ≡ usable_of vol st rd → o ≡ Done → (store_ok st (sectors_of vol) ≡ true) × (reader_ok rd st ≡ true)
+pub usable_facts : (vol : List ℕ) (st : Store) (rd : Reader) {o : Result Unit Error} → o ≡ usable_of vol st rd → o ≡ Ok tt → (store_ok st (sectors_of vol) ≡ true) × (reader_ok rd st ≡ true)
 unfolding usable_of
 usable_facts vol st rd p q = and_true _ _ (used _ _ (told p q))
 

@@ -1,5 +1,6 @@
 -- What a reader finds: the search, the hole, the record and the way there. Each law is a way out of its function, over plain values; then what an
 -- answer keeps. Assumes nothing.
+use Rattle.std.specs.Prelude.{Err, Ok}
 use mathlib.Core.Path.{◌≡◌, refl, sym, ap, ◌∙◌, subst}
 use mathlib.Core.Bool.{Bool, true, false, ◌&&◌}
 use mathlib.Core.List.{List}
@@ -19,7 +20,6 @@ use Rattle.walk.specs.Walk.{next, stop, visits}
 use Rattle.walk.proofs.Laws.{walk_keeps}
 use Rattle.medium.specs.declared.Error.{Error}
 use Rattle.medium.specs.declared.Medium.{Medium}
-use Rattle.medium.specs.declared.Outcome.TheVariants.{Done, No}
 use Rattle.medium.specs.Refusal.{on_done}
 use Rattle.medium.specs.Sector.{sectors_of, sector_at}
 use Rattle.medium.proofs.Laws.{length_sector, on_done_keeps}
@@ -162,15 +162,15 @@ module _ (vol : List ℕ) (m : Medium) (st : Store) (rd : Reader) (out : List �
 -- ---- the way there
 
 module _ (vol : List ℕ) (m : Medium) (st : Store) (rd : Reader) (out : List ℕ) {a : Arrived} (came : a ≡ arrive_of vol m st rd) where
-  pub next_refused : {e : Error} → a.outcome ≡ No e → (out ≡ (next_of vol m st rd out).out) × (tells (found.Refused e) a.reader ≡ (next_of vol m st rd out).ans)
+  pub next_refused : {e : Error} → a.outcome ≡ Err e → (out ≡ (next_of vol m st rd out).out) × (tells (found.Refused e) a.reader ≡ (next_of vol m st rd out).ans)
   unfolding next_of on_done
   next_refused q = rw (← came, q) (refl, refl)
 
-  pub next_end : a.outcome ≡ Done → a.more ≡ false → (out ≡ (next_of vol m st rd out).out) × (tells found.End a.reader ≡ (next_of vol m st rd out).ans)
+  pub next_end : a.outcome ≡ Ok tt → a.more ≡ false → (out ≡ (next_of vol m st rd out).out) × (tells found.End a.reader ≡ (next_of vol m st rd out).ans)
   unfolding next_of on_done pick
   next_end q t = rw (← came, q, t) (refl, refl)
 
-  pub next_taken : {l : List ℕ} {t : Taken} → a.outcome ≡ Done → a.more ≡ true → l ≡ (take_of vol m st a.reader out).out → t ≡ (take_of vol m st a.reader out).ans
+  pub next_taken : {l : List ℕ} {t : Taken} → a.outcome ≡ Ok tt → a.more ≡ true → l ≡ (take_of vol m st a.reader out).out → t ≡ (take_of vol m st a.reader out).ans
       → (l ≡ (next_of vol m st rd out).out) × (t ≡ (next_of vol m st rd out).ans)
   unfolding next_of on_done pick
   next_taken q t e f = rw (← came, q, t) (e, f)

@@ -1,5 +1,6 @@
 -- S-1, S-12: a reader goes forward: behind a payload or a hole the number of the record that comes next is larger. So a walk over the items of a file
 -- ends. Assumes nothing.
+use Rattle.std.specs.Prelude.{Err, Ok}
 use mathlib.Core.Path.{◌≡◌, refl, subst, ◌∙◌}
 use mathlib.Core.List.{List}
 use Prim.Native.Nat.{ℕ, ◌+◌, ◌*◌, ◌≤◌, ◌<◌}
@@ -9,7 +10,6 @@ use Rattle.le.proofs.Choices.{pick_keeps, pick_keeps_by}
 use Rattle.walk.specs.Walk.{Visit, next, stop}
 use Rattle.walk.proofs.Laws.{walk_keeps}
 use Rattle.medium.specs.declared.Medium.{Medium}
-use Rattle.medium.specs.declared.Outcome.TheVariants.{Done, No}
 use Rattle.medium.proofs.Laws.{on_done_keeps}
 use Rattle.handles.specs.declared.Store.{Store}
 use Rattle.table.specs.Table.{locate_of}
@@ -50,7 +50,7 @@ number_more k size i j h = go (k * size)
 
 module _ (vol : List ℕ) (m : Medium) (st : Store) where
   abbrev Starts : Entered → Type 0
-  Starts s = s.outcome ≡ Done → s.reader.index ≡ 0
+  Starts s = s.outcome ≡ Ok tt → s.reader.index ≡ 0
 
   enter_starts : (rd : Reader) (position : ℕ) → Starts (enter_of vol m st rd position 0)
   unfolding enter_of inside_of
@@ -64,7 +64,7 @@ module _ (vol : List ℕ) (m : Medium) (st : Store) where
     pub from : n ≤ stands_at st rd
 
   module _ (chunks n k : ℕ) (rd : Reader) (h : k < chunks) (p : On k rd chunks n) where
-    on : (enter_of vol m st rd (k + 1) 0).outcome ≡ Done → On (k + 1) (enter_of vol m st rd (k + 1) 0).reader chunks n
+    on : (enter_of vol m st rd (k + 1) 0).outcome ≡ Ok tt → On (k + 1) (enter_of vol m st rd (k + 1) 0).reader chunks n
     unfolding stands_at
     on o =
         let i = enter_inside vol m st rd (k + 1) 0 o in
@@ -89,25 +89,25 @@ module _ (vol : List ℕ) (m : Medium) (st : Store) where
 
     -- only where it is not refused
     abbrev Further : Arrived → Type 0
-    Further a = a.outcome ≡ Done → n ≤ stands_at st a.reader
+    Further a = a.outcome ≡ Ok tt → n ≤ stands_at st a.reader
 
-    stops : (a : Arrived) → arrive_step vol m st k rd ≡ stop a → a.outcome ≡ Done → n ≤ stands_at st a.reader
+    stops : (a : Arrived) → arrive_step vol m st k rd ≡ stop a → a.outcome ≡ Ok tt → n ≤ stands_at st a.reader
     unfolding arrive_step
     stops a =
         pick_keeps_by (λ (s : Visit Reader Arrived). s ≡ stop a → Further a) (passed_end rd.end rd.index) _ _
         (λ t. on_done_keeps (λ (s : Visit Reader Arrived). s ≡ stop a → Further a) (enter_of vol m st rd (k + 1) 0).outcome _ _
         (λ o q. absurd (let z : ◌≡◌ {A = ℕ} 0 1 = cc in omega arith))
         (λ x o q.
-        let z : No x ≡ a.outcome = cc in
-        λ d. absurd (let y : No x ≡ Done = z ∙ d in let w : ◌≡◌ {A = ℕ} 0 1 = cc in omega arith)))
+        let z : Err x ≡ a.outcome = cc in
+        λ d. absurd (let y : Err x ≡ (Ok tt) = z ∙ d in let w : ◌≡◌ {A = ℕ} 0 1 = cc in omega arith)))
         (λ t q.
         let z : rd ≡ a.reader = cc in
         λ d. subst (λ (v : Reader). n ≤ stands_at st v) z p.from)
 
-  pub arrive_forward : (rd : Reader) → Reads rd st → (arrive_of vol m st rd).outcome ≡ Done → stands_at st rd ≤ stands_at st (arrive_of vol m st rd).reader
+  pub arrive_forward : (rd : Reader) → Reads rd st → (arrive_of vol m st rd).outcome ≡ Ok tt → stands_at st rd ≤ stands_at st (arrive_of vol m st rd).reader
   unfolding arrive_of
   arrive_forward rd r =
-      walk_keeps (arrive_step vol m st) _ rd.chunks (λ k t. On k t rd.chunks (stands_at st rd)) (λ (a : Arrived). a.outcome ≡ Done → stands_at st rd ≤ stands_at st a.reader)
+      walk_keeps (arrive_step vol m st) _ rd.chunks (λ k t. On k t rd.chunks (stands_at st rd)) (λ (a : Arrived). a.outcome ≡ Ok tt → stands_at st rd ≤ stands_at st a.reader)
       (λ k t u h p. goes rd.chunks (stands_at st rd) k t h p u) (λ k t a h p. stops rd.chunks (stands_at st rd) k t h p a)
       (λ t p d. p.from)
       rd.position rd r.position (record { reads = r; at = refl; all = refl; from = le_refl (stands_at st rd) })

@@ -1,4 +1,6 @@
 -- S-1: what a reader up to a number hands back passes refusal 3 again. Assumes nothing.
+use Rattle.std.specs.Prelude.{Ok, Result}
+use Rattle.medium.specs.declared.Error.{Error}
 use mathlib.Core.Path.{◌≡◌, refl, subst}
 use mathlib.Core.Bool.{true}
 use mathlib.Core.List.{List}
@@ -10,8 +12,6 @@ use lib.ListN.{length}
 use Rattle.le.proofs.Bools.{and_true}
 use Rattle.le.proofs.Choices.{pick_keeps, pick_keeps_by}
 use Rattle.medium.specs.declared.Medium.{Medium}
-use Rattle.medium.specs.declared.Outcome.{Outcome}
-use Rattle.medium.specs.declared.Outcome.TheVariants.{Done}
 use Rattle.medium.specs.Sector.{sectors_of}
 use Rattle.medium.proofs.Laws.{on_done_keeps}
 use Rattle.handles.specs.declared.Store.{Store}
@@ -98,8 +98,8 @@ module _ (limit : ℕ) (vol : List ℕ) (m : Medium) (st : Store) (out : List �
       (λ e o. a.reads))
 
 -- the reader behind what was found passes
-pub upto_passes : (vol : List ℕ) (m : Medium) (st : Store) (u : Upto) (out : List ℕ) {o : Outcome} {t : Taken} → 486 ≤ length out
-    → o ≡ usable_of vol st u.reader → o ≡ Done → t ≡ (below_of u.limit vol m st u.reader out).ans
+pub upto_passes : (vol : List ℕ) (m : Medium) (st : Store) (u : Upto) (out : List ℕ) {o : Result Unit Error} {t : Taken} → 486 ≤ length out
+    → o ≡ usable_of vol st u.reader → o ≡ Ok tt → t ≡ (below_of u.limit vol m st u.reader out).ans
     → (store_ok st (sectors_of vol) ≡ true) × (reader_ok t.reader st ≡ true)
 upto_passes vol m st u out enough asked q e =
     let p = usable_facts vol st u.reader asked q in

@@ -1,4 +1,5 @@
 -- Entering a chunk, seeking, and passing chunks: what each answers and keeps. Assumes nothing.
+use Rattle.std.specs.Prelude.{Err, Ok}
 use mathlib.Core.Path.{◌≡◌, refl, sym, ap₂, ◌∙◌, subst}
 use mathlib.Core.Bool.{true, false, not}
 use mathlib.Core.List.{List}
@@ -13,7 +14,6 @@ use Rattle.walk.specs.Walk.{Visit, next, stop, rest}
 use Rattle.walk.proofs.Laws.{rest_next, rest_stop, rest_end, walk_keeps}
 use Rattle.medium.specs.declared.Error.{Error}
 use Rattle.medium.specs.declared.Medium.{Medium}
-use Rattle.medium.specs.declared.Outcome.TheVariants.{Done, No}
 use Rattle.medium.specs.Refusal.{on_done}
 use Rattle.medium.proofs.Laws.{on_done_keeps}
 use Rattle.handles.specs.declared.Store.{Store}
@@ -38,7 +38,7 @@ module _ (vol : List ℕ) (m : Medium) (st : Store) (rd : Reader) (position inde
 
   -- not refused, the reader is at the position, in the same file
   abbrev Inside : Entered → Type 0
-  Inside s = s.outcome ≡ Done → (s.reader.position ≡ position) × (s.reader.chunks ≡ rd.chunks)
+  Inside s = s.outcome ≡ Ok tt → (s.reader.position ≡ position) × (s.reader.chunks ≡ rd.chunks)
 
   pub enter_inside : Inside (enter_of vol m st rd position index)
   unfolding enter_of inside_of
@@ -61,7 +61,7 @@ seek_reads vol m st rd number s r =
 
 -- past the chunks nothing is read
 pub seek_past : (vol : List ℕ) (m : Medium) (st : Store) (rd : Reader) (number : ℕ) → rd.chunks ≤ number / st.head.chunk
-    → seek_of vol m st rd number ≡ record { outcome = Done; reader = moved_to rd rd.chunks 0 }
+    → seek_of vol m st rd number ≡ record { outcome = Ok tt; reader = moved_to rd rd.chunks 0 }
 unfolding seek_of pick
 seek_past vol m st rd number h = rw (le-leb _ _ h)
 
@@ -69,27 +69,27 @@ seek_past vol m st rd number h = rw (le-leb _ _ h)
 
 module _ (vol : List ℕ) (m : Medium) (st : Store) (rd : Reader) where
   pub arrive_here : rd.position < rd.chunks → passed_end rd.end rd.index ≡ false
-      → arrive_of vol m st rd ≡ record { outcome = Done; reader = rd; more = not (eqb rd.index st.head.chunk) }
+      → arrive_of vol m st rd ≡ record { outcome = Ok tt; reader = rd; more = not (eqb rd.index st.head.chunk) }
   unfolding arrive_of arrive_step
   arrive_here h e = rest_stop _ _ rd.chunks rd.position rd _ h (pick_false _ _ e)
 
-  pub arrive_end : rd.chunks ≤ rd.position → arrive_of vol m st rd ≡ record { outcome = Done; reader = rd; more = false }
+  pub arrive_end : rd.chunks ≤ rd.position → arrive_of vol m st rd ≡ record { outcome = Ok tt; reader = rd; more = false }
   unfolding arrive_of
   arrive_end h = rest_end _ _ rd.chunks rd.position rd h
 
   module _ (h : rd.position < rd.chunks) (e : passed_end rd.end rd.index ≡ true) {d : Entered} (q : d ≡ enter_of vol m st rd (rd.position + 1) 0) where
-    pub arrive_refused : {x : Error} → d.outcome ≡ No x → arrive_of vol m st rd ≡ record { outcome = No x; reader = d.reader; more = false }
+    pub arrive_refused : {x : Error} → d.outcome ≡ Err x → arrive_of vol m st rd ≡ record { outcome = Err x; reader = d.reader; more = false }
     unfolding arrive_of arrive_step on_done
     arrive_refused o = rest_stop _ _ rd.chunks rd.position rd _ h (pick_true _ _ e ∙ rw (← q, o))
 
-    pub arrive_moved : d.outcome ≡ Done → (d.reader.position ≡ rd.position + 1) × (d.reader.chunks ≡ rd.chunks)
+    pub arrive_moved : d.outcome ≡ Ok tt → (d.reader.position ≡ rd.position + 1) × (d.reader.chunks ≡ rd.chunks)
     arrive_moved o = rw q (enter_inside vol m st rd (rd.position + 1) 0 (rw q at o))
 
-    pub arrive_on : d.outcome ≡ Done → arrive_of vol m st rd ≡ arrive_of vol m st d.reader
+    pub arrive_on : d.outcome ≡ Ok tt → arrive_of vol m st rd ≡ arrive_of vol m st d.reader
     unfolding arrive_of arrive_step on_done
     arrive_on o =
         rest_next (arrive_step vol m st) _ rd.chunks rd.position rd d.reader h (pick_true _ _ e ∙ rw (← q, o))
-        ∙ ap₂ (λ (n i : ℕ). rest (arrive_step vol m st) (λ r. record { outcome = Done; reader = r; more = false }) n i d.reader) (sym (arrive_moved o).1) (sym (arrive_moved o).0)
+        ∙ ap₂ (λ (n i : ℕ). rest (arrive_step vol m st) (λ r. record { outcome = Ok tt; reader = r; more = false }) n i d.reader) (sym (arrive_moved o).1) (sym (arrive_moved o).0)
 
 -- where a reader arrives it passes, and there is more only below its chunk's end
 pub record Arrives (st : Store) (a : Arrived) : Type 0 where
@@ -102,7 +102,7 @@ module _ (vol : List ℕ) (m : Medium) (st : Store) where
     pub at : rd.position ≡ k
     pub all : rd.chunks ≡ chunks
 
-  here : (rd : Reader) → Reads rd st → passed_end rd.end rd.index ≡ false → Arrives st (record { outcome = Done; reader = rd; more = not (eqb rd.index st.head.chunk) })
+  here : (rd : Reader) → Reads rd st → passed_end rd.end rd.index ≡ false → Arrives st (record { outcome = Ok tt; reader = rd; more = not (eqb rd.index st.head.chunk) })
   here rd r e = record { reads = r; below = λ t. below_limit rd.end rd.index st.head.chunk e r.index (eqb-false _ _ (not-true _ t)) }
 
   module _ (chunks k : ℕ) (rd : Reader) (h : k < chunks) (p : On k rd chunks) where
@@ -127,10 +127,10 @@ module _ (vol : List ℕ) (m : Medium) (st : Store) where
         (λ t. on_done_keeps (λ (s : Visit Reader Arrived). s ≡ stop a → Arrives st a) (enter_of vol m st rd (k + 1) 0).outcome _ _
         (λ o q. absurd (let z : ◌≡◌ {A = ℕ} 0 1 = cc in omega arith))
         (λ x o q.
-        let z : ◌≡◌ {A = Arrived} (record { outcome = No x; reader = (enter_of vol m st rd (k + 1) 0).reader; more = false }) a = cc in
+        let z : ◌≡◌ {A = Arrived} (record { outcome = Err x; reader = (enter_of vol m st rd (k + 1) 0).reader; more = false }) a = cc in
         subst (Arrives st) z record { reads = entered; below = λ y. absurd (let z : ◌≡◌ {A = ℕ} 0 1 = cc in omega arith) }))
         (λ t q.
-        let z : ◌≡◌ {A = Arrived} (record { outcome = Done; reader = rd; more = not (eqb rd.index st.head.chunk) }) a = cc in
+        let z : ◌≡◌ {A = Arrived} (record { outcome = Ok tt; reader = rd; more = not (eqb rd.index st.head.chunk) }) a = cc in
         subst (Arrives st) z (here rd p.reads t))
 
   pub arrive_reads : (rd : Reader) → Reads rd st → Arrives st (arrive_of vol m st rd)

@@ -1,4 +1,5 @@
 -- The calls on offer: each way out of its function, over plain values, and what a call hands back. Assumes nothing.
+use Rattle.std.specs.Prelude.{Err, Ok, Result}
 use mathlib.Core.Path.{◌≡◌, refl, ap}
 use mathlib.Core.Bool.{true}
 use mathlib.Core.List.{List}
@@ -12,8 +13,6 @@ use Rattle.le.proofs.Choices.{pick_keeps_by}
 use Rattle.medium.specs.declared.Error.{Error}
 use Rattle.medium.specs.declared.Error.TheVariants.{Range}
 use Rattle.medium.specs.declared.Medium.{Medium}
-use Rattle.medium.specs.declared.Outcome.{Outcome}
-use Rattle.medium.specs.declared.Outcome.TheVariants.{Done, No}
 use Rattle.medium.specs.Refusal.{number_of, ok, refused, on_done}
 use Rattle.medium.specs.Sector.{sectors_of}
 use Rattle.medium.proofs.Laws.{on_done_keeps}
@@ -37,12 +36,12 @@ use Rattle.reader.proofs.Finds.{Finds, next_finds}
 
 -- ---- seek
 
-module _ (vol : List ℕ) (m : Medium) (st : Store) (rd : Reader) (number : ℕ) {o : Outcome} (asked : o ≡ usable_of vol st rd) where
-  pub seek_refused : {e : Error} → o ≡ No e → sought_answer (record { outcome = No e; reader = rd; medium = m }) ≡ seek_call vol m st rd number
+module _ (vol : List ℕ) (m : Medium) (st : Store) (rd : Reader) (number : ℕ) {o : Result Unit Error} (asked : o ≡ usable_of vol st rd) where
+  pub seek_refused : {e : Error} → o ≡ Err e → sought_answer (record { outcome = Err e; reader = rd; medium = m }) ≡ seek_call vol m st rd number
   unfolding seek_call on_done
   seek_refused q = rw (← asked, q)
 
-  pub seek_done : {d : Entered} → o ≡ Done → d ≡ seek_of vol m st rd number → sought_answer (record { outcome = d.outcome; reader = d.reader; medium = m }) ≡ seek_call vol m st rd number
+  pub seek_done : {d : Entered} → o ≡ Ok tt → d ≡ seek_of vol m st rd number → sought_answer (record { outcome = d.outcome; reader = d.reader; medium = m }) ≡ seek_call vol m st rd number
   unfolding seek_call on_done
   seek_done q e = rw (← asked, q, e)
 
@@ -61,18 +60,18 @@ module _ (vol : List ℕ) (m : Medium) (st : Store) (rd : Reader) (out : List �
   unfolding next_call pick
   next_short h = rw (lt-ltb _ _ h)
 
-  module _ (enough : 486 ≤ length out) {o : Outcome} (asked : o ≡ usable_of vol st rd) where
-    pub next_no : {e : Error} → o ≡ No e → read_answer (record { next = item.Refused e; reader = rd; medium = m }) out ≡ next_call vol m st rd out
+  module _ (enough : 486 ≤ length out) {o : Result Unit Error} (asked : o ≡ usable_of vol st rd) where
+    pub next_no : {e : Error} → o ≡ Err e → read_answer (record { next = item.Refused e; reader = rd; medium = m }) out ≡ next_call vol m st rd out
     unfolding next_call pick on_done
     next_no q = rw (le-ltb _ _ enough, ← asked, q)
 
     -- the reader behind what was found passes
-    pub next_passes : {t : Taken} → o ≡ Done → t ≡ (next_of vol m st rd out).ans → (store_ok st (sectors_of vol) ≡ true) × (reader_ok t.reader st ≡ true)
+    pub next_passes : {t : Taken} → o ≡ Ok tt → t ≡ (next_of vol m st rd out).ans → (store_ok st (sectors_of vol) ≡ true) × (reader_ok t.reader st ≡ true)
     next_passes q e =
         let u = usable_facts vol st rd asked q in
         (u.0, rw e (reader_ok_lem _ st (next_finds vol m st out u.0 enough rd (reader_facts rd st u.1)).reads))
 
-    pub next_done : {t : Taken} {l : List ℕ} {n : Next} → o ≡ Done → l ≡ (next_of vol m st rd out).out → t ≡ (next_of vol m st rd out).ans
+    pub next_done : {t : Taken} {l : List ℕ} {n : Next} → o ≡ Ok tt → l ≡ (next_of vol m st rd out).out → t ≡ (next_of vol m st rd out).ans
         → n ≡ counted_of vol st t.reader t.next → read_answer (record { next = n; reader = t.reader; medium = m }) l ≡ next_call vol m st rd out
     unfolding next_call pick on_done
     next_done q e f k = rw (le-ltb _ _ enough, ← asked, q, e, k, f)

@@ -1,11 +1,11 @@
 -- The calls on offer to a holder of a reader, in 01's numbers: next, seek, and the number of the record that comes next. Order of refusals: 2, 3,
 -- then 11, which compares the reader with the store VALUE. No call changes the medium record. Assumes nothing.
+use Rattle.std.specs.Prelude.{Err, Ok, Result}
+use Rattle.medium.specs.declared.Error.{Error}
 use Rattle.std.specs.Prelude.{ℕ, ◌^◌, ◌&&◌, List, ltb, eqb, length}
 use Rattle.le.specs.Choice.{pick}
 use Rattle.medium.specs.declared.Error.TheVariants.{Handle, Stale}
 use Rattle.medium.specs.declared.Medium.{Medium}
-use Rattle.medium.specs.declared.Outcome.{Outcome}
-use Rattle.medium.specs.declared.Outcome.TheVariants.{Done, No}
 use Rattle.medium.specs.Refusal.{number_of, Answer, ok, refused, on_done, outcome_of}
 use Rattle.medium.specs.Sector.{sectors_of}
 use Rattle.handles.specs.declared.Store.{Store}
@@ -24,11 +24,11 @@ use Rattle.reader.specs.Next.{NextOut, next_of}
 use Rattle.reader.specs.Blank.{counted_of}
 
 -- the store value and the reader pass refusal 3, and the reader is one of this store at this generation
-unfoldable pub usable_of : List ℕ → Store → Reader → Outcome
+unfoldable pub usable_of : List ℕ → Store → Reader → Result Unit Error
 usable_of vol st rd =
     pick (store_ok st (sectors_of vol) && reader_ok rd st)
-    (pick (eqb rd.store st.head.id && eqb rd.generation st.head.generation) Done (No Stale))
-    (No Handle)
+    (pick (eqb rd.store st.head.id && eqb rd.generation st.head.generation) (Ok tt) (Err Stale))
+    (Err Handle)
 
 -- ---- next: payload length, a hole from..to with its blank sectors (S-4), or end
 

@@ -1,13 +1,13 @@
 -- 01, "Record": what a reader finds next. A chunk other than the file's last ends at its partial count, else at the size. An invalid record starts
 -- a hole up to the next valid one in its chunk or, if the chunk is not the last, to the chunk's end; in the last chunk with no valid one after it,
 -- it is the end. Output past the length is unchanged, and all of it where no payload is given. Assumes nothing.
+use Rattle.std.specs.Prelude.{Err, Ok}
 use Rattle.std.specs.Prelude.{ℕ, ◌+◌, Bool, true, false, not, ◌&&◌, List, leb, eqb}
 use Rattle.le.specs.Choice.{pick}
 use Rattle.le.specs.Part.{over}
 use Rattle.walk.specs.Walk.{Visit, next, stop, rest, visits}
 use Rattle.medium.specs.declared.Error.{Error}
 use Rattle.medium.specs.declared.Medium.{Medium}
-use Rattle.medium.specs.declared.Outcome.TheVariants.{Done, No}
 use Rattle.medium.specs.Refusal.{on_done}
 use Rattle.medium.specs.Sector.{sector_at}
 use Rattle.handles.specs.declared.Store.{Store}
@@ -45,12 +45,12 @@ unfoldable pub arrive_step : List ℕ → Medium → Store → ℕ → Reader �
 arrive_step vol m st k rd =
     let e : Entered = enter_of vol m st rd (k + 1) 0 in
     pick (passed_end rd.end rd.index)
-    (on_done e.outcome (next e.reader) (λ x. stop (record { outcome = No x; reader = e.reader; more = false })))
-    (stop (record { outcome = Done; reader = rd; more = not (eqb rd.index st.head.chunk) }))
+    (on_done e.outcome (next e.reader) (λ x. stop (record { outcome = Err x; reader = e.reader; more = false })))
+    (stop (record { outcome = Ok tt; reader = rd; more = not (eqb rd.index st.head.chunk) }))
 
 -- so on up to its chunks, past which there is no more
 unfoldable pub arrive_of : List ℕ → Medium → Store → Reader → Arrived
-arrive_of vol m st rd = rest (arrive_step vol m st) (λ r. record { outcome = Done; reader = r; more = false }) rd.chunks rd.position rd
+arrive_of vol m st rd = rest (arrive_step vol m st) (λ r. record { outcome = Ok tt; reader = r; more = false }) rd.chunks rd.position rd
 
 -- record i of the reader's chunk, read and judged
 unfoldable pub record_here : List ℕ → Medium → Store → Reader → ℕ → Judged

@@ -1,8 +1,8 @@
 -- 01, "Record" and refusal 3: a reader of one file, where its chunk ends, and the entering of a chunk. Assumes nothing.
+use Rattle.std.specs.Prelude.{Err, Ok}
 use Rattle.std.specs.Prelude.{ℕ, ◌+◌, ◌/◌, ◌%◌, Bool, true, not, ◌&&◌, List, ltb, leb, eqb}
 use Rattle.le.specs.Choice.{pick}
 use Rattle.medium.specs.declared.Medium.{Medium}
-use Rattle.medium.specs.declared.Outcome.TheVariants.{Done, No}
 use Rattle.handles.specs.declared.Store.{Store}
 use Rattle.table.specs.declared.Link.{Link}
 use Rattle.table.specs.declared.ChainParts.{ChainParts}
@@ -75,14 +75,14 @@ inside_of st rd position index chunk l =
 unfoldable pub enter_of : List ℕ → Medium → Store → Reader → ℕ → ℕ → Entered
 enter_of vol m st rd position index =
     on_place (locate_of vol m st rd.slot position)
-    (λ e. record { outcome = No e; reader = rd })
-    (λ chunk l. record { outcome = Done; reader = inside_of st rd position index chunk l })
+    (λ e. record { outcome = Err e; reader = rd })
+    (λ chunk l. record { outcome = Ok tt; reader = inside_of st rd position index chunk l })
 
 -- seeking a record by its number. Past the chunks nothing is read; in the reader's own chunk neither
 unfoldable pub seek_of : List ℕ → Medium → Store → Reader → ℕ → Entered
 seek_of vol m st rd number =
     let position : ℕ = number / st.head.chunk in
     let index : ℕ = number % st.head.chunk in
-    pick (leb rd.chunks position) (record { outcome = Done; reader = moved_to rd rd.chunks 0 })
-    (pick (eqb position rd.position) (record { outcome = Done; reader = moved_to rd position index })
+    pick (leb rd.chunks position) (record { outcome = Ok tt; reader = moved_to rd rd.chunks 0 })
+    (pick (eqb position rd.position) (record { outcome = Ok tt; reader = moved_to rd position index })
     (enter_of vol m st rd position index))

@@ -8,7 +8,7 @@ ghost use Rattle.reader.specs.Next.{arrive_of};
 use super::ends::{end_of, passed_end};
 use super::{Arrived, Entered, Reader};
 use handles::Store;
-use medium::{Medium, Outcome};
+use medium::{Error, Medium};
 use table::{Link, Place};
 
 impl Reader {
@@ -55,13 +55,13 @@ impl Reader {
         let p = table::locate(volume, medium, store, self.slot, position);
         match p {
             Place::Refused(e) => Entered {
-                outcome: Outcome::No(e),
+                outcome: Err(e),
                 reader: self,
             },
             Place::At { chunk, link } => {
                 let reader = self.inside(store, position, index, chunk, link);
                 Entered {
-                    outcome: Outcome::Done,
+                    outcome: Ok(()),
                     reader,
                 }
             }
@@ -79,14 +79,14 @@ impl Reader {
         if self.chunks <= position {
             let reader = self.moved_to(self.chunks, 0);
             return Entered {
-                outcome: Outcome::Done,
+                outcome: Ok(()),
                 reader,
             };
         }
         if position == self.position {
             let reader = self.moved_to(position, index);
             return Entered {
-                outcome: Outcome::Done,
+                outcome: Ok(()),
                 reader,
             };
         }
@@ -104,7 +104,7 @@ impl Reader {
             let end = r.end;
             if !passed_end(end, r.index) {
                 return Arrived {
-                    outcome: Outcome::Done,
+                    outcome: Ok(()),
                     reader: r,
                     more: r.index != size,
                 };
@@ -112,16 +112,16 @@ impl Reader {
             let d = r.enter(volume, medium, store, r.position + 1, 0);
             let o = d.outcome;
             r = d.reader;
-            if let Outcome::No(e) = o {
+            if let Err(e) = o {
                 return Arrived {
-                    outcome: Outcome::No(e),
+                    outcome: Err(e),
                     reader: r,
                     more: false,
                 };
             }
         }
         Arrived {
-            outcome: Outcome::Done,
+            outcome: Ok(()),
             reader: r,
             more: false,
         }

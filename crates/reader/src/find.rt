@@ -8,7 +8,7 @@ ghost use Rattle.reader.specs.Next.{limit_of, search_of, hole_of, take_of, next_
 use super::ends::{is_last, limit_of};
 use super::{Found, Reader, Searched, Taken};
 use handles::Store;
-use medium::{Medium, Outcome};
+use medium::{Error, Medium};
 use record::Judged;
 
 impl Reader {
@@ -112,7 +112,7 @@ impl Reader {
         let a = self.arrive(volume, medium, store);
         let o = a.outcome;
         let reader = a.reader;
-        if let Outcome::No(e) = o {
+        if let Err(e) = o {
             return Taken {
                 next: Found::Refused(e),
                 reader,

@@ -14,7 +14,7 @@ ghost use Rattle.reader.specs.Calls.{read_answer, next_call, sought_answer, seek
 
 use ends::end_of;
 use handles::Store;
-use medium::{Error, Medium, Outcome};
+use medium::{Error, Medium};
 use table::ChainParts;
 
 // The records of a reader's chunk when it is not the file's last.
@@ -82,7 +82,7 @@ pub struct UptoRead {
 
 #[derive(Clone, Copy)]
 pub struct Sought {
-    pub outcome: Outcome,
+    pub outcome: Result<(), Error>,
     pub reader: Reader,
     pub medium: Medium,
 }
@@ -96,7 +96,7 @@ pub enum Numbered {
 // A reader moved to another record, where that was not refused.
 #[derive(Clone, Copy)]
 pub struct Entered {
-    pub outcome: Outcome,
+    pub outcome: Result<(), Error>,
     pub reader: Reader,
 }
 
@@ -110,7 +110,7 @@ pub struct Taken {
 // A reader that stands in a chunk it has not passed, or past its chunks; `more`: a record may stand at its index.
 #[derive(Clone, Copy)]
 pub struct Arrived {
-    pub outcome: Outcome,
+    pub outcome: Result<(), Error>,
     pub reader: Reader,
     pub more: bool,
 }
@@ -175,9 +175,9 @@ impl Reader {
         ensures { sought_answer result ≡ seek_call volume.now medium store self «record» }
     {
         let o = self.check(volume, store);
-        if let Outcome::No(e) = o {
+        if let Err(e) = o {
             return Sought {
-                outcome: Outcome::No(e),
+                outcome: Err(e),
                 reader: self,
                 medium,
             };
@@ -204,7 +204,7 @@ impl Reader {
             };
         }
         let o = self.check(volume, store);
-        if let Outcome::No(e) = o {
+        if let Err(e) = o {
             return Read {
                 next: Next::Refused(e),
                 reader: self,

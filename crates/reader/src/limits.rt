@@ -7,7 +7,7 @@ ghost use Rattle.reader.specs.Upto.{stands_at, cut_at, below_of, upto_answer, be
 
 use super::{Found, Next, Reader, Taken, Upto, UptoRead};
 use handles::Store;
-use medium::{Error, Medium, Outcome};
+use medium::{Error, Medium};
 
 impl Reader {
     // The number of the record that comes next.
@@ -65,7 +65,7 @@ impl Reader {
         let a = self.arrive(volume, medium, store);
         let o = a.outcome;
         let reader = a.reader;
-        if let Outcome::No(e) = o {
+        if let Err(e) = o {
             return Taken {
                 next: Found::Refused(e),
                 reader,
@@ -97,7 +97,7 @@ impl Upto {
         }
         let rd = self.reader;
         let o = rd.check(volume, store);
-        if let Outcome::No(e) = o {
+        if let Err(e) = o {
             return UptoRead {
                 next: Next::Refused(e),
                 upto: self,

@@ -6,7 +6,7 @@ ghost use Rattle.reader.specs.Calls.{usable_of};
 use super::Reader;
 use super::ends::end_ok;
 use handles::Store;
-use medium::{Error, Outcome};
+use medium::Error;
 
 impl Reader {
     // Refusal 3 on a reader, beside a store value.
@@ -24,18 +24,18 @@ impl Reader {
     }
 
     // Refusals 3 and 11.
-    pub(crate) fn check(self, volume: &[u8], store: Store) -> Outcome
+    pub(crate) fn check(self, volume: &[u8], store: Store) -> Result<(), Error>
         ensures { result ≡ usable_of volume.now store self }
     {
         let s = medium::sectors(volume);
         let h = store.head;
         let ok = store.handle_ok(s) & self.handle_ok(store);
         if !ok {
-            return Outcome::No(Error::Handle);
+            return Err(Error::Handle);
         }
         if (self.store == h.id) & (self.generation == h.generation) {
-            return Outcome::Done;
+            return Ok(());
         }
-        Outcome::No(Error::Stale)
+        Err(Error::Stale)
     }
 }

@@ -1,4 +1,5 @@
 -- A file on a volume where every sector reads: the reader at each of its places, and what one turn of a reader finds there. Assumes nothing.
+use Rattle.std.specs.Prelude.{Ok}
 use mathlib.Core.Path.{◌≡◌, refl, ap, sym, ◌∙◌}
 use mathlib.Core.Logic.{◌≢◌}
 use mathlib.Core.Bool.{true, false}
@@ -11,7 +12,6 @@ use Rattle.le.specs.Choice.{pick}
 use Rattle.le.specs.Part.{over}
 use Rattle.le.proofs.Choices.{pick_keeps, pick_true, pick_false}
 use Rattle.medium.specs.declared.Medium.{Medium}
-use Rattle.medium.specs.declared.Outcome.TheVariants.{Done}
 use Rattle.medium.specs.Refusal.{on_done}
 use Rattle.medium.specs.Sector.{sectors_of, sector_at, read_of}
 use Rattle.medium.proofs.Laws.{length_sector}
@@ -80,7 +80,7 @@ reader_at st s id g p i =
 
 -- every sector reads, the layout is good, and the file of this name and id is in slot s
 pub record Filed (vol : List ℕ) (m : Medium) (st : Store) (G : ℕ → List Segment) (s id : ℕ) (name : List ℕ) : Type 0 where
-  pub readable : (j : ℕ) → j < sectors_of vol → read_of m j ≡ Done
+  pub readable : (j : ℕ) → j < sectors_of vol → read_of m j ≡ Ok tt
   pub sound : store_ok st (sectors_of vol) ≡ true
   pub good : Good (disk_of vol st) G
   pub slot : s < 64
@@ -151,10 +151,10 @@ module _ {vol : List ℕ} {m : Medium} {st : Store} {G : ℕ → List Segment} {
       let l : p + 1 < length (G s) = omega (arith, h, e) in
       ap (λ (x : End). passed_end x i) (end_inner size s (G s) p l) ∙ lt-leb (count p) i (k l))
 
-  pub arrived : (p i : ℕ) → p < length (G s) → (p + 1 < length (G s) → i < count p) → i ≢ size → arrive_of vol m st (at p i) ≡ record { outcome = Done; reader = at p i; more = true }
+  pub arrived : (p i : ℕ) → p < length (G s) → (p + 1 < length (G s) → i < count p) → i ≢ size → arrive_of vol m st (at p i) ≡ record { outcome = Ok tt; reader = at p i; more = true }
   arrived p i h k ne = arrive_here vol m st (at p i) h (not_passed p i h k) ∙ rw (ne_eqb i size ne)
 
-  pub entering : (p i : ℕ) → p + 1 < length (G s) → enter_of vol m st (at p i) (p + 1) 0 ≡ record { outcome = Done; reader = at (p + 1) 0 }
+  pub entering : (p i : ℕ) → p + 1 < length (G s) → enter_of vol m st (at p i) (p + 1) 0 ≡ record { outcome = Ok tt; reader = at (p + 1) 0 }
   unfolding enter_of on_place inside_of
   entering p i h = rw (f.located (p + 1) h)
 

@@ -1,4 +1,5 @@
 -- A file read from its start gives its payloads in order, with no hole, then the end, at the number behind its last record. Assumes nothing.
+use Rattle.std.specs.Prelude.{Ok}
 use mathlib.Core.Path.{◌≡◌, refl, ap, sym, ◌∙◌}
 use mathlib.Core.Bool.{true}
 use mathlib.Core.List.{List, [], ◌∷◌}
@@ -10,7 +11,6 @@ use Rattle.le.specs.Choice.{pick}
 use Rattle.le.specs.Part.{part, over}
 use Rattle.le.proofs.Parts.{part_over}
 use Rattle.medium.specs.declared.Medium.{Medium}
-use Rattle.medium.specs.declared.Outcome.TheVariants.{Done}
 use Rattle.medium.specs.Refusal.{on_done, ok}
 use Rattle.medium.specs.Sector.{sectors_of, read_of}
 use Rattle.handles.specs.declared.Store.{Store}
@@ -44,7 +44,7 @@ gives_of vol m st [] rd n g = λ out e. (g out e).0
 gives_of vol m st (x ∷ xs) rd n g = λ out e. let a = g out e in (a.0, a.1, gives_of vol m st xs (next_call vol m st rd out).reader n a.2)
 
 module _ (vol : List ℕ) (m : Medium) (st : Store) (G : ℕ → List Segment) (s id : ℕ) (name : List ℕ)
-    (readable : (j : ℕ) → j < sectors_of vol → read_of m j ≡ Done) (sound : store_ok st (sectors_of vol) ≡ true) (d : Good (disk_of vol st) G)
+    (readable : (j : ℕ) → j < sectors_of vol → read_of m j ≡ Ok tt) (sound : store_ok st (sectors_of vol) ≡ true) (d : Good (disk_of vol st) G)
     (s< : s < 64) (is : (disk_of vol st).entry s ≡ named name id)
     (located : (p : ℕ) → p < length (G s) → locate_of vol m st s p ≡ At (segment_at (G s) p).chunk (link_for st.head.chunk s (G s) p)) where
   abbrev f : Filed vol m st G s id name

@@ -1,4 +1,5 @@
 -- One call of next, over plain values: what it answers where the reader has arrived and what stands at its index is known. Assumes nothing.
+use Rattle.std.specs.Prelude.{Ok}
 use mathlib.Core.Path.{◌≡◌, refl, ap, sym}
 use mathlib.Core.Bool.{true}
 use mathlib.Core.List.{List}
@@ -11,7 +12,6 @@ use Rattle.le.specs.Part.{over}
 use Rattle.walk.specs.Walk.{visits}
 use Rattle.walk.proofs.Laws.{walk_keeps}
 use Rattle.medium.specs.declared.Medium.{Medium}
-use Rattle.medium.specs.declared.Outcome.TheVariants.{Done}
 use Rattle.medium.specs.Refusal.{on_done}
 use Rattle.medium.specs.Sector.{sectors_of, sector_at}
 use Rattle.handles.specs.declared.Store.{Store}
@@ -32,7 +32,7 @@ use Rattle.reader.proofs.Finds.{hole_end}
 
 module _ (vol : List ℕ) (m : Medium) (st : Store) (rd : Reader) where
   -- the store's own reader is accepted
-  pub usable : store_ok st (sectors_of vol) ≡ true → Reads rd st → rd.store ≡ st.head.id → rd.generation ≡ st.head.generation → usable_of vol st rd ≡ Done
+  pub usable : store_ok st (sectors_of vol) ≡ true → Reads rd st → rd.store ≡ st.head.id → rd.generation ≡ st.head.generation → usable_of vol st rd ≡ Ok tt
   unfolding usable_of pick
   usable ok r a b = rw (ok, reader_ok_lem rd st r, eq-eqb _ _ a, eq-eqb _ _ b)
 
@@ -41,7 +41,7 @@ module _ (vol : List ℕ) (m : Medium) (st : Store) (rd : Reader) where
   unfolding next_of
   next_alike rd' out e = rw e
 
-  pub next_here : (out : List ℕ) → arrive_of vol m st rd ≡ record { outcome = Done; reader = rd; more = true } → next_of vol m st rd out ≡ take_of vol m st rd out
+  pub next_here : (out : List ℕ) → arrive_of vol m st rd ≡ record { outcome = Ok tt; reader = rd; more = true } → next_of vol m st rd out ≡ take_of vol m st rd out
   unfolding next_of on_done pick
   next_here out e = rw e
 

@@ -1,4 +1,5 @@
 -- S-1: a file read from its start up to a record number gives its payloads with a number below it, in order, then the end. Assumes nothing.
+use Rattle.std.specs.Prelude.{Ok}
 use mathlib.Core.Path.{◌≡◌, refl, ap, sym, ◌∙◌}
 use mathlib.Core.Logic.{◌≢◌, ◌⊎◌, inl, inr}
 use mathlib.Core.Bool.{Bool, true, false, not, ◌&&◌, and-false}
@@ -13,7 +14,6 @@ use Rattle.le.specs.Part.{part, over}
 use Rattle.le.proofs.Choices.{pick_true, pick_false}
 use Rattle.le.proofs.Parts.{part_over}
 use Rattle.medium.specs.declared.Medium.{Medium}
-use Rattle.medium.specs.declared.Outcome.TheVariants.{Done}
 use Rattle.medium.specs.Refusal.{on_done, ok}
 use Rattle.medium.specs.Sector.{sectors_of, read_of}
 use Rattle.handles.specs.declared.Store.{Store}
@@ -47,7 +47,7 @@ split {P} i n f g = go (leb n i) refl
     go false e = g (leb-false n i e)
 
 module _ (vol : List ℕ) (m : Medium) (st : Store) (G : ℕ → List Segment) (s id : ℕ) (name : List ℕ)
-    (readable : (j : ℕ) → j < sectors_of vol → read_of m j ≡ Done) (sound : store_ok st (sectors_of vol) ≡ true) (d : Good (disk_of vol st) G)
+    (readable : (j : ℕ) → j < sectors_of vol → read_of m j ≡ Ok tt) (sound : store_ok st (sectors_of vol) ≡ true) (d : Good (disk_of vol st) G)
     (s< : s < 64) (is : (disk_of vol st).entry s ≡ named name id)
     (located : (p : ℕ) → p < length (G s) → locate_of vol m st s p ≡ At (segment_at (G s) p).chunk (link_for st.head.chunk s (G s) p)) where
   abbrev f : Filed vol m st G s id name
@@ -92,7 +92,7 @@ module _ (vol : List ℕ) (m : Medium) (st : Store) (G : ℕ → List Segment) (
       in_chunk : j ≤ count q
       same : until p i ≡ until q j
       way : (j < count q) ⊎ ((q + 1 ≡ length (G s)) × (j ≡ count q))
-      came : arrive_of vol m st (at p i) ≡ record { outcome = Done; reader = at q j; more = not (eqb j size) }
+      came : arrive_of vol m st (at p i) ≡ record { outcome = Ok tt; reader = at q j; more = not (eqb j size) }
 
     arrives_here : (p i : ℕ) → p < length (G s) → i ≤ count p → (p + 1 < length (G s) → i < count p) → (i < count p) ⊎ ((p + 1 ≡ length (G s)) × (i ≡ count p)) → Arrival p i
     arrives_here p i h k l y =

@@ -1,4 +1,6 @@
 -- What was made is judged valid, at its own store, file and number only, and its payload is read back. Assumes nothing.
+use Rattle.std.specs.Prelude.{Err, Ok, Result}
+use Rattle.medium.specs.declared.Error.{Error}
 use mathlib.Core.Path.{◌≡◌, refl, ap, ◌∙◌}
 use mathlib.Core.Bool.{Bool, true, false, ◌&&◌}
 use mathlib.Core.List.{List, ◌++◌}
@@ -23,8 +25,6 @@ use Rattle.checksum.specs.Crc.{crc32_of}
 use Rattle.seal.specs.Seal.{sealed, is_sealed}
 use Rattle.seal.proofs.Laws.{sealed_is}
 use Rattle.medium.specs.declared.Medium.{Medium}
-use Rattle.medium.specs.declared.Outcome.{Outcome}
-use Rattle.medium.specs.declared.Outcome.TheVariants.{Done, No}
 use Rattle.medium.specs.Refusal.{on_done}
 use Rattle.medium.specs.Sector.{sector_at, read_of}
 use Rattle.handles.specs.declared.Store.{Store}
@@ -188,14 +188,14 @@ module _ (id file number : ℕ) (payload : List ℕ) (short : length payload ≤
 
 -- ---- what was read
 
-judged : (o : Outcome) (j : Judged) (n : ℕ) → on_done o j Refused ≡ Valid n → (o ≡ Done) × (j ≡ Valid n)
+judged : (o : Result Unit Error) (j : Judged) (n : ℕ) → on_done o j Refused ≡ Valid n → (o ≡ Ok tt) × (j ≡ Valid n)
 unfolding on_done
-judged Done j n e = (refl, e)
-judged (No x) j n e = absurd (let z : ◌≡◌ {A = ℕ} 0 1 = cc in omega arith)
+judged (Ok tt) j n e = (refl, e)
+judged (Err x) j n e = absurd (let z : ◌≡◌ {A = ℕ} 0 1 = cc in omega arith)
 
 -- a record that was read is a valid sector of the volume
 pub read_judged : (vol : List ℕ) (m : Medium) (st : Store) (id chunk index number : ℕ) {n : ℕ} → read_record_of vol m st id chunk index number ≡ Valid n
-    → (read_of m (data_at st chunk index) ≡ Done) × (judge_of st.head.id id number (sector_at vol (data_at st chunk index)) ≡ Valid n)
+    → (read_of m (data_at st chunk index) ≡ Ok tt) × (judge_of st.head.id id number (sector_at vol (data_at st chunk index)) ≡ Valid n)
 unfolding read_record_of
 read_judged vol m st id chunk index number {n} e = judged (read_of m (data_at st chunk index)) (judge_of st.head.id id number (sector_at vol (data_at st chunk index))) n e
 

@@ -6,7 +6,7 @@ ghost use Rattle.medium.specs.Sector.{sectors_of, sector_at};
 ghost use Rattle.record.specs.Record.{record_of, matches_of, is_blank, verdict_of, heard_of, data_at, number_at, read_record_of, write_record_of};
 
 use handles::Store;
-use medium::{Error, Medium, Outcome, Written};
+use medium::{Error, Medium, Written};
 
 // What a data sector is found to be: unread, a record with so many bytes of payload, or anything else.
 #[derive(Clone, Copy)]
@@ -117,7 +117,7 @@ pub fn record(
 {
     let at = data(store, chunk, index);
     let o = medium::readable(medium, at);
-    if let Outcome::No(e) = o {
+    if let Err(e) = o {
         return Judged::Refused(e);
     }
     let a = 512 * (at as usize);
@@ -158,7 +158,7 @@ pub fn write_record(
 {
     let w = medium::spend(medium);
     let o = w.outcome;
-    if let Outcome::No(_) = o {
+    if let Err(_) = o {
         return w;
     }
     let a = 512 * (data(store, chunk, index) as usize);

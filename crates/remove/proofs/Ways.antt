@@ -1,4 +1,5 @@
 -- What removing gives, by the way that it goes: a law for each return, over plain values. Assumes nothing.
+use Rattle.std.specs.Prelude.{Err, Ok}
 use mathlib.Core.Path.{◌≡◌, refl, sym, ap, ◌∙◌}
 use mathlib.Core.Bool.{Bool, true, false}
 use mathlib.Core.List.{List, [], append-nil}
@@ -12,7 +13,6 @@ use Rattle.le.specs.Part.{part, over, zeros}
 use Rattle.le.proofs.Parts.{length_part, length_zeros}
 use Rattle.medium.specs.declared.Error.{Error}
 use Rattle.medium.specs.declared.Medium.{Medium}
-use Rattle.medium.specs.declared.Outcome.TheVariants.{Done, No}
 use Rattle.medium.specs.Refusal.{on_done}
 use Rattle.medium.proofs.Laws.{on_done_no}
 use Rattle.handles.specs.declared.Store.{Store}
@@ -36,15 +36,15 @@ GivesG vol a o = (vol ≡ o.vol) × (a ≡ o.ans)
 -- ---- by its slot
 
 module _ (vol : List ℕ) (m : Medium) (st : Store) (slot id : ℕ) {v : List ℕ} {c : Committed} (g : GivesC v c (commit_of (Remove slot) [] vol m st)) where
-  pub remove_refused : {e : Error} → c.outcome ≡ No e → GivesC v c (remove_of vol m st slot id)
+  pub remove_refused : {e : Error} → c.outcome ≡ Err e → GivesC v c (remove_of vol m st slot id)
   unfolding remove_of
   remove_refused {e} d =
-      let q : (commit_of (Remove slot) [] vol m st).ans.outcome ≡ No e = ap (λ (x : Committed). x.outcome) (sym g.1) ∙ d in
+      let q : (commit_of (Remove slot) [] vol m st).ans.outcome ≡ Err e = ap (λ (x : Committed). x.outcome) (sym g.1) ∙ d in
       let s : commit_of (Remove slot) [] vol m st ≡ remove_of vol m st slot id = sym (on_done_no _ _ q) in
       (g.0 ∙ ap (λ (o : Out). o.vol) s, g.1 ∙ ap (λ (o : Out). o.ans) s)
 
-  pub remove_done : {x : Store} → c.outcome ≡ Done → x ≡ closed_for id c.store
-      → GivesC v (record { outcome = Done; medium = c.medium; store = x }) (remove_of vol m st slot id)
+  pub remove_done : {x : Store} → c.outcome ≡ Ok tt → x ≡ closed_for id c.store
+      → GivesC v (record { outcome = Ok tt; medium = c.medium; store = x }) (remove_of vol m st slot id)
   unfolding remove_of on_done
   remove_done d h = rw (← g.0, ← g.1, d, h) (refl, refl)
 
@@ -59,13 +59,13 @@ whole_name vol st i {a} {n} e fits h =
     h ∙ rw (add-sub_cancel_left a 40, zero-add, l, z) (append-nil (take 40 (drop a vol)) ∙ rw e (sym (name_place vol st i 40 (omega arith))))
 
 module _ (name : List ℕ) (len : ℕ) (o : Out) {v : List ℕ} {c : Committed} (g : GivesC v c o) where
-  pub gone_refused : {e : Error} → c.outcome ≡ No e
-      → GivesG v (none_gone (No e) c.medium c.store) (gone_of name len o)
+  pub gone_refused : {e : Error} → c.outcome ≡ Err e
+      → GivesG v (none_gone (Err e) c.medium c.store) (gone_of name len o)
   unfolding gone_of on_done
   gone_refused d = rw (← g.0, ← g.1, d) (refl, refl)
 
-  pub gone_done : {n : List ℕ} → c.outcome ≡ Done → n ≡ name
-      → GivesG v (record { outcome = Done; medium = c.medium; store = c.store; any = true; name = n; length = len }) (gone_of name len o)
+  pub gone_done : {n : List ℕ} → c.outcome ≡ Ok tt → n ≡ name
+      → GivesG v (record { outcome = Ok tt; medium = c.medium; store = c.store; any = true; name = n; length = len }) (gone_of name len o)
   unfolding gone_of on_done
   gone_done d h = rw (← g.0, ← g.1, d, h) (refl, refl)
 
@@ -73,13 +73,13 @@ module _ (name : List ℕ) (len : ℕ) (o : Out) {v : List ℕ} {c : Committed} 
 
 module _ (vol : List ℕ) (m : Medium) (st : Store) (dir : List ℕ) (keeping : Bool) (keep : ℕ) {f : OldestFile} (h : f ≡ oldest_of vol m st dir keeping keep) where
   pub oldest_refused : {e : Error} → f ≡ oldest.Refused e
-      → GivesG vol (none_gone (No e) m st) (remove_oldest_of vol m st dir keeping keep)
+      → GivesG vol (none_gone (Err e) m st) (remove_oldest_of vol m st dir keeping keep)
   unfolding remove_oldest_of oldest_gone
   oldest_refused d = rw (← h, d) (refl, refl)
 
   module _ {old : Old} (d : f ≡ oldest.Done old) where
     pub oldest_none : old.any ≡ false
-        → GivesG vol (none_gone Done m st) (remove_oldest_of vol m st dir keeping keep)
+        → GivesG vol (none_gone (Ok tt) m st) (remove_oldest_of vol m st dir keeping keep)
     unfolding remove_oldest_of oldest_gone pick
     oldest_none t = rw (← h, d, t) (refl, refl)
 

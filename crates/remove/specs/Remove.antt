@@ -1,10 +1,10 @@
 -- 01, "Commit", refusal 10 and "Link": a file removed, by its slot or as the oldest of a directory. Assumes nothing.
+use Rattle.std.specs.Prelude.{Ok, Result}
+use Rattle.medium.specs.declared.Error.{Error}
 use Rattle.std.specs.Prelude.{ℕ, Bool, true, false, List, [], eqb}
 use Rattle.le.specs.Choice.{pick}
 use Rattle.le.specs.Part.{part, zeros}
 use Rattle.medium.specs.declared.Medium.{Medium}
-use Rattle.medium.specs.declared.Outcome.{Outcome}
-use Rattle.medium.specs.declared.Outcome.TheVariants.{Done}
 use Rattle.medium.specs.Refusal.{on_done}
 use Rattle.handles.specs.declared.Store.{Store}
 use Rattle.handles.specs.declared.Writer.{Writer}
@@ -31,7 +31,7 @@ unfoldable pub remove_of : List ℕ → Medium → Store → ℕ → ℕ → Out
 remove_of vol m st slot id =
     let o : Out = commit_of (Remove slot) [] vol m st in
     on_done o.ans.outcome
-    (record { vol = o.vol; ans = record { outcome = Done; medium = o.ans.medium; store = closed_for id o.ans.store }; skipped = o.skipped })
+    (record { vol = o.vol; ans = record { outcome = Ok tt; medium = o.ans.medium; store = closed_for id o.ans.store }; skipped = o.skipped })
     (λ e. o)
 
 -- what removing the oldest gives: the volume and the answer, with the name that went
@@ -41,7 +41,7 @@ pub record GoneOut : Type 0 where
   pub skipped : List Skipped
 
 -- no file went
-abbrev pub none_gone : Outcome → Medium → Store → Gone
+abbrev pub none_gone : Result Unit Error → Medium → Store → Gone
 none_gone o m st = record { outcome = o; medium = m; store = st; any = false; name = zeros 40; length = 0 }
 
 abbrev pub none_out : Out → GoneOut
@@ -53,7 +53,7 @@ gone_of name len o =
     on_done o.ans.outcome
     (record {
       vol = o.vol;
-      ans = record { outcome = Done; medium = o.ans.medium; store = o.ans.store; any = true; name = name; length = len };
+      ans = record { outcome = Ok tt; medium = o.ans.medium; store = o.ans.store; any = true; name = name; length = len };
       skipped = o.skipped;
     })
     (λ e. none_out o)
@@ -63,7 +63,7 @@ unfoldable pub oldest_gone : List ℕ → Medium → Store → OldestFile → Go
 oldest_gone vol m st (oldest.Refused e) = none_out (refused_out st vol m e)
 oldest_gone vol m st (oldest.Done old) =
     pick old.any (gone_of (part 0 40 (entry_at vol st old.slot)) old.len (remove_of vol m st old.slot old.id))
-    (none_out (record { vol = vol; ans = record { outcome = Done; medium = m; store = st }; skipped = [] }))
+    (none_out (record { vol = vol; ans = record { outcome = Ok tt; medium = m; store = st }; skipped = [] }))
 
 unfoldable pub remove_oldest_of : List ℕ → Medium → Store → List ℕ → Bool → ℕ → GoneOut
 remove_oldest_of vol m st dir keeping keep = oldest_gone vol m st (oldest_of vol m st dir keeping keep)

@@ -10,13 +10,13 @@ ghost use Rattle.remove.specs.Remove.{writer_without, closed_for, remove_of, non
 
 use directory::{Old, OldestFile};
 use handles::{Store, Writer};
-use medium::{Medium, Outcome};
+use medium::{Error, Medium};
 use plan::{Committed, Edit};
 
 // What removing the oldest gives: whether a file went, and its name, with zeros to 40, where one did.
 #[derive(Clone, Copy)]
 pub struct Gone {
-    pub outcome: Outcome,
+    pub outcome: Result<(), Error>,
     pub medium: Medium,
     pub store: Store,
     pub any: bool,
@@ -66,19 +66,19 @@ pub fn remove(volume: &mut [u8], medium: Medium, store: Store, slot: usize, id: 
     let o = c.outcome;
     let m = c.medium;
     let s = c.store;
-    if let Outcome::No(_) = o {
+    if let Err(_) = o {
         return c;
     }
     let after = closed_for(id, s);
     Committed {
-        outcome: Outcome::Done,
+        outcome: Ok(()),
         medium: m,
         store: after,
     }
 }
 
 // No file went.
-pub fn none_gone(outcome: Outcome, medium: Medium, store: Store) -> Gone
+pub fn none_gone(outcome: Result<(), Error>, medium: Medium, store: Store) -> Gone
     ensures { result ≡ none_gone outcome medium store }
 {
     Gone {
@@ -108,11 +108,11 @@ fn take_away(volume: &mut [u8], medium: Medium, store: Store, old: Old) -> Gone
     let o = c.outcome;
     let m = c.medium;
     let s = c.store;
-    if let Outcome::No(e) = o {
-        return none_gone(Outcome::No(e), m, s);
+    if let Err(e) = o {
+        return none_gone(Err(e), m, s);
     }
     Gone {
-        outcome: Outcome::Done,
+        outcome: Ok(()),
         medium: m,
         store: s,
         any: true,
@@ -136,10 +136,10 @@ pub fn remove_oldest(
 {
     let found = directory::oldest(&volume[..], medium, store, dir, keeping, keep);
     match found {
-        OldestFile::Refused(e) => none_gone(Outcome::No(e), medium, store),
+        OldestFile::Refused(e) => none_gone(Err(e), medium, store),
         OldestFile::Done(old) => {
             if !old.any {
-                return none_gone(Outcome::Done, medium, store);
+                return none_gone(Ok(()), medium, store);
             }
             take_away(volume, medium, store, old)
         }

@@ -1,13 +1,12 @@
 -- What open_append leaves and hands back: it writes nothing and makes no step; accepted, an appender that passes, beside a store value that does;
 -- refused, what it was given. Assumes nothing.
+use Rattle.std.specs.Prelude.{Err, Ok, Result}
 use mathlib.Core.Path.{◌≡◌, refl, sym, ap}
 use mathlib.Core.Bool.{true}
 use mathlib.Core.List.{List, []}
 use Prim.Native.Nat.{ℕ, ◌-◌, ◌≤◌}
 use Rattle.medium.specs.declared.Error.{Error}
 use Rattle.medium.specs.declared.Medium.{Medium}
-use Rattle.medium.specs.declared.Outcome.{Outcome}
-use Rattle.medium.specs.declared.Outcome.TheVariants.{Done, No}
 use Rattle.medium.specs.Sector.{sectors_of}
 use Rattle.medium.proofs.Laws.{not_done}
 use Rattle.handles.specs.declared.Store.{Store}
@@ -42,7 +41,7 @@ on_records_keeps P (records.Are k) f g p q = q k refl
 pub record Reads (vol : List ℕ) (m : Medium) (st : Store) (o : AppOut) : Type 0 where
   pub same : o.vol ≡ vol
   pub still : o.steps ≡ []
-  pub refused : (e : Error) → o.ans.outcome ≡ No e → o.ans ≡ (refused_at vol m st e).ans
+  pub refused : (e : Error) → o.ans.outcome ≡ Err e → o.ans ≡ (refused_at vol m st e).ans
 
 -- what an accepted call hands back: an appender of the file found, which passes where its rollover does, and the store that it writes
 pub record Opens (name : List ℕ) (rollover : Rollover) (vol : List ℕ) (m : Medium) (st : Store) (r : Handed) : Type 0 where
@@ -51,16 +50,16 @@ pub record Opens (name : List ℕ) (rollover : Rollover) (vol : List ℕ) (m : M
   pub store : r.store ≡ written_by (next_token m) r.appender.id st
   pub held : store_ok r.store (sectors_of vol) ≡ true
   pub passes : over_ok rollover ≡ true → appender_ok r.appender r.store ≡ true
-  pub may : over_ok rollover ≡ true → may_write vol r.store r.appender ≡ Done
+  pub may : over_ok rollover ≡ true → may_write vol r.store r.appender ≡ Ok tt
   pub empty : r.appender.fill ≡ 0
   pub its_rollover : (r.appender.rolls ≡ rollover.rolls) × (r.appender.dir ≡ rollover.dir)
 
 module _ (name : List ℕ) (rollover : Rollover) (vol : List ℕ) (m : Medium) (st : Store) where
   abbrev Leaves : AppOut → Type 0
-  Leaves o = Reads vol m st o × (o.ans.outcome ≡ Done → Opens name rollover vol m st o.ans)
+  Leaves o = Reads vol m st o × (o.ans.outcome ≡ Ok tt → Opens name rollover vol m st o.ans)
 
   no : (e : Error) → Leaves (refused_at vol m st e)
-  no e = (record { same = refl; still = refl; refused = λ x q. ap (λ (o : Outcome). record { outcome = o; medium = m; store = st; appender = no_appender }) q }, not_done)
+  no e = (record { same = refl; still = refl; refused = λ x q. ap (λ (o : Result Unit Error). record { outcome = o; medium = m; store = st; appender = no_appender }) q }, not_done)
 
   module _ (ok : store_ok st (sectors_of vol) ≡ true) where
     opened : (slot id : ℕ) (p : ChainParts) (n : ℕ) → find_of vol m st name ≡ found.At slot id → chain_of vol m st slot ≡ chained.Whole p → n ≤ st.head.chunk
@@ -94,5 +93,5 @@ module _ (name : List ℕ) (rollover : Rollover) (vol : List ℕ) (m : Medium) (
     pub reopen_reads : Reads vol m st (reopen_of name rollover vol m st)
     reopen_reads = reopen_leaves.0
 
-    pub reopen_opens : (reopen_of name rollover vol m st).ans.outcome ≡ Done → Opens name rollover vol m st (reopen_of name rollover vol m st).ans
+    pub reopen_opens : (reopen_of name rollover vol m st).ans.outcome ≡ Ok tt → Opens name rollover vol m st (reopen_of name rollover vol m st).ans
     reopen_opens = reopen_leaves.1

@@ -1,4 +1,5 @@
 -- What holds of a volume between the calls holds after a copy was written anew, whatever the writes left. Assumes nothing.
+use Rattle.std.specs.Prelude.{Err, Ok}
 use mathlib.Core.Path.{◌≡◌, sym, ap, ◌∙◌, subst}
 use mathlib.Core.Bool.{true, false, ◌&&◌}
 use mathlib.Core.List.{List}
@@ -11,7 +12,6 @@ use lib.ListN.{get_or}
 use Rattle.le.proofs.Bools.{and_true}
 use Rattle.medium.specs.declared.Error.{Error}
 use Rattle.medium.specs.declared.Medium.{Medium}
-use Rattle.medium.specs.declared.Outcome.TheVariants.{Done, No}
 use Rattle.medium.specs.Sector.{sectors_of}
 use Rattle.medium.specs.Frame.{Kept}
 use Rattle.handles.specs.declared.Header.{Header}
@@ -68,7 +68,7 @@ copy_most vol k h e = (sane_facts h (sectors_of vol) (copy_sane vol k h e)).chun
 
 module _ (p : Plan) (vol : List ℕ) (m : Medium) (good : Good p vol) where
   pub stopped_sound : {c : ℕ} {h : Header} {e : Error} → decode_of p.first (sectors_of vol) ≡ bare Absent → Sound vol c h → c + p.copy ≡ 1
-      → (copy_out p vol m).ans.outcome ≡ No e → Sound (copy_out p vol m).vol c h
+      → (copy_out p vol m).ans.outcome ≡ Err e → Sound (copy_out p vol m).vol c h
   stopped_sound {c} {h} none s two q =
       let b : 1 - c ≡ p.copy = omega arith in
       ⊎_elim
@@ -83,7 +83,7 @@ module _ (p : Plan) (vol : List ℕ) (m : Medium) (good : Good p vol) where
   -- the copy beside the new one is of another store, or its header lists its body
   pub finished_sound : Newest p vol → Tied p vol
       → ((g : Header) → copy_of vol (base_of (1 - p.copy)) ≡ ours g → same_store p.head g ≡ true → Lists vol (1 - p.copy) g)
-      → (copy_out p vol m).ans.outcome ≡ Done → Sound (copy_out p vol m).vol p.copy (copy_out p vol m).ans.store.head
+      → (copy_out p vol m).ans.outcome ≡ Ok tt → Sound (copy_out p vol m).vol p.copy (copy_out p vol m).ans.store.head
   unfolding same_store
   finished_sound new tied old q =
       let done = copy_finished p vol m good q in

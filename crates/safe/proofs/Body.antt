@@ -1,4 +1,5 @@
 -- The body of a copy, sector by sector: ONE induction, whose conclusion holds however it ends. Assumes nothing.
+use Rattle.std.specs.Prelude.{Err, Ok}
 use mathlib.Core.Path.{◌≡◌, refl, sym, ◌∙◌, subst}
 use mathlib.Core.Bool.{Bool, true, false}
 use mathlib.Core.List.{List}
@@ -11,7 +12,6 @@ use lib.ListN.{length, get_or, set}
 use lib.Seq.{get_or-set_same, get_or-set_other}
 use Rattle.medium.specs.declared.Error.{Error}
 use Rattle.medium.specs.declared.Medium.{Medium}
-use Rattle.medium.specs.declared.Outcome.TheVariants.{Done, No}
 use Rattle.medium.specs.Sector.{sectors_of, sector_at}
 use Rattle.medium.specs.Frame.{Kept}
 use Rattle.medium.proofs.Laws.{on_done_keeps}
@@ -28,7 +28,7 @@ use Rattle.plan.proofs.Keeps.{Fills, move_fills, Ready, ready_still, Stays, sect
 pub record Left (p : Plan) (f : ℕ → Move) (k n : ℕ) (v : List ℕ) (u : Medium) (h : Header) (o : BodyOut) : Type 0 where
   pub stays : Stays p k n v u h o
   pub rest : (i : ℕ) → (i < k) ⊎ (k + n ≤ i) → get_or o.ans.head.crcs i 0 ≡ get_or h.crcs i 0
-  pub made : o.ans.outcome ≡ Done → (i : ℕ) → k ≤ i → i < k + n
+  pub made : o.ans.outcome ≡ Ok tt → (i : ℕ) → k ≤ i → i < k + n
       → Made (f i) (sector_at v (target_at p i)) (get_or h.crcs i 0) (sector_at o.vol (target_at p i)) (get_or o.ans.head.crcs i 0)
 
 pub made_same : (mv : Move) {s t s' t' : List ℕ} {c d c' d' : ℕ} → s ≡ t → c ≡ d → s' ≡ t' → c' ≡ d' → Made mv s c s' c' → Made mv t d t' d'
@@ -68,7 +68,7 @@ from P k n x more i a b = go (eqb i k) refl
 
 module _ {p : Plan} {f : ℕ → Move} {k : ℕ} (n : ℕ) {v : List ℕ} {u : Medium} {h : Header} {s : BodyOut} (one : Left p f k 1 v u h s) where
   -- refused: as it stands
-  left_stop : {e : Error} → s.ans.outcome ≡ No e → Left p f k (suc n) v u h s
+  left_stop : {e : Error} → s.ans.outcome ≡ Err e → Left p f k (suc n) v u h s
   left_stop q =
       record {
         stays = stays_wide one.stays;
@@ -76,7 +76,7 @@ module _ {p : Plan} {f : ℕ → Move} {k : ℕ} (n : ℕ) {v : List ℕ} {u : M
         made = λ d. clash q d;
       }
 
-  left_more : {o : BodyOut} → s.ans.outcome ≡ Done → Left p f (k + 1) n s.vol s.ans.medium s.ans.head o → Left p f k (suc n) v u h o
+  left_more : {o : BodyOut} → s.ans.outcome ≡ Ok tt → Left p f (k + 1) n s.vol s.ans.medium s.ans.head o → Left p f k (suc n) v u h o
   left_more {o} q more =
       record {
         stays = stays_more s o one.stays more.stays;

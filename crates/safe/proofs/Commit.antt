@@ -1,4 +1,5 @@
 -- A commit, whatever the writes left and whatever the medium reads: refused it leaves the old store, accepted the new one. Assumes nothing.
+use Rattle.std.specs.Prelude.{Err, Ok}
 use mathlib.Core.Path.{◌≡◌, refl, sym, ap, ◌∙◌}
 use mathlib.Core.Bool.{true}
 use mathlib.Core.List.{List}
@@ -13,7 +14,6 @@ use Rattle.le.proofs.Parts.{length_zeros}
 use Rattle.medium.specs.declared.Error.{Error}
 use Rattle.medium.specs.declared.Error.TheVariants.{Stale, Spent}
 use Rattle.medium.specs.declared.Medium.{Medium}
-use Rattle.medium.specs.declared.Outcome.TheVariants.{Done, No}
 use Rattle.medium.specs.Frame.{Kept}
 use Rattle.medium.specs.Sector.{sectors_of}
 use Rattle.medium.proofs.Laws.{on_done_keeps}
@@ -61,7 +61,7 @@ next_lt (Remove slot) h f n = n
 module _ (edit : Edit) (name vol : List ℕ) (m : Medium) (st : Store) where
   -- the ways to an answer
   ways : (P : Out → Type 0) → ((e : Error) → P (refused_out st vol m e))
-      → ((current_of vol m).outcome ≡ Done → (st.head.generation ≡ 2 ^ 64 - 1 → ⊥) → P (copy_out (plan_of edit name vol m st) vol m))
+      → ((current_of vol m).outcome ≡ Ok tt → (st.head.generation ≡ 2 ^ 64 - 1 → ⊥) → P (copy_out (plan_of edit name vol m st) vol m))
       → P (commit_of edit name vol m st)
   unfolding commit_of
   ways P none made =
@@ -96,7 +96,7 @@ module _ (edit : Edit) (name vol : List ℕ) (m : Medium) (st : Store) where
         }
 
     -- refused: it wrote at most the copy beside the store's, which is as it was or absent
-    pub commit_beside : length st.head.crcs ≡ 24 → length name ≤ 40 → {e : Error} → (commit_of edit name vol m st).ans.outcome ≡ No e
+    pub commit_beside : length st.head.crcs ≡ 24 → length name ≤ 40 → {e : Error} → (commit_of edit name vol m st).ans.outcome ≡ Err e
         → Kept (base_of (1 - st.copy)) 25 vol (commit_of edit name vol m st).vol
         × ((copy_of (commit_of edit name vol m st).vol (base_of (1 - st.copy)) ≡ copy_of vol (base_of (1 - st.copy)))
         ⊎ (copy_of (commit_of edit name vol m st).vol (base_of (1 - st.copy)) ≡ bare Absent))
@@ -105,7 +105,7 @@ module _ (edit : Edit) (name vol : List ℕ) (m : Medium) (st : Store) where
         let p : Plan = plan_of edit name vol m st in
         let good : Good p vol = plan_good count short in
         let b : ℕ = base_of (1 - st.copy) in
-        ways (λ (o : Out). o.ans.outcome ≡ No e → Kept b 25 vol o.vol × ((copy_of o.vol b ≡ copy_of vol b) ⊎ (copy_of o.vol b ≡ bare Absent)))
+        ways (λ (o : Out). o.ans.outcome ≡ Err e → Kept b 25 vol o.vol × ((copy_of o.vol b ≡ copy_of vol b) ⊎ (copy_of o.vol b ≡ bare Absent)))
         (λ x _. (kept_none b 25 vol, inl refl))
         (λ d g q. (copy_frame p vol m good, stopped_target p vol m good (commit_first (current_of vol m) edit name st (sectors_of vol)) q))
 
@@ -143,14 +143,14 @@ module _ (edit : Edit) (name vol : List ℕ) (m : Medium) (st : Store) where
             }
 
         -- accepted: the new copy stands, and each valid copy has its widths
-        pub commit_stands : length name ≤ 40 → (commit_of edit name vol m st).ans.outcome ≡ Done
+        pub commit_stands : length name ≤ 40 → (commit_of edit name vol m st).ans.outcome ≡ Ok tt
             → Stands (commit_of edit name vol m st).vol (commit_of edit name vol m st).ans.store.copy (commit_of edit name vol m st).ans.store.head
             × (Ranged vol → Ranged (commit_of edit name vol m st).vol)
         unfolding commit_plan
         commit_stands short =
             let p : Plan = plan_of edit name vol m st in
             let good : Good p vol = plan_good range.count short in
-            ways (λ (o : Out). o.ans.outcome ≡ Done → Stands o.vol o.ans.store.copy o.ans.store.head × (Ranged vol → Ranged o.vol))
+            ways (λ (o : Out). o.ans.outcome ≡ Ok tt → Stands o.vol o.ans.store.copy o.ans.store.head × (Ranged vol → Ranged o.vol))
             (λ x. clash refl)
             (λ d less q.
             let new : Newest p vol = plan_newest less in (
@@ -165,7 +165,7 @@ module _ (edit : Edit) (name vol : List ℕ) (m : Medium) (st : Store) (inv : In
   fitting : length name ≤ 40 → Good (plan_of edit name vol m st) vol
   fitting = plan_good edit name vol m st inv.ok inv.range.count
 
-  module _ (d : (current_of vol m).outcome ≡ Done) where
+  module _ (d : (current_of vol m).outcome ≡ Ok tt) where
     found : current_of vol m ≡ taken_of st.copy st.head (copy_of vol (base_of (1 - st.copy))).head (is_ours (copy_of vol (base_of (1 - st.copy))).kind)
     found = current_choice vol m d ∙ stands_choice vol st.head st.copy inv.sound.stands
 
@@ -178,13 +178,13 @@ module _ (edit : Edit) (name vol : List ℕ) (m : Medium) (st : Store) (inv : In
   -- ---- the laws
 
   module _ (short : length name ≤ 40) where
-    pub commit_stopped : {e : Error} → (commit_of edit name vol m st).ans.outcome ≡ No e → CommitStopped vol m st (commit_of edit name vol m st)
+    pub commit_stopped : {e : Error} → (commit_of edit name vol m st).ans.outcome ≡ Err e → CommitStopped vol m st (commit_of edit name vol m st)
     unfolding commit_plan
     commit_stopped {e} =
         let p : Plan = plan_of edit name vol m st in
         let good : Good p vol = fitting short in
         let other : st.copy + (1 - st.copy) ≡ 1 = two edit name vol m st inv.ok in
-        ways edit name vol m st (λ (o : Out). o.ans.outcome ≡ No e → CommitStopped vol m st o)
+        ways edit name vol m st (λ (o : Out). o.ans.outcome ≡ Err e → CommitStopped vol m st o)
         (λ x _. record {
           store = refl;
           inv = inv;
@@ -203,7 +203,7 @@ module _ (edit : Edit) (name vol : List ℕ) (m : Medium) (st : Store) (inv : In
         })
 
     module _ (fits : Fits edit st.head.chunks) where
-      copy_inv : (current_of vol m).outcome ≡ Done → (st.head.generation ≡ 2 ^ 64 - 1 → ⊥) → (copy_out (plan_of edit name vol m st) vol m).ans.outcome ≡ Done
+      copy_inv : (current_of vol m).outcome ≡ Ok tt → (st.head.generation ≡ 2 ^ 64 - 1 → ⊥) → (copy_out (plan_of edit name vol m st) vol m).ans.outcome ≡ Ok tt
           → Inv (copy_out (plan_of edit name vol m st) vol m).vol (copy_out (plan_of edit name vol m st) vol m).ans.store
       unfolding commit_plan head_after
       copy_inv d less =
@@ -212,16 +212,16 @@ module _ (edit : Edit) (name vol : List ℕ) (m : Medium) (st : Store) (inv : In
           (λ g e _. rw (back edit name vol m st inv.ok, own_head edit name vol m st inv.ok inv.sound.stands g e) inv.sound.own)
 
       -- the new store is sound even without the premise on the sectors left unwritten
-      pub commit_inv : (commit_of edit name vol m st).ans.outcome ≡ Done → Inv (commit_of edit name vol m st).vol (commit_of edit name vol m st).ans.store
-      commit_inv = ways edit name vol m st (λ (o : Out). o.ans.outcome ≡ Done → Inv o.vol o.ans.store) (λ x. clash refl) copy_inv
+      pub commit_inv : (commit_of edit name vol m st).ans.outcome ≡ Ok tt → Inv (commit_of edit name vol m st).vol (commit_of edit name vol m st).ans.store
+      commit_inv = ways edit name vol m st (λ (o : Out). o.ans.outcome ≡ Ok tt → Inv o.vol o.ans.store) (λ x. clash refl) copy_inv
 
-      pub commit_made : CommitDistinct edit name vol m st → (commit_of edit name vol m st).ans.outcome ≡ Done → CommitMade edit name vol m st (commit_of edit name vol m st)
+      pub commit_made : CommitDistinct edit name vol m st → (commit_of edit name vol m st).ans.outcome ≡ Ok tt → CommitMade edit name vol m st (commit_of edit name vol m st)
       unfolding commit_plan head_after due_bytes
       commit_made distinct =
           let p : Plan = plan_of edit name vol m st in
           let good : Good p vol = fitting short in
           let kept = copy_frame p vol m good in
-          ways edit name vol m st (λ (o : Out). o.ans.outcome ≡ Done → CommitMade edit name vol m st o)
+          ways edit name vol m st (λ (o : Out). o.ans.outcome ≡ Ok tt → CommitMade edit name vol m st o)
           (λ x. clash refl)
           (λ d less q.
           let done = copy_finished p vol m good q in

@@ -1,4 +1,5 @@
 -- A copy written anew, with any number of writes left: what it leaves stopped, and what it leaves finished. Assumes nothing.
+use Rattle.std.specs.Prelude.{Err, Ok}
 use mathlib.Core.Path.{◌≡◌, refl, sym, ap, ◌∙◌}
 use mathlib.Core.List.{List}
 use mathlib.Core.Logic.{◌⊎◌, inr}
@@ -7,7 +8,6 @@ use native.Mathlib.Omega.{arith}
 use lib.ListN.{length, get_or}
 use Rattle.medium.specs.declared.Error.{Error}
 use Rattle.medium.specs.declared.Medium.{Medium}
-use Rattle.medium.specs.declared.Outcome.TheVariants.{Done, No}
 use Rattle.medium.specs.Sector.{sectors_of, sector_at, WriteOut, write_of}
 use Rattle.medium.specs.Frame.{Kept, Spends}
 use Rattle.medium.proofs.Laws.{on_done_keeps}
@@ -47,13 +47,13 @@ module _ (p : Plan) (vol : List ℕ) (m : Medium) (good : Good p vol) where
   copy_used = copied.medium
 
   -- refused: the store value as given; and nothing is written, or the copy's header sector holds the first image
-  pub copy_stopped : {e : Error} → (copy_out p vol m).ans.outcome ≡ No e
+  pub copy_stopped : {e : Error} → (copy_out p vol m).ans.outcome ≡ Err e
       → ((copy_out p vol m).ans.store ≡ p.store) × (((copy_out p vol m).vol ≡ vol) ⊎ (sector_at (copy_out p vol m).vol (target p) ≡ p.first))
   copy_stopped {e} q = (copied.refused e q, copy_order p vol m (good_ready good) good.chunks good.first e q)
 
   -- accepted: every move was made, and the header written
   abbrev Right : Out → Type 0
-  Right o = o.ans.outcome ≡ Done → Finished p vol m o.vol o.ans.store
+  Right o = o.ans.outcome ≡ Ok tt → Finished p vol m o.vol o.ans.store
 
   room : {v : List ℕ} → Kept (target p) 25 vol v → target p < sectors_of v
   room kept = rw (kept_sectors kept) (omega (arith, base_most p.copy, good.enough))
@@ -76,7 +76,7 @@ module _ (p : Plan) (vol : List ℕ) (m : Medium) (good : Good p vol) where
       })
       (λ x _. clash refl)
 
-  pub copy_finished : (copy_out p vol m).ans.outcome ≡ Done → Finished p vol m (copy_out p vol m).vol (copy_out p vol m).ans.store
+  pub copy_finished : (copy_out p vol m).ans.outcome ≡ Ok tt → Finished p vol m (copy_out p vol m).vol (copy_out p vol m).ans.store
   unfolding copy_out
   copy_finished =
       let z : WriteOut = write_of vol m (target p) p.first in
@@ -87,7 +87,7 @@ module _ (p : Plan) (vol : List ℕ) (m : Medium) (good : Good p vol) where
       let l : Left p (move_of p vol m) 0 n z.vol z.ans.medium p.head b =
       body_left p vol m good n 0 z.vol z.ans.medium p.head (omega (arith, good.chunks)) whole (write_spends vol m (target p) p.first).unreadable good.count in
       let frame : Kept (target p) 25 vol b.vol = kept_more whole (kept_wide (omega arith) (omega (arith, good.chunks)) l.stays.frame) in
-      let ended : b.ans.outcome ≡ Done → Ended p vol m b.vol b.ans.head = λ q.
+      let ended : b.ans.outcome ≡ Ok tt → Ended p vol m b.vol b.ans.head = λ q.
       record {
         head = l.stays.numbers;
         count = l.stays.count ∙ good.count;

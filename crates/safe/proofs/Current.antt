@@ -1,4 +1,5 @@
 -- The copy that stands on a volume is the one that mount takes, and the other way round. Assumes nothing.
+use Rattle.std.specs.Prelude.{Ok}
 use mathlib.Core.Path.{◌≡◌, refl, ap, subst}
 use mathlib.Core.Bool.{Bool, true, false, not, ◌&&◌, ◌||◌}
 use mathlib.Core.List.{List}
@@ -12,7 +13,6 @@ use Rattle.le.proofs.Bools.{and_true}
 use Rattle.runs.specs.Run.{same_bytes}
 use Rattle.runs.proofs.Tests.{same_true}
 use Rattle.medium.specs.declared.Medium.{Medium}
-use Rattle.medium.specs.declared.Outcome.TheVariants.{Done}
 use Rattle.medium.specs.Refusal.{on_done}
 use Rattle.medium.specs.Sector.{sectors_of, read_of}
 use Rattle.medium.proofs.Laws.{on_done_keeps}
@@ -66,7 +66,7 @@ module _ (vol : List ℕ) (h : Header) where
   not_foreign (suc zero) s = (s.known, rw s.found refl)
   not_foreign (suc (suc c)) s = absurd (let f : ⊥ = omega (arith, s.number) in f)
 
-  module _ (m : Medium) (a : read_of m 0 ≡ Done) (b : read_of m 32 ≡ Done) where
+  module _ (m : Medium) (a : read_of m 0 ≡ Ok tt) (b : read_of m 32 ≡ Ok tt) where
     pub stands_headers : (c : ℕ) → Stands vol c h → headers_of vol m ≡ both_of (copy_of vol 0) (copy_of vol 32)
     stands_headers c s = let n = not_foreign c s in headers_read vol m s.enough a b n.0 n.1
 
@@ -74,15 +74,15 @@ module _ (vol : List ℕ) (h : Header) where
     unfolding current_of on_done
     stands_current c s = rw (stands_headers c s) (stands_choice c s)
 
-    pub stands_mount : (c : ℕ) → Stands vol c h → mount_of vol m ≡ record { outcome = Done; store = record { copy = c; head = h; writer = Nobody; free = unfit_of } }
+    pub stands_mount : (c : ℕ) → Stands vol c h → mount_of vol m ≡ record { outcome = Ok tt; store = record { copy = c; head = h; writer = Nobody; free = unfit_of } }
     unfolding mount_of taken_of on_done
     stands_mount c s = rw (stands_current c s)
 
 -- where both headers were read, the medium has no further say
-pub current_choice : (vol : List ℕ) (m : Medium) → (current_of vol m).outcome ≡ Done → current_of vol m ≡ choice_of (both_of (copy_of vol 0) (copy_of vol 32))
+pub current_choice : (vol : List ℕ) (m : Medium) → (current_of vol m).outcome ≡ Ok tt → current_of vol m ≡ choice_of (both_of (copy_of vol 0) (copy_of vol 32))
 unfolding current_of no_current
 current_choice vol m =
-    on_done_keeps (λ (r : Current). r.outcome ≡ Done → r ≡ choice_of (both_of (copy_of vol 0) (copy_of vol 32))) (headers_of vol m).outcome _ _
+    on_done_keeps (λ (r : Current). r.outcome ≡ Ok tt → r ≡ choice_of (both_of (copy_of vol 0) (copy_of vol 32))) (headers_of vol m).outcome _ _
     (λ o _. ap choice_of (headers_both vol m o).same)
     (λ e _. clash refl)
 
@@ -105,7 +105,7 @@ module _ (vol : List ℕ) where
   b_older t o g e = omega (arith, ltb-false (copy_of vol 0).head.generation g.generation (rw (e, o) at t))
 
   abbrev Found : Current → Type 0
-  Found r = r.outcome ≡ Done → Stands vol r.copy r.head
+  Found r = r.outcome ≡ Ok tt → Stands vol r.copy r.head
 
   choice_stands : 64 ≤ sectors_of vol → is_foreign (copy_of vol 0).kind ≡ false → is_foreign (copy_of vol 32).kind ≡ false → Found (choice_of both)
   unfolding choice_of taken_of no_current base_of pick
@@ -117,7 +117,7 @@ module _ (vol : List ℕ) where
       (λ _. pick_keeps Found (is_damaged (copy_of vol 0).kind || is_damaged (copy_of vol 32).kind) _ _ (clash refl) (clash refl)))
 
   module _ (m : Medium) where
-    pub current_stands : (current_of vol m).outcome ≡ Done → Stands vol (current_of vol m).copy (current_of vol m).head
+    pub current_stands : (current_of vol m).outcome ≡ Ok tt → Stands vol (current_of vol m).copy (current_of vol m).head
     unfolding current_of no_current
     current_stands =
         on_done_keeps Found (headers_of vol m).outcome _ _
@@ -145,7 +145,7 @@ head_same a b e =
       same_true a.crcs b.crcs u.1,
     ) refl
 
-pub own_stands : (vol : List ℕ) (m : Medium) (st : Store) → (current_of vol m).outcome ≡ Done → is_current (current_of vol m) st ≡ true → Stands vol st.copy st.head
+pub own_stands : (vol : List ℕ) (m : Medium) (st : Store) → (current_of vol m).outcome ≡ Ok tt → is_current (current_of vol m) st ≡ true → Stands vol st.copy st.head
 unfolding is_current
 own_stands vol m st d c =
     let p = and_true (eqb (current_of vol m).copy st.copy) (same_head (current_of vol m).head st.head) c in

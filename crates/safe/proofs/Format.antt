@@ -1,4 +1,5 @@
 -- A format, whatever the writes left: refused it leaves a store that was there, accepted it leaves an empty one. Assumes nothing.
+use Rattle.std.specs.Prelude.{Err, Ok}
 use mathlib.Core.Path.{◌≡◌, refl, sym, ap, ◌∙◌}
 use mathlib.Core.Bool.{Bool, true, false, ◌&&◌}
 use mathlib.Core.List.{List}
@@ -13,7 +14,6 @@ use Rattle.le.proofs.Bools.{and_true}
 use Rattle.medium.specs.declared.Error.{Error}
 use Rattle.medium.specs.declared.Error.TheVariants.{Range, Spent}
 use Rattle.medium.specs.declared.Medium.{Medium}
-use Rattle.medium.specs.declared.Outcome.TheVariants.{Done, No}
 use Rattle.medium.specs.Sector.{sectors_of}
 use Rattle.medium.proofs.Laws.{on_done_keeps}
 use Rattle.medium.proofs.Frame.{spends_none}
@@ -87,7 +87,7 @@ same_id h g t = eqb-true h.id g.id (and_true (eqb h.id g.id) _ t).0
 
 -- what the tests on the way say
 record Asked (size : ℕ) (vol : List ℕ) (m : Medium) : Type 0 where
-  headers : (headers_of vol m).outcome ≡ Done
+  headers : (headers_of vol m).outcome ≡ Ok tt
   least : 1 ≤ size
   most : size ≤ 512
   some : chunks_of (sectors_of vol) size ≡ 0 → ⊥
@@ -181,10 +181,10 @@ module _ (size seed : ℕ) (vol : List ℕ) (m : Medium) where
 
   -- ---- the laws
 
-  pub format_stopped : {e : Error} → (format_of size seed vol m).ans.outcome ≡ No e → FormatStopped vol m (format_of size seed vol m)
+  pub format_stopped : {e : Error} → (format_of size seed vol m).ans.outcome ≡ Err e → FormatStopped vol m (format_of size seed vol m)
   unfolding format_plan
   format_stopped {e} =
-      ways (λ (o : Out). o.ans.outcome ≡ No e → FormatStopped vol m o)
+      ways (λ (o : Out). o.ans.outcome ≡ Err e → FormatStopped vol m o)
       (λ x _. record { store = refl; size = refl; stands = λ st s. s; inv = λ st i. i; ranged = λ r. r; body = λ st s k l. refl; records = λ j l. refl; used = spends_none m })
       (λ a q.
       let kept = copy_frame plan vol m (good a) in
@@ -201,10 +201,10 @@ module _ (size seed : ℕ) (vol : List ℕ) (m : Medium) where
         used = copy_used plan vol m (good a);
       })
 
-  pub format_made : Numbered vol → (format_of size seed vol m).ans.outcome ≡ Done → FormatMade size vol m (format_of size seed vol m)
+  pub format_made : Numbered vol → (format_of size seed vol m).ans.outcome ≡ Ok tt → FormatMade size vol m (format_of size seed vol m)
   unfolding format_plan format_head is_format map_after mark_after pick no_store
   format_made small =
-      ways (λ (o : Out). o.ans.outcome ≡ Done → FormatMade size vol m o)
+      ways (λ (o : Out). o.ans.outcome ≡ Ok tt → FormatMade size vol m o)
       (λ x. clash refl)
       (λ a q.
       let done = copy_finished plan vol m (good a) q in
@@ -234,8 +234,8 @@ module _ (size seed : ℕ) (vol : List ℕ) (m : Medium) where
       })
 
   -- accepted on any bytes at all, and beside a store
-  pub format_bytes : Bytes vol → (format_of size seed vol m).ans.outcome ≡ Done → FormatMade size vol m (format_of size seed vol m)
+  pub format_bytes : Bytes vol → (format_of size seed vol m).ans.outcome ≡ Ok tt → FormatMade size vol m (format_of size seed vol m)
   format_bytes small = format_made (bytes_numbered vol small)
 
-  pub format_again : {st : Store} → Inv vol st → (format_of size seed vol m).ans.outcome ≡ Done → FormatMade size vol m (format_of size seed vol m)
+  pub format_again : {st : Store} → Inv vol st → (format_of size seed vol m).ans.outcome ≡ Ok tt → FormatMade size vol m (format_of size seed vol m)
   format_again inv = format_made (inv_numbered inv)

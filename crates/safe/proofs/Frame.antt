@@ -1,4 +1,5 @@
 -- The two copies: while one is written the other is as it was. Assumes nothing.
+use Rattle.std.specs.Prelude.{Err, Ok, Result}
 use mathlib.Core.Path.{◌≡◌, sym, ◌∙◌}
 use mathlib.Core.List.{List}
 use mathlib.Core.Logic.{◌⊎◌, inl, inr}
@@ -7,15 +8,13 @@ use native.Mathlib.Nat.{add-zero, add_assoc}
 use native.Mathlib.Omega.{arith}
 use Rattle.le.specs.Choice.{pick}
 use Rattle.medium.specs.declared.Error.{Error}
-use Rattle.medium.specs.declared.Outcome.{Outcome}
-use Rattle.medium.specs.declared.Outcome.TheVariants.{Done, No}
 use Rattle.medium.specs.Sector.{sector_at}
 use Rattle.medium.proofs.Laws.{not_done}
 use Rattle.medium.specs.Frame.{Kept}
 use Rattle.handles.specs.Handles.{base_of}
 
 -- an outcome is not both
-pub clash : {A : Type 0} {o : Outcome} {e : Error} → o ≡ No e → o ≡ Done → A
+pub clash : {A : Type 0} {o : Result Unit Error} {e : Error} → o ≡ Err e → o ≡ Ok tt → A
 clash p q = not_done (sym p ∙ q)
 
 -- the header and the body of one copy lie outside the other

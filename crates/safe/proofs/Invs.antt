@@ -1,4 +1,5 @@
 -- What holds between the calls: mount gives the store value, writing a record keeps it, and so does a copy written anew, by any plan. Assumes nothing.
+use Rattle.std.specs.Prelude.{Err, Ok}
 use mathlib.Core.Path.{◌≡◌, sym, ap, ◌∙◌}
 use mathlib.Core.Bool.{true}
 use mathlib.Core.List.{List}
@@ -12,7 +13,6 @@ use Rattle.le.proofs.Choices.{pick_true, pick_false}
 use Rattle.le.proofs.Bools.{and_true}
 use Rattle.medium.specs.declared.Error.{Error}
 use Rattle.medium.specs.declared.Medium.{Medium}
-use Rattle.medium.specs.declared.Outcome.TheVariants.{Done, No}
 use Rattle.medium.specs.Refusal.{on_done}
 use Rattle.medium.specs.Frame.{Kept, Spends}
 use Rattle.medium.specs.Sector.{sectors_of, sector_at, read_of, Readable, write_of}
@@ -41,7 +41,7 @@ use Rattle.safe.proofs.Bodies.{copy_most, stopped_sound, finished_sound}
 
 -- ---- a medium whose sectors all read
 
-pub reads : (m : Medium) (vol : List ℕ) → Readable vol m → (k : ℕ) → k < sectors_of vol → read_of m k ≡ Done
+pub reads : (m : Medium) (vol : List ℕ) → Readable vol m → (k : ℕ) → k < sectors_of vol → read_of m k ≡ Ok tt
 unfolding read_of
 reads m vol r k l = pick_false _ _ (ne_eqb k m.unreadable (λ e. omega arith))
 
@@ -55,7 +55,7 @@ pub inv_held : {vol : List ℕ} {st : Store} → Inv vol st → Held st (sectors
 inv_held {vol} {st} inv = store_facts st (sectors_of vol) inv.ok
 
 pub inv_mount : (vol : List ℕ) (m : Medium) (st : Store) → Inv vol st → Readable vol m
-    → mount_of vol m ≡ record { outcome = Done; store = record { copy = st.copy; head = st.head; writer = Nobody; free = unfit_of } }
+    → mount_of vol m ≡ record { outcome = Ok tt; store = record { copy = st.copy; head = st.head; writer = Nobody; free = unfit_of } }
 inv_mount vol m st inv r =
     let e : 64 ≤ sectors_of vol = (inv_held inv).enough in
     stands_mount vol st.head m (reads m vol r 0 (omega arith)) (reads m vol r 32 (omega arith)) st.copy inv.sound.stands
@@ -63,7 +63,7 @@ inv_mount vol m st inv r =
 -- ---- a body sector is read and passes, so that no walk is refused
 
 module _ (vol : List ℕ) (m : Medium) (st : Store) (inv : Inv vol st) (r : Readable vol m) (k : ℕ) (l : k < body_of st.head.chunks) where
-  pub inv_check : check_of vol m st k ≡ Done
+  pub inv_check : check_of vol m st k ≡ Ok tt
   unfolding check_of on_done
   inv_check =
       let f : body_at st k < sectors_of vol = omega (arith, base_most st.copy, (inv_held inv).enough, (inv_held inv).head.chunks_most) in
@@ -114,14 +114,14 @@ kept_records c kept j l = kept.same j (inr (omega (arith, base_most c)))
 module _ (p : Plan) (vol : List ℕ) (m : Medium) (good : Good p vol) where
   -- refused: the store beside it holds on
   pub stopped_inv : {st : Store} {e : Error} → decode_of p.first (sectors_of vol) ≡ bare Absent → Inv vol st → st.copy + p.copy ≡ 1
-      → (copy_out p vol m).ans.outcome ≡ No e → Inv (copy_out p vol m).vol st
+      → (copy_out p vol m).ans.outcome ≡ Err e → Inv (copy_out p vol m).vol st
   stopped_inv none inv two q =
       record { ok = rw (kept_sectors (copy_frame p vol m good)) inv.ok; range = inv.range; sound = stopped_sound p vol m good none inv.sound two q }
 
   -- accepted: the new store holds
   pub finished_inv : map_ok (free_after p vol) p.head.chunks ≡ true → Newest p vol → Tied p vol
       → ((g : Header) → copy_of vol (base_of (1 - p.copy)) ≡ ours g → same_store p.head g ≡ true → Lists vol (1 - p.copy) g)
-      → (copy_out p vol m).ans.outcome ≡ Done → Inv (copy_out p vol m).vol (copy_out p vol m).ans.store
+      → (copy_out p vol m).ans.outcome ≡ Ok tt → Inv (copy_out p vol m).vol (copy_out p vol m).ans.store
   finished_inv map new tied old q =
       let done = copy_finished p vol m good q in
       let c : (copy_out p vol m).ans.store.copy ≡ p.copy = ap (λ (s : Store). s.copy) done.store in

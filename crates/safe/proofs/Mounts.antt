@@ -1,4 +1,5 @@
 -- What mount takes after a copy was written anew, whatever the writes left: stopped, what it took before; finished, the new copy. Assumes nothing.
+use Rattle.std.specs.Prelude.{Err, Ok}
 use mathlib.Core.Path.{◌≡◌, refl, sym, ap, ◌∙◌}
 use mathlib.Core.List.{List}
 use mathlib.Core.Logic.{◌⊎◌, inl, inr, ⊎_elim}
@@ -7,7 +8,6 @@ use native.Mathlib.Omega.{arith}
 use lib.ListN.{length}
 use Rattle.medium.specs.declared.Error.{Error}
 use Rattle.medium.specs.declared.Medium.{Medium}
-use Rattle.medium.specs.declared.Outcome.TheVariants.{Done, No}
 use Rattle.medium.specs.Sector.{sectors_of, sector_at, read_of}
 use Rattle.medium.specs.Frame.{Kept}
 use Rattle.medium.proofs.Frame.{kept_sectors}
@@ -80,25 +80,25 @@ stands_beyond {c = c} size same s =
 
 module _ (p : Plan) (vol : List ℕ) (m : Medium) (good : Good p vol) where
   -- refused: the copy that was to be written is as it was, or absent where the first image is
-  pub stopped_copy : {e : Error} → decode_of p.first (sectors_of vol) ≡ bare Absent → (copy_out p vol m).ans.outcome ≡ No e
+  pub stopped_copy : {e : Error} → decode_of p.first (sectors_of vol) ≡ bare Absent → (copy_out p vol m).ans.outcome ≡ Err e
       → ((copy_out p vol m).vol ≡ vol) ⊎ (copy_of (copy_out p vol m).vol (target p) ≡ bare Absent)
   stopped_copy none q =
       ⊎_elim inl
       (λ a. inr (copy_holds vol _ p.first (target p) (kept_sectors (copy_frame p vol m good)) a ∙ none))
       (copy_stopped p vol m good q).1
 
-  pub stopped_target : {e : Error} → decode_of p.first (sectors_of vol) ≡ bare Absent → (copy_out p vol m).ans.outcome ≡ No e
+  pub stopped_target : {e : Error} → decode_of p.first (sectors_of vol) ≡ bare Absent → (copy_out p vol m).ans.outcome ≡ Err e
       → (copy_of (copy_out p vol m).vol (target p) ≡ copy_of vol (target p)) ⊎ (copy_of (copy_out p vol m).vol (target p) ≡ bare Absent)
   stopped_target none q = ⊎_elim (λ a. inl (ap (λ (v : List ℕ). copy_of v (target p)) a)) inr (stopped_copy none q)
 
   -- so the copy that stood stands
   pub stopped_stands : {c : ℕ} {h : Header} {e : Error} → decode_of p.first (sectors_of vol) ≡ bare Absent → Stands vol c h → c + p.copy ≡ 1
-      → (copy_out p vol m).ans.outcome ≡ No e → Stands (copy_out p vol m).vol c h
+      → (copy_out p vol m).ans.outcome ≡ Err e → Stands (copy_out p vol m).vol c h
   stopped_stands none s other q = stands_beside p.copy s other (copy_frame p vol m good) (stopped_target none q)
 
   -- and mount gives what it gave before
-  pub stopped_mount : {e : Error} (n u : Medium) → decode_of p.first (sectors_of vol) ≡ bare Absent → (mount_of vol n).outcome ≡ Done
-      → (mount_of vol n).store.copy + p.copy ≡ 1 → (copy_out p vol m).ans.outcome ≡ No e → read_of u 0 ≡ Done → read_of u 32 ≡ Done
+  pub stopped_mount : {e : Error} (n u : Medium) → decode_of p.first (sectors_of vol) ≡ bare Absent → (mount_of vol n).outcome ≡ Ok tt
+      → (mount_of vol n).store.copy + p.copy ≡ 1 → (copy_out p vol m).ans.outcome ≡ Err e → read_of u 0 ≡ Ok tt → read_of u 32 ≡ Ok tt
       → mount_of (copy_out p vol m).vol u ≡ mount_of vol n
   stopped_mount n u none accepted other q a b =
       let t = mount_current vol n accepted in
@@ -106,7 +106,7 @@ module _ (p : Plan) (vol : List ℕ) (m : Medium) (good : Good p vol) where
       stands_mount _ _ u a b _ s ∙ sym t.1
 
   -- accepted: the new copy stands
-  pub finished_stands : Newest p vol → (copy_out p vol m).ans.outcome ≡ Done → Stands (copy_out p vol m).vol p.copy (copy_out p vol m).ans.store.head
+  pub finished_stands : Newest p vol → (copy_out p vol m).ans.outcome ≡ Ok tt → Stands (copy_out p vol m).vol p.copy (copy_out p vol m).ans.store.head
   finished_stands new q =
       let kept = copy_frame p vol m good in
       let done = copy_finished p vol m good q in
@@ -121,6 +121,6 @@ module _ (p : Plan) (vol : List ℕ) (m : Medium) (good : Good p vol) where
       }
 
   -- so mount gives it
-  pub finished_mount : (u : Medium) → Newest p vol → (copy_out p vol m).ans.outcome ≡ Done → read_of u 0 ≡ Done → read_of u 32 ≡ Done
-      → mount_of (copy_out p vol m).vol u ≡ record { outcome = Done; store = record { copy = p.copy; head = (copy_out p vol m).ans.store.head; writer = Nobody; free = unfit_of } }
+  pub finished_mount : (u : Medium) → Newest p vol → (copy_out p vol m).ans.outcome ≡ Ok tt → read_of u 0 ≡ Ok tt → read_of u 32 ≡ Ok tt
+      → mount_of (copy_out p vol m).vol u ≡ record { outcome = Ok tt; store = record { copy = p.copy; head = (copy_out p vol m).ans.store.head; writer = Nobody; free = unfit_of } }
   finished_mount u new q a b = stands_mount _ _ u a b p.copy (finished_stands new q)

@@ -1,4 +1,5 @@
 -- The headers of the valid copies have their widths on a volume of bytes, and keep them while a copy is written anew, whatever the writes left. Assumes nothing.
+use Rattle.std.specs.Prelude.{Ok}
 use mathlib.Core.Path.{◌≡◌, refl, sym, ap, ◌∙◌, subst}
 use mathlib.Core.List.{List}
 use mathlib.Core.Logic.{◌⊎◌, inl, inr, ⊎_elim}
@@ -7,7 +8,6 @@ use native.Mathlib.Omega.{arith}
 use borrow.Author.Tests.{ne_eqb}
 use Rattle.le.specs.Choice.{pick}
 use Rattle.medium.specs.declared.Medium.{Medium}
-use Rattle.medium.specs.declared.Outcome.TheVariants.{Done}
 use Rattle.medium.specs.Frame.{Kept}
 use Rattle.medium.specs.Sector.{sectors_of}
 use Rattle.handles.specs.declared.Header.{Header}
@@ -55,7 +55,7 @@ module _ {vol v : List ℕ} (b : ℕ) (two : b < 2) (kept : Kept (base_of b) 25 
   ranged_stopped o old = ranged_beside (λ h e. ⊎_elim (λ a. old b h (sym a ∙ e)) (λ a. gone (sym a ∙ e)) o) old
 
 -- finished
-pub ranged_finished : (p : Plan) (vol : List ℕ) (m : Medium) → Good p vol → Newest p vol → (copy_out p vol m).ans.outcome ≡ Done → Ranged vol → Ranged (copy_out p vol m).vol
+pub ranged_finished : (p : Plan) (vol : List ℕ) (m : Medium) → Good p vol → Newest p vol → (copy_out p vol m).ans.outcome ≡ Ok tt → Ranged vol → Ranged (copy_out p vol m).vol
 ranged_finished p vol m good new q =
     ranged_beside p.copy new.number (copy_frame p vol m good)
     (λ h e. subst InRange (ap (λ (d : Decoded). d.head) (sym (finished_stands p vol m good new q).found ∙ e)) (finished_range (copy_finished p vol m good q) new.range))

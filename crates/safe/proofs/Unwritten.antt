@@ -1,5 +1,6 @@
 -- The body sectors that a commit left unwritten, as its answer lists them: each has the checksum of the bytes due there, and the premise on those listed
 -- is the premise on the commit. Assumes nothing.
+use Rattle.std.specs.Prelude.{Ok}
 use mathlib.Core.Path.{◌≡◌, refl, sym, ap, ◌∙◌, subst}
 use mathlib.Core.Bool.{Bool, true, false}
 use mathlib.Core.List.{List, ◌∷◌}
@@ -12,7 +13,6 @@ use Rattle.le.specs.Choice.{pick}
 use Rattle.le.proofs.Choices.{pick_keeps, pick_keeps_by, pick_true}
 use Rattle.checksum.specs.Crc.{crc32_of}
 use Rattle.medium.specs.declared.Medium.{Medium}
-use Rattle.medium.specs.declared.Outcome.TheVariants.{Done}
 use Rattle.medium.specs.Sector.{sectors_of, sector_at}
 use Rattle.medium.specs.Frame.{Kept}
 use Rattle.medium.proofs.Laws.{on_done_keeps}
@@ -60,7 +60,7 @@ module _ (P : Skipped → Type 0) (p : Plan) (vol : List ℕ) (m : Medium) where
           (pick_keeps (λ (l : List Skipped). EachSkipped P l → EachSkipped P (skipped_from p vol m n (k + 1))) (skips p vol m k) _ _ (λ x. x.1) (λ x. x) h)
 
 module _ (p : Plan) (vol : List ℕ) (m : Medium) where
-  copy_lists : (copy_out p vol m).ans.outcome ≡ Done → (copy_out p vol m).skipped ≡ skipped_from p vol m (body_count p) 0
+  copy_lists : (copy_out p vol m).ans.outcome ≡ Ok tt → (copy_out p vol m).skipped ≡ skipped_from p vol m (body_count p) 0
   unfolding copy_out last_of
   copy_lists =
       on_done_keeps Right _ _ _
@@ -68,7 +68,7 @@ module _ (p : Plan) (vol : List ℕ) (m : Medium) where
       (λ e _. clash refl)
     where
       Right : Out → Type 0
-      Right o = o.ans.outcome ≡ Done → o.skipped ≡ skipped_from p vol m (body_count p) 0
+      Right o = o.ans.outcome ≡ Ok tt → o.skipped ≡ skipped_from p vol m (body_count p) 0
 
 -- ---- of a commit
 
@@ -83,12 +83,12 @@ pub record CommitDue (edit : Edit) (name vol : List ℕ) (st : Store) (o : Out) 
   pub free : o.ans.store.free ≡ map_after edit vol st st.head.chunks
   pub frame : Kept (base_of (1 - st.copy)) 25 vol o.vol
 
-module _ (edit : Edit) (name vol : List ℕ) (m : Medium) (st : Store) (accepted : (commit_of edit name vol m st).ans.outcome ≡ Done) where
+module _ (edit : Edit) (name vol : List ℕ) (m : Medium) (st : Store) (accepted : (commit_of edit name vol m st).ans.outcome ≡ Ok tt) where
   abbrev plan : Plan
   plan = plan_of edit name vol m st
 
   -- it read the headers, found the store current, and wrote the copy
-  pub commit_copies : ((current_of vol m).outcome ≡ Done) × (is_current (current_of vol m) st ≡ true) × (commit_of edit name vol m st ≡ copy_out plan vol m)
+  pub commit_copies : ((current_of vol m).outcome ≡ Ok tt) × (is_current (current_of vol m) st ≡ true) × (commit_of edit name vol m st ≡ copy_out plan vol m)
   unfolding commit_of
   commit_copies =
       on_done_keeps Right _ _ _
@@ -97,9 +97,9 @@ module _ (edit : Edit) (name vol : List ℕ) (m : Medium) (st : Store) (accepted
       accepted
     where
       Right : Out → Type 0
-      Right o = o.ans.outcome ≡ Done → ((current_of vol m).outcome ≡ Done) × (is_current (current_of vol m) st ≡ true) × (o ≡ copy_out plan vol m)
+      Right o = o.ans.outcome ≡ Ok tt → ((current_of vol m).outcome ≡ Ok tt) × (is_current (current_of vol m) st ≡ true) × (o ≡ copy_out plan vol m)
 
-  copied : (copy_out plan vol m).ans.outcome ≡ Done
+  copied : (copy_out plan vol m).ans.outcome ≡ Ok tt
   copied = ap (λ (o : Out). o.ans.outcome) (sym commit_copies.2) ∙ accepted
 
   -- what it lists

@@ -1,4 +1,5 @@
 -- A line's ways, over plain values: a law for each return. Assumes nothing.
+use Rattle.std.specs.Prelude.{Err, Ok, Result}
 use mathlib.Core.Path.{◌≡◌, refl, ◌∙◌}
 use mathlib.Core.Bool.{Bool, true, false, not}
 use mathlib.Core.List.{List, []}
@@ -14,8 +15,6 @@ use Rattle.words.specs.Words.{no_rollover, rollover, list, line_of, meaning, wit
 use Rattle.words.proofs.Forms.{parsed_as}
 use Rattle.medium.specs.declared.Error.{Error}
 use Rattle.medium.specs.declared.Error.TheVariants.{Range, Uninitialized, Stale}
-use Rattle.medium.specs.declared.Outcome.{Outcome}
-use Rattle.medium.specs.declared.Outcome.TheVariants as end
 use Rattle.medium.specs.Refusal.{number_of, on_ok, outcome_of}
 use Rattle.append.specs.declared.Appender.{Appender}
 use Rattle.append.specs.declared.Handed.{Handed}
@@ -63,12 +62,12 @@ with_create vol s f k t = rw (not-false s.formatted f, not-false s.created k)
 
 module _ (vol : List ℕ) (s : Session) (size seed : ℕ) (r : StoreAnswer) {v : List ℕ}
     (g : (v ≡ (format_call vol s.medium size seed).vol) × (store_answer r ≡ (format_call vol s.medium size seed).call)) where
-  pub format_refused : {e : Error} → r.outcome ≡ end.No e
+  pub format_refused : {e : Error} → r.outcome ≡ Err e
       → turn_of v (record { session = held_of s s.store s.appender r.medium; reply = No e }) ≡ format_line vol s size seed
   unfolding format_line on_ok
   format_refused o = rw (← g.0, ← g.1, o)
 
-  pub format_done : r.outcome ≡ end.Done → {n : ℕ} → n ≡ r.store.head.chunks
+  pub format_done : r.outcome ≡ Ok tt → {n : ℕ} → n ≡ r.store.head.chunks
       → turn_of v (record { session = formatted_of s r.store r.medium; reply = Number n }) ≡ format_line vol s size seed
   unfolding format_line on_ok
   format_done o q = rw (q, ← g.0, ← g.1, o)
@@ -86,7 +85,7 @@ module _ (vol : List ℕ) (s : Session) (fine : not s.formatted ≡ false) (name
   opened_as : {t : Turn} → t ≡ opened s (create_call vol s.medium s.store name rolls dir) → t ≡ after_format vol s (create_line vol s name (pick rolls (rollover dir) no_rollover))
   opened_as e = e ∙ create_as vol s name rolls dir ∙ with_format vol s fine _
 
-  pub create_refused : {e : Error} → f.outcome ≡ end.No e
+  pub create_refused : {e : Error} → f.outcome ≡ Err e
       → turn_of v (record { session = held_of s f.store s.appender f.medium; reply = No e }) ≡ after_format vol s (create_line vol s name (pick rolls (rollover dir) no_rollover))
   unfolding on_ok
   create_refused {e = e} o = opened_as go
@@ -94,7 +93,7 @@ module _ (vol : List ℕ) (s : Session) (fine : not s.formatted ≡ false) (name
       go : turn_of v (record { session = held_of s f.store s.appender f.medium; reply = No e }) ≡ opened s (create_call vol s.medium s.store name rolls dir)
       go = rw (← g.0, ← g.1, o)
 
-  pub create_done : f.outcome ≡ end.Done
+  pub create_done : f.outcome ≡ Ok tt
       → turn_of v (record { session = created_of s f.store f.appender f.medium; reply = Number f.appender.id }) ≡ after_format vol s (create_line vol s name (pick rolls (rollover dir) no_rollover))
   unfolding on_ok
   create_done o = opened_as go
@@ -104,12 +103,12 @@ module _ (vol : List ℕ) (s : Session) (fine : not s.formatted ≡ false) (name
 
 -- ---- append and sync: bytes until a record
 
-module _ (o : Outcome) (ap : Appender) where
-  pub room_not : {e : Error} → o ≡ end.No e → no (number_of e) ≡ room_said (outcome_of o) (room_call ap)
+module _ (o : Result Unit Error) (ap : Appender) where
+  pub room_not : {e : Error} → o ≡ Err e → no (number_of e) ≡ room_said (outcome_of o) (room_call ap)
   unfolding on_ok
   room_not q = rw q
 
-  module _ (d : o ≡ end.Done) {r : Room} (g : room_answer r ≡ room_call ap) where
+  module _ (d : o ≡ Ok tt) {r : Room} (g : room_answer r ≡ room_call ap) where
     pub room_refused : {e : Error} → r ≡ room.Refused e → no (number_of e) ≡ room_said (outcome_of o) (room_call ap)
     unfolding on_ok
     room_refused q = rw (d, ← g, q)

@@ -12,7 +12,7 @@ ghost use Rattle.session.specs.Session.{append_line, sync_line, delete_line, aft
 
 use append::{Appender, Handed, Room};
 use handles::Store;
-use medium::{Error, Medium, Outcome};
+use medium::{Error, Medium};
 use words::Parsed;
 
 // What is held from line to line, beside the volume. `formatted`, `created`: a format, a create was accepted.
@@ -99,7 +99,7 @@ fn format_line(volume: &mut [u8], s: Session, size: u32, seed: u64) -> Told
     let made = r.store;
     let old = s.store;
     let appender = s.appender;
-    if let Outcome::No(e) = o {
+    if let Err(e) = o {
         return Told {
             session: Session {
                 store: old,
@@ -137,7 +137,7 @@ fn create_line(volume: &mut [u8], s: Session, name: &[u8], rolls: bool, dir: &[u
     let store = r.store;
     let made = r.appender;
     let old = s.appender;
-    if let Outcome::No(e) = o {
+    if let Err(e) = o {
         return Told {
             session: Session {
                 store,
@@ -162,10 +162,10 @@ fn create_line(volume: &mut [u8], s: Session, name: &[u8], rolls: bool, dir: &[u
 }
 
 // Bytes until a record, or the refusal.
-fn room_reply(o: Outcome, appender: Appender) -> Reply
+fn room_reply(o: Result<(), Error>, appender: Appender) -> Reply
     ensures { said_of result ≡ room_said (outcome_of o) (room_call appender) }
 {
-    if let Outcome::No(e) = o {
+    if let Err(e) = o {
         return Reply::No(e);
     }
     let room = appender.room();
@@ -223,12 +223,12 @@ fn sync_line(volume: &mut [u8], s: Session) -> Told
     flushed(s, a.sync(volume, s.medium, s.store))
 }
 
-fn number_reply(o: Outcome, n: u64) -> Reply
+fn number_reply(o: Result<(), Error>, n: u64) -> Reply
     ensures { said_of result ≡ on_ok (outcome_of o) (λ _. ok n) no }
 {
     match o {
-        Outcome::Done => Reply::Number(n),
-        Outcome::No(e) => Reply::No(e),
+        Ok(()) => Reply::Number(n),
+        Err(e) => Reply::No(e),
     }
 }
 
@@ -256,12 +256,12 @@ fn delete_line(volume: &mut [u8], s: Session, name: &[u8]) -> Told
     }
 }
 
-fn rows_reply(o: Outcome, n: usize) -> Reply
+fn rows_reply(o: Result<(), Error>, n: usize) -> Reply
     ensures { said_of result ≡ on_ok (outcome_of o) (λ _. listed n) no }
 {
     match o {
-        Outcome::Done => Reply::Rows(n),
-        Outcome::No(e) => Reply::No(e),
+        Ok(()) => Reply::Rows(n),
+        Err(e) => Reply::No(e),
     }
 }
 

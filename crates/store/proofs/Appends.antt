@@ -1,4 +1,5 @@
 -- 01, "Edges": appending 485, 486 and 487 bytes, by the laws of runs of bytes. Assumes nothing.
+use Rattle.std.specs.Prelude.{Ok}
 use mathlib.Core.Path.{◌≡◌, refl, sym, ap, ◌∙◌}
 use mathlib.Core.List.{List, [], ◌∷◌, ◌++◌}
 use Prim.Native.Nat.{ℕ, ◌+◌, ◌-◌, ◌≤◌, ◌<◌}
@@ -9,7 +10,6 @@ use lib.ListN.{length, replicate, take, drop, length-take, length-drop, take-app
 use Rattle.le.proofs.Choices.{pick_true, pick_false}
 use Rattle.le.proofs.Parts.{length_over}
 use Rattle.medium.specs.declared.Medium.{Medium}
-use Rattle.medium.specs.declared.Outcome.TheVariants.{Done}
 use Rattle.medium.specs.declared.Written.{Written}
 use Rattle.medium.specs.Refusal.{ok, outcome_of}
 use Rattle.medium.specs.Sector.{spend_of, write_of}
@@ -26,7 +26,7 @@ use Rattle.store.specs.Edges.{a_record, Wrote, Ready}
 
 -- ---- a record with a write left
 
-spend_done : (m : Medium) → 1 ≤ m.left → (spend_of m).outcome ≡ Done
+spend_done : (m : Medium) → 1 ≤ m.left → (spend_of m).outcome ≡ Ok tt
 unfolding spend_of
 spend_done m h = ap (λ (w : Written). w.outcome) (pick_false _ _ (ne_eqb m.left 0 (λ q. omega arith)))
 
@@ -36,7 +36,7 @@ spend_left m h = rw (pick_false _ _ (ne_eqb m.left 0 (λ q. omega arith))) (omeg
 
 -- the appender goes on behind its record
 pub record Recorded (m : Medium) (o : AppOut) (a : Appender) : Type 0 where
-  pub done : o.ans.outcome ≡ Done
+  pub done : o.ans.outcome ≡ Ok tt
   pub step : o.steps ≡ a_record ∷ []
   pub spent : o.ans.medium.left + 1 ≡ m.left
   pub empty : o.ans.appender.fill ≡ 0
@@ -68,7 +68,7 @@ module _ (vol : List ℕ) (m : Medium) (st : Store) (a : Appender) (bytes : List
   unfolding append_call offered
   called = on_done_done _ _ ready.may
 
-  wrote : (o : AppOut) (records n : ℕ) → append_of bytes vol m st a ≡ o → o.ans.outcome ≡ Done → o.steps ≡ replicate records a_record → o.ans.medium.left + records ≡ m.left → o.ans.appender.fill ≡ n → n ≤ 486
+  wrote : (o : AppOut) (records n : ℕ) → append_of bytes vol m st a ≡ o → o.ans.outcome ≡ Ok tt → o.steps ≡ replicate records a_record → o.ans.medium.left + records ≡ m.left → o.ans.appender.fill ≡ n → n ≤ 486
       → Wrote m (append_call vol m st a bytes) records (486 - n)
   wrote o records n e d s l f h = rw (called, e) (ap outcome_of d, s, l, room_left o.ans.appender f h)
 

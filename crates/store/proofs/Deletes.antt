@@ -1,4 +1,5 @@
 -- `delete` and `delete_oldest`, by the way that they go: a law for each return, over plain values. Assumes nothing.
+use Rattle.std.specs.Prelude.{Err, Ok, Result}
 use mathlib.Core.Path.{◌≡◌, refl, ap}
 use mathlib.Core.Bool.{Bool}
 use mathlib.Core.List.{List, []}
@@ -6,8 +7,6 @@ use Prim.Native.Nat.{ℕ}
 use Rattle.names.specs.Names.{name_ok, dir_ok}
 use Rattle.medium.specs.declared.Error.{Error}
 use Rattle.medium.specs.declared.Medium.{Medium}
-use Rattle.medium.specs.declared.Outcome.{Outcome}
-use Rattle.medium.specs.declared.Outcome.TheVariants.{Done, No}
 use Rattle.medium.specs.Refusal.{on_done}
 use Rattle.handles.specs.declared.Store.{Store}
 use Rattle.handles.specs.Handles.{is_open, open_id}
@@ -26,12 +25,12 @@ use Rattle.store.specs.Writing.{WriteCall, answer_of, delete_call, OldestCall, g
 abbrev pub Gives : List ℕ → StoreAnswer → WriteCall → Type 0
 Gives vol r d = (vol ≡ d.vol) × (store_answer r ≡ d.call)
 
-module _ (vol : List ℕ) (m : Medium) (st : Store) (name : List ℕ) {o : Outcome} {fine : Bool} (f : fine ≡ name_ok name) (q : o ≡ asked_of vol st fine) where
-  pub input_refused : {e : Error} {r : StoreAnswer} → o ≡ No e → r ≡ answer_of (refused_out st [] m e).ans → Gives vol r (delete_call vol m st name)
+module _ (vol : List ℕ) (m : Medium) (st : Store) (name : List ℕ) {o : Result Unit Error} {fine : Bool} (f : fine ≡ name_ok name) (q : o ≡ asked_of vol st fine) where
+  pub input_refused : {e : Error} {r : StoreAnswer} → o ≡ Err e → r ≡ answer_of (refused_out st [] m e).ans → Gives vol r (delete_call vol m st name)
   unfolding delete_call on_done
   input_refused h k = rw (k, ← f, ← q, h) (refl, refl)
 
-  module _ (done : o ≡ Done) {x : Found} (g : x ≡ find_of vol m st name) where
+  module _ (done : o ≡ Ok tt) {x : Found} (g : x ≡ find_of vol m st name) where
     pub not_found : {e : Error} {r : StoreAnswer} → x ≡ found.Refused e → r ≡ answer_of (refused_out st [] m e).ans → Gives vol r (delete_call vol m st name)
     unfolding delete_call on_done on_found
     not_found h k = rw (k, ← f, ← q, done, ← g, h) (refl, refl)
@@ -44,12 +43,12 @@ module _ (vol : List ℕ) (m : Medium) (st : Store) (name : List ℕ) {o : Outco
 abbrev pub GivesGone : List ℕ → Gone → OldestCall → Type 0
 GivesGone vol r d = (vol ≡ d.vol) × (gone_answer r ≡ d.call) × (r ≡ d.gone)
 
-module _ (vol : List ℕ) (m : Medium) (st : Store) (dir : List ℕ) {o : Outcome} {fine : Bool} (f : fine ≡ dir_ok dir) (q : o ≡ asked_of vol st fine) where
-  pub dir_refused : {e : Error} {r : Gone} → o ≡ No e → r ≡ none_gone (No e) m st → GivesGone vol r (oldest_call vol m st dir)
+module _ (vol : List ℕ) (m : Medium) (st : Store) (dir : List ℕ) {o : Result Unit Error} {fine : Bool} (f : fine ≡ dir_ok dir) (q : o ≡ asked_of vol st fine) where
+  pub dir_refused : {e : Error} {r : Gone} → o ≡ Err e → r ≡ none_gone (Err e) m st → GivesGone vol r (oldest_call vol m st dir)
   unfolding oldest_call oldest_told on_done
   dir_refused h k = rw (k, ← f, ← q, h) (refl, refl, refl)
 
-  pub oldest_told_lem : {v : List ℕ} {r : Gone} {k : Bool} {id : ℕ} → o ≡ Done → k ≡ is_open st.writer → id ≡ open_id st.writer
+  pub oldest_told_lem : {v : List ℕ} {r : Gone} {k : Bool} {id : ℕ} → o ≡ Ok tt → k ≡ is_open st.writer → id ≡ open_id st.writer
       → (v ≡ (remove_oldest_of vol m st dir k id).vol) × (r ≡ (remove_oldest_of vol m st dir k id).ans) → GivesGone v r (oldest_call vol m st dir)
   unfolding oldest_call oldest_told on_done
   oldest_told_lem h a b w = rw (← f, ← q, h, ← a, ← b) (w.0, ap gone_answer w.1, w.1)

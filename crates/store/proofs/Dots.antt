@@ -1,4 +1,6 @@
 -- S-5: 16 with all as given, and else 01's create and open_append. Assumes nothing.
+use Rattle.std.specs.Prelude.{Ok, Result}
+use Rattle.medium.specs.declared.Error.{Error}
 use mathlib.Core.Path.{◌≡◌, refl, ap, ◌∙◌}
 use mathlib.Core.Bool.{Bool, true, false}
 use mathlib.Core.List.{List, [], ◌∷◌}
@@ -7,8 +9,6 @@ use Rattle.le.specs.Choice.{pick}
 use Rattle.names.specs.Names.{name_ok, dotted}
 use Rattle.names.proofs.Edges.{dot_edges}
 use Rattle.medium.specs.declared.Medium.{Medium}
-use Rattle.medium.specs.declared.Outcome.{Outcome}
-use Rattle.medium.specs.declared.Outcome.TheVariants.{Done}
 use Rattle.medium.specs.Refusal.{on_done}
 use Rattle.medium.specs.Sector.{sectors_of}
 use Rattle.handles.specs.declared.Store.{Store}
@@ -35,11 +35,11 @@ module _ (vol : List ℕ) (m : Medium) (st : Store) (name : List ℕ) (rolls : B
     unfolding create_call open_call
     both = (refused_16 (create_earlier vol m st name rolls dir), refused_16 (open_earlier vol m st name rolls dir))
 
-  as_earlier : (asked_of vol st (open_fine name rolls dir) ≡ Done → dotted name ≡ false) → AsEarlier vol m st name rolls dir
+  as_earlier : (asked_of vol st (open_fine name rolls dir) ≡ Ok tt → dotted name ≡ false) → AsEarlier vol m st name rolls dir
   unfolding create_earlier open_earlier opening
   as_earlier not =
       let same = admitted_same vol st name rolls dir not in
-      let by : AppOut → Outcome → AppCall = λ work o. call_of (on_done o work (refused_at vol m st)) in (
+      let by : AppOut → Result Unit Error → AppCall = λ work o. call_of (on_done o work (refused_at vol m st)) in (
         create_is vol st name rolls dir m ∙ ap (by (create_of name (rollover_of rolls dir) vol m st)) same,
         open_is vol st name rolls dir m ∙ ap (by (reopen_of name (rollover_of rolls dir) vol m st)) same,
       )

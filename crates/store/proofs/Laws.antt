@@ -1,4 +1,6 @@
 -- What the tests of the input tell, and the counts set to 0. Assumes nothing.
+use Rattle.std.specs.Prelude.{Err, Ok, Result}
+use Rattle.medium.specs.declared.Error.{Error}
 use mathlib.Core.Path.{◌≡◌, refl, sym, ap, ◌∙◌}
 use mathlib.Core.Bool.{Bool, true, false}
 use mathlib.Core.List.{List}
@@ -11,8 +13,6 @@ use Rattle.le.specs.Part.{over, zeros}
 use Rattle.runs.proofs.Runs.{zero_more, zero_all}
 use Rattle.le.specs.Choice.{pick}
 use Rattle.medium.specs.declared.Error.TheVariants.{Name, Handle}
-use Rattle.medium.specs.declared.Outcome.{Outcome}
-use Rattle.medium.specs.declared.Outcome.TheVariants.{Done, No}
 use Rattle.medium.specs.Sector.{sectors_of}
 use Rattle.medium.proofs.Laws.{not_done}
 use Rattle.handles.specs.declared.Store.{Store}
@@ -26,11 +26,11 @@ pub record Accepted (vol : List ℕ) (st : Store) (fine : Bool) : Type 0 where
   pub held : Held st (sectors_of vol)
   pub named : fine ≡ true
 
-pub asked_done : (vol : List ℕ) (st : Store) (fine : Bool) {o : Outcome} → o ≡ asked_of vol st fine → o ≡ Done → Accepted vol st fine
+pub asked_done : (vol : List ℕ) (st : Store) (fine : Bool) {o : Result Unit Error} → o ≡ asked_of vol st fine → o ≡ Ok tt → Accepted vol st fine
 unfolding asked_of pick
 asked_done vol st fine e d = go (store_ok st (sectors_of vol)) refl fine refl (sym e ∙ d)
   where
-    go : (a : Bool) → store_ok st (sectors_of vol) ≡ a → (b : Bool) → fine ≡ b → pick a (pick b Done (No Name)) (No Handle) ≡ Done → Accepted vol st fine
+    go : (a : Bool) → store_ok st (sectors_of vol) ≡ a → (b : Bool) → fine ≡ b → ◌≡◌ {A = Result Unit Error} (pick a (pick b (Ok tt) (Err Name)) (Err Handle)) (Ok tt) → Accepted vol st fine
     go true p true q r = record { ok = p; held = store_facts st (sectors_of vol) p; named = q }
     go true p false q r = not_done r
     go false p b q r = not_done r

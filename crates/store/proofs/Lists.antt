@@ -1,4 +1,5 @@
 -- `list`, by the way that it goes: a law for each return, over plain values. Assumes nothing.
+use Rattle.std.specs.Prelude.{Err, Ok, Result}
 use mathlib.Core.Path.{◌≡◌}
 use mathlib.Core.Bool.{Bool, true, false, ◌||◌}
 use mathlib.Core.List.{List}
@@ -14,8 +15,6 @@ use Rattle.names.specs.Names.{dir_ok}
 use Rattle.medium.specs.declared.Error.{Error}
 use Rattle.medium.specs.declared.Error.TheVariants.{Range}
 use Rattle.medium.specs.declared.Medium.{Medium}
-use Rattle.medium.specs.declared.Outcome.{Outcome}
-use Rattle.medium.specs.declared.Outcome.TheVariants.{Done, No}
 use Rattle.medium.specs.Refusal.{on_done}
 use Rattle.medium.proofs.Laws.{on_done_keeps}
 use Rattle.handles.specs.declared.Store.{Store}
@@ -41,21 +40,21 @@ module _ (vol : List ℕ) (m : Medium) (st : Store) (dir counts rows : List ℕ)
   unfolding list_call pick
   short_refused e k = rw (k, e)
 
-  module _ (long : short counts rows ≡ false) {o : Outcome} {fine : Bool} (f : fine ≡ dir_ok dir) (q : o ≡ asked_of vol st fine) where
-    pub input_refused : {e : Error} {r : ListAnswer} → o ≡ No e → r ≡ not_listed m e → list_answer r counts rows ≡ list_call vol m st dir counts rows
+  module _ (long : short counts rows ≡ false) {o : Result Unit Error} {fine : Bool} (f : fine ≡ dir_ok dir) (q : o ≡ asked_of vol st fine) where
+    pub input_refused : {e : Error} {r : ListAnswer} → o ≡ Err e → r ≡ not_listed m e → list_answer r counts rows ≡ list_call vol m st dir counts rows
     unfolding list_call pick on_done
     input_refused h k = rw (k, long, ← f, ← q, h)
 
-    going : o ≡ Done → list_from vol m st dir counts rows ≡ list_call vol m st dir counts rows
+    going : o ≡ Ok tt → list_from vol m st dir counts rows ≡ list_call vol m st dir counts rows
     unfolding list_call pick on_done
     going h = rw (long, ← f, ← q, h)
 
-    module _ (done : o ≡ Done) {c : Outcome} {zs cs : List ℕ} (z : zs ≡ over 0 (zeros 64) counts) (h : (c ≡ (count_of vol m st zs).outcome) × (cs ≡ (count_of vol m st zs).counts)) where
-      pub count_refused : {e : Error} {r : ListAnswer} → c ≡ No e → r ≡ not_listed m e → list_answer r cs rows ≡ list_call vol m st dir counts rows
+    module _ (done : o ≡ Ok tt) {c : Result Unit Error} {zs cs : List ℕ} (z : zs ≡ over 0 (zeros 64) counts) (h : (c ≡ (count_of vol m st zs).outcome) × (cs ≡ (count_of vol m st zs).counts)) where
+      pub count_refused : {e : Error} {r : ListAnswer} → c ≡ Err e → r ≡ not_listed m e → list_answer r cs rows ≡ list_call vol m st dir counts rows
       unfolding list_from on_done
       count_refused d k = rw (k, ← going done, ← z, ← h.0, d, h.1)
 
-      pub rows_told_lem : c ≡ Done → {r : Rows} {rs : List ℕ} → rows_told r rs ≡ rows_of vol m st dir cs rows → list_at m r.outcome r.count cs rs ≡ list_call vol m st dir counts rows
+      pub rows_told_lem : c ≡ Ok tt → {r : Rows} {rs : List ℕ} → rows_told r rs ≡ rows_of vol m st dir cs rows → list_at m r.outcome r.count cs rs ≡ list_call vol m st dir counts rows
       unfolding list_from on_done
       rows_told_lem d a = rw (← going done, ← z, ← h.0, d, ← h.1, ← a)
 

@@ -1,4 +1,5 @@
 -- The appender that an accepted create or open_append hands back may write; that of create is ready for the starred row of 01's Edges. Assumes nothing.
+use Rattle.std.specs.Prelude.{Ok}
 use mathlib.Core.Path.{◌≡◌, refl}
 use mathlib.Core.Bool.{Bool, true, false, not, ◌||◌}
 use mathlib.Core.List.{List}
@@ -14,7 +15,6 @@ use Rattle.le.proofs.Bools.{and_true}
 use Rattle.names.specs.Names.{name_ok, dir_ok}
 use Rattle.names.proofs.Laws.{name_short, dir_short}
 use Rattle.medium.specs.declared.Medium.{Medium}
-use Rattle.medium.specs.declared.Outcome.TheVariants.{Done}
 use Rattle.medium.specs.Refusal.{ok}
 use Rattle.medium.specs.Sector.{sectors_of}
 use Rattle.medium.proofs.Laws.{on_done_keeps, not_done, done_told}
@@ -62,18 +62,18 @@ module _ (vol : List ℕ) (m : Medium) (st : Store) (name : List ℕ) (rolls : B
   abbrev over' : Rollover
   over' = rollover_of rolls dir
 
-  accepted : admitted_of vol st name rolls dir ≡ Done → Accepted vol st (open_fine name rolls dir)
+  accepted : admitted_of vol st name rolls dir ≡ Ok tt → Accepted vol st (open_fine name rolls dir)
   accepted q = asked_done vol st (open_fine name rolls dir) refl (admitted_asked vol st name rolls dir q)
 
-  fine : admitted_of vol st name rolls dir ≡ Done → Fine name rolls dir
+  fine : admitted_of vol st name rolls dir ≡ Ok tt → Fine name rolls dir
   fine q = fine_facts name rolls dir (accepted q).named
 
   -- ---- open_append
 
   abbrev May : AppOut → Type 0
-  May o = o.ans.outcome ≡ Done → may_write vol o.ans.store o.ans.appender ≡ Done
+  May o = o.ans.outcome ≡ Ok tt → may_write vol o.ans.store o.ans.appender ≡ Ok tt
 
-  pub open_may : (open_call vol m st name rolls dir).call.answer ≡ ok tt → may_write vol (open_call vol m st name rolls dir).call.store (open_call vol m st name rolls dir).call.appender ≡ Done
+  pub open_may : (open_call vol m st name rolls dir).call.answer ≡ ok tt → may_write vol (open_call vol m st name rolls dir).call.store (open_call vol m st name rolls dir).call.appender ≡ Ok tt
   open_may =
       rw (open_is vol st name rolls dir m)
       (λ a. on_done_keeps May (admitted_of vol st name rolls dir) _ _
@@ -83,7 +83,7 @@ module _ (vol : List ℕ) (m : Medium) (st : Store) (name : List ℕ) (rolls : B
   -- ---- create
 
   abbrev Readies : List ℕ → Handed → Type 0
-  Readies v x = x.outcome ≡ Done → 1 ≤ x.medium.left → Ready v x.medium x.store x.appender
+  Readies v x = x.outcome ≡ Ok tt → 1 ≤ x.medium.left → Ready v x.medium x.store x.appender
 
   new_ready : over_ok over' ≡ true → (v : List ℕ) (n : Medium) (s : Store) (slot id chunk : ℕ) → Stands vol m st v n s → slot < 64 → (id ≡ 0 → ⊥) → chunk < s.head.chunks
       → Readies v (opened_out v n s slot id chunk 0 (At 0) over').ans

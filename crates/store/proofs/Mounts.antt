@@ -1,5 +1,6 @@
 -- S-3: the store value of an accepted mount passes refusal 3 with its map, and the map tells its table. It hangs on the copy and its header alone.
 -- Assumes nothing.
+use Rattle.std.specs.Prelude.{Ok}
 use mathlib.Core.Path.{◌≡◌}
 use mathlib.Core.Bool.{true}
 use mathlib.Core.List.{List}
@@ -7,7 +8,6 @@ use Prim.Native.Nat.{ℕ}
 use lib.Dec.{ltb}
 use Rattle.le.proofs.Bools.{and_true}
 use Rattle.medium.specs.declared.Medium.{Medium}
-use Rattle.medium.specs.declared.Outcome.TheVariants.{Done}
 use Rattle.medium.specs.Sector.{sectors_of}
 use Rattle.medium.proofs.Laws.{on_done_done}
 use Rattle.handles.specs.declared.Store.{Store}
@@ -26,7 +26,7 @@ pub map_again : (vol : List ℕ) (m : Medium) (st su : Store) → su.copy ≡ st
 unfolding map_at link_at link_part due_of check_of
 map_again vol m st su a b = rw (a, b)
 
-module _ (vol : List ℕ) (m : Medium) (accepted : (mount_of vol m).outcome ≡ Done) where
+module _ (vol : List ℕ) (m : Medium) (accepted : (mount_of vol m).outcome ≡ Ok tt) where
   abbrev st : Store
   st = (mount_of vol m).store
 

@@ -1,4 +1,5 @@
 -- `create` and `open_append`, by the way that they go: a law for each return, over plain values. Assumes nothing.
+use Rattle.std.specs.Prelude.{Err, Ok, Result}
 use mathlib.Core.Path.{◌≡◌, refl, sym, ap, ◌∙◌}
 use mathlib.Core.Bool.{Bool, true, false, not, ◌||◌}
 use mathlib.Core.List.{List, []}
@@ -11,8 +12,6 @@ use Rattle.names.specs.Names.{name_ok, dir_ok}
 use Rattle.names.proofs.Laws.{name_short, dir_short}
 use Rattle.medium.specs.declared.Error.{Error}
 use Rattle.medium.specs.declared.Medium.{Medium}
-use Rattle.medium.specs.declared.Outcome.{Outcome}
-use Rattle.medium.specs.declared.Outcome.TheVariants.{Done, No}
 use Rattle.medium.specs.Refusal.{on_done}
 use Rattle.medium.specs.Sector.{sectors_of}
 use Rattle.medium.proofs.Laws.{on_done_keeps}
@@ -40,7 +39,7 @@ pub record Opened (vol : List ℕ) (st : Store) (name : List ℕ) (rolls : Bool)
   pub short : length name ≤ 40
   pub near : rolls ≡ true → length dir ≤ 40
 
-pub input_fits : (vol : List ℕ) (st : Store) (name : List ℕ) (rolls : Bool) (dir : List ℕ) {o : Outcome} → o ≡ admitted_of vol st name rolls dir → o ≡ Done
+pub input_fits : (vol : List ℕ) (st : Store) (name : List ℕ) (rolls : Bool) (dir : List ℕ) {o : Result Unit Error} → o ≡ admitted_of vol st name rolls dir → o ≡ Ok tt
     → Opened vol st name rolls dir
 input_fits vol st name rolls dir q d =
     let a : Accepted vol st (open_fine name rolls dir) = asked_done vol st _ refl (admitted_asked vol st name rolls dir (sym q ∙ d)) in
@@ -64,8 +63,8 @@ rollover_near rolls dir e h = rw e (pick_keeps_by (λ (d : Dir). d.length ≤ 40
 
 -- ---- the ways out
 
-module _ (vol : List ℕ) (m : Medium) (st : Store) (name : List ℕ) (rolls : Bool) (dir : List ℕ) {o : Outcome} (q : o ≡ admitted_of vol st name rolls dir) where
-  module _ {e : Error} {r : Handed} (h : o ≡ No e) (k : r ≡ (refused_at [] m st e).ans) where
+module _ (vol : List ℕ) (m : Medium) (st : Store) (name : List ℕ) (rolls : Bool) (dir : List ℕ) {o : Result Unit Error} (q : o ≡ admitted_of vol st name rolls dir) where
+  module _ {e : Error} {r : Handed} (h : o ≡ Err e) (k : r ≡ (refused_at [] m st e).ans) where
     pub open_refused : app_answer r ≡ (open_call vol m st name rolls dir).call
     unfolding on_done
     open_refused = rw (open_is vol st name rolls dir m, k, ← q, h)
@@ -74,7 +73,7 @@ module _ (vol : List ℕ) (m : Medium) (st : Store) (name : List ℕ) (rolls : B
     unfolding on_done
     create_refused = rw (create_is vol st name rolls dir m, k, ← q, h) (refl, refl)
 
-  module _ {over : Rollover} {r : Handed} (h : o ≡ Done) (k : over ≡ rollover_of rolls dir) where
+  module _ {over : Rollover} {r : Handed} (h : o ≡ Ok tt) (k : over ≡ rollover_of rolls dir) where
     pub open_told : r ≡ (reopen_of name over vol m st).ans → app_answer r ≡ (open_call vol m st name rolls dir).call
     unfolding on_done
     open_told e = rw (open_is vol st name rolls dir m, ← q, h, ← k) (ap app_answer e)

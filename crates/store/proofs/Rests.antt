@@ -1,5 +1,6 @@
 -- The bytes past the last whole sector after create, delete and delete_oldest: as they were, accepted, refused or stopped, whatever the handles (a
 -- header's checksums are 24 by its type). Assumes nothing.
+use Rattle.std.specs.Prelude.{Ok}
 use mathlib.Core.Path.{◌≡◌, refl}
 use mathlib.Core.Bool.{Bool}
 use mathlib.Core.List.{List}
@@ -7,7 +8,6 @@ use Prim.Native.Nat.{ℕ}
 use lib.ListN.{length}
 use Rattle.names.specs.Names.{name_ok, dir_ok}
 use Rattle.medium.specs.declared.Medium.{Medium}
-use Rattle.medium.specs.declared.Outcome.TheVariants.{Done}
 use Rattle.medium.proofs.Laws.{on_done_keeps}
 use Rattle.medium.proofs.Frame.{rest_of}
 use Rattle.handles.specs.declared.Store.{Store}
@@ -30,7 +30,7 @@ module _ (vol : List ℕ) (m : Medium) (st : Store) (count : length st.head.crcs
   abbrev Same : List ℕ → Type 0
   Same v = rest_of v ≡ rest_of vol
 
-  good : (fine : Bool) → asked_of vol st fine ≡ Done → Good vol st
+  good : (fine : Bool) → asked_of vol st fine ≡ Ok tt → Good vol st
   good fine q = record { ok = (asked_done vol st fine refl q).ok; count = count }
 
   pub create_rest : (name : List ℕ) (rolls : Bool) (dir : List ℕ) → Same (create_call vol m st name rolls dir).vol

@@ -1,4 +1,5 @@
 -- Which calls never give 11: mount, format, list, and delete on the store of an accepted mount. Assumes nothing.
+use Rattle.std.specs.Prelude.{Err, Ok}
 use mathlib.Core.Path.{◌≡◌, refl}
 use mathlib.Core.Bool.{Bool, ◌||◌, true}
 use mathlib.Core.List.{List}
@@ -10,7 +11,6 @@ use Rattle.le.proofs.Choices.{pick_keeps}
 use Rattle.names.specs.Names.{name_ok, dir_ok}
 use Rattle.medium.specs.declared.Medium.{Medium}
 use Rattle.medium.specs.declared.Error.TheVariants.{Range}
-use Rattle.medium.specs.declared.Outcome.TheVariants.{Done, No}
 use Rattle.medium.specs.Refusal.{refused, outcome_of}
 use Rattle.medium.proofs.Laws.{on_done_keeps}
 use Rattle.medium.proofs.Stale.{NotStale, no_stale, told_not_stale}
@@ -56,26 +56,26 @@ module _ (vol : List ℕ) (m : Medium) where
   unfolding list_call list_from
   list_never st dir counts rows =
       let c : Counted = count_of vol m st (over 0 (zeros 64) counts) in
-      pick_keeps Listed (ltb (length rows) 3072 || ltb (length counts) 64) _ _ (told_not_stale (No Range) refl)
+      pick_keeps Listed (ltb (length rows) 3072 || ltb (length counts) 64) _ _ (told_not_stale (Err Range) refl)
       (on_done_keeps Listed (asked_of vol st (dir_ok dir)) _ _
       (λ _. on_done_keeps Listed c.outcome _ _
       (λ _. told_not_stale (rows_of vol m st dir c.counts rows).outcome (rows_not_stale vol m st dir c.counts rows))
-      (λ e q. told_not_stale (No e) (no_stale (count_not_stale vol m st (over 0 (zeros 64) counts)) q)))
-      (λ e q. told_not_stale (No e) (no_stale (asked_not_stale vol st (dir_ok dir)) q)))
+      (λ e q. told_not_stale (Err e) (no_stale (count_not_stale vol m st (over 0 (zeros 64) counts)) q)))
+      (λ e q. told_not_stale (Err e) (no_stale (asked_not_stale vol st (dir_ok dir)) q)))
 
   abbrev Right : Out → Type 0
   Right o = outcome_of o.ans.outcome ≡ refused 11 → ⊥
 
   -- S-3: the map is no part of what makes a store value current
-  current_called : (mount_of vol m).outcome ≡ Done → is_current (current_of vol m) (mount_call vol m).store ≡ true
+  current_called : (mount_of vol m).outcome ≡ Ok tt → is_current (current_of vol m) (mount_call vol m).store ≡ true
   unfolding is_current
   current_called d = rw (call_store vol m d) (mounted_current vol m d)
 
-  pub delete_never : (mount_of vol m).outcome ≡ Done → (name : List ℕ) → (delete_call vol m (mount_call vol m).store name).call.answer ≡ refused 11 → ⊥
+  pub delete_never : (mount_of vol m).outcome ≡ Ok tt → (name : List ℕ) → (delete_call vol m (mount_call vol m).store name).call.answer ≡ refused 11 → ⊥
   unfolding delete_call
   delete_never d name =
       let st : Store = (mount_call vol m).store in
       on_done_keeps Right (asked_of vol st (name_ok name)) _ _
-      (λ _. on_found_keeps Right (find_of vol m st name) _ _ (λ e q. told_not_stale (No e) (find_not_stale vol m st name q))
+      (λ _. on_found_keeps Right (find_of vol m st name) _ _ (λ e q. told_not_stale (Err e) (find_not_stale vol m st name q))
       (λ slot id w. told_not_stale (remove_of vol m st slot id).ans.outcome (remove_not_stale vol m st slot id (current_called d))))
-      (λ e q. told_not_stale (No e) (no_stale (asked_not_stale vol st (name_ok name)) q))
+      (λ e q. told_not_stale (Err e) (no_stale (asked_not_stale vol st (name_ok name)) q))

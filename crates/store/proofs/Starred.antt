@@ -1,4 +1,5 @@
 -- The starred rows of 01's Edges hold. Assumes nothing.
+use Rattle.std.specs.Prelude.{Err, Ok}
 use mathlib.Core.Path.{◌≡◌, ap, ◌∙◌}
 use mathlib.Core.Bool.{Bool, true, false, not, ◌&&◌, ◌||◌, and-false}
 use mathlib.Core.List.{List}
@@ -7,7 +8,6 @@ use Rattle.le.specs.Choice.{pick}
 use Rattle.names.specs.Names.{name_ok, dir_ok}
 use Rattle.medium.specs.declared.Error.TheVariants.{Name}
 use Rattle.medium.specs.declared.Medium.{Medium}
-use Rattle.medium.specs.declared.Outcome.TheVariants.{Done, No}
 use Rattle.medium.specs.Refusal.{ok, refused, on_done, outcome_of}
 use Rattle.medium.specs.Sector.{sectors_of, read_of}
 use Rattle.freemap.specs.Map.{unfit_of}
@@ -35,7 +35,7 @@ use Rattle.store.proofs.Lists.{long_enough}
 use Rattle.store.proofs.Admits.{create_is, open_is}
 
 module _ (vol : List ℕ) (m : Medium) (st : Store) (passes : store_ok st (sectors_of vol) ≡ true) where
-  asked_no : (fine : Bool) → fine ≡ false → asked_of vol st fine ≡ No Name
+  asked_no : (fine : Bool) → fine ≡ false → asked_of vol st fine ≡ Err Name
   unfolding asked_of pick
   asked_no fine h = rw (passes, h)
 
@@ -69,7 +69,7 @@ module _ (vol : List ℕ) (m : Medium) (st : Store) (passes : store_ok st (secto
         list = λ counts rows c r. rw (long_enough counts rows c r, no);
       }
 
-module _ (vol : List ℕ) (m : Medium) (enough : 64 ≤ sectors_of vol) (a : read_of m 0 ≡ Done) (b : read_of m 32 ≡ Done) where
+module _ (vol : List ℕ) (m : Medium) (enough : 64 ≤ sectors_of vol) (a : read_of m 0 ≡ Ok tt) (b : read_of m 32 ≡ Ok tt) where
   equal : (x y : Header) → copy_of vol 0 ≡ ours x → copy_of vol 32 ≡ ours y → x.generation ≡ y.generation
       → mount_call vol m ≡ record { answer = ok tt; store = filled_of vol m (record { copy = 0; head = x; writer = Nobody; free = unfit_of }); medium = m }
   unfolding mount_call on_done

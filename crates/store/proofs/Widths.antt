@@ -1,4 +1,5 @@
 -- S-9: a listing is that of a buffer of 64 zeros, with what lay past the 64th number behind its counts. Assumes nothing.
+use Rattle.std.specs.Prelude.{Err, Ok, Result}
 use mathlib.Core.Path.{◌≡◌, refl, sym, ap, ◌∙◌, subst}
 use mathlib.Core.Bool.{Bool, true, false, or-true}
 use mathlib.Core.List.{List, ◌++◌}
@@ -16,8 +17,6 @@ use Rattle.names.specs.Names.{dir_ok}
 use Rattle.medium.specs.declared.Error.{Error}
 use Rattle.medium.specs.declared.Error.TheVariants.{Range}
 use Rattle.medium.specs.declared.Medium.{Medium}
-use Rattle.medium.specs.declared.Outcome.{Outcome}
-use Rattle.medium.specs.declared.Outcome.TheVariants.{Done, No}
 use Rattle.medium.specs.Refusal.{on_done}
 use Rattle.medium.proofs.Laws.{on_done_keeps}
 use Rattle.handles.specs.declared.Store.{Store}
@@ -40,15 +39,15 @@ module _ (vol : List ℕ) (m : Medium) (st : Store) (dir rows : List ℕ) where
   made = rows_of vol m st dir firsts.counts rows
 
   -- the listing of a buffer that ends up so
-  abbrev leaves : Outcome → List ℕ → ListCall
+  abbrev leaves : Result Unit Error → List ℕ → ListCall
   leaves o counts = on_done o (list_at m made.outcome made.made.count counts made.made.rows) (λ e. list_answer (not_listed m e) counts rows)
 
-  leaves_told : (o : Outcome) (c d : List ℕ) → SameTold (leaves o c) (leaves o d)
+  leaves_told : (o : Result Unit Error) (c d : List ℕ) → SameTold (leaves o c) (leaves o d)
   unfolding on_done
-  leaves_told Done c d = record { answer = refl; made = refl; medium = refl; rows = refl }
-  leaves_told (No e) c d = record { answer = refl; made = refl; medium = refl; rows = refl }
+  leaves_told (Ok tt) c d = record { answer = refl; made = refl; medium = refl; rows = refl }
+  leaves_told (Err e) c d = record { answer = refl; made = refl; medium = refl; rows = refl }
 
-  leaves_counts : (o : Outcome) (c : List ℕ) → (leaves o c).counts ≡ c
+  leaves_counts : (o : Result Unit Error) (c : List ℕ) → (leaves o c).counts ≡ c
   leaves_counts o c = on_done_keeps (λ (r : ListCall). r.counts ≡ c) o _ _ (λ _. refl) (λ e _. refl)
 
   -- ---- whatever is lent, that comes of it
@@ -91,12 +90,12 @@ module _ (vol : List ℕ) (m : Medium) (st : Store) (dir rows : List ℕ) where
       refusal : (e : Error) → SameTold (list_answer (not_listed m e) wide rows) (list_answer (not_listed m e) narrow rows)
       refusal e = record { answer = refl; made = refl; medium = refl; rows = refl }
 
-      go : (b : Bool) (o : Outcome)
+      go : (b : Bool) (o : Result Unit Error)
           → SameTold (pick b (list_answer (not_listed m Range) wide rows) (on_done o (list_from vol m st dir wide rows) (λ e. list_answer (not_listed m e) wide rows)))
           (pick b (list_answer (not_listed m Range) narrow rows) (on_done o (list_from vol m st dir narrow rows) (λ e. list_answer (not_listed m e) narrow rows)))
       go true o = refusal Range
-      go false Done = rw (from wide, from narrow) (leaves_told firsts.outcome (all wide) (all narrow))
-      go false (No e) = refusal e
+      go false (Ok tt) = rw (from wide, from narrow) (leaves_told firsts.outcome (all wide) (all narrow))
+      go false (Err e) = refusal e
 
   too_short : (counts : List ℕ) → length counts < 64 → short counts rows ≡ true
   too_short counts h = rw (lt-ltb (length counts) 64 h) (or-true (ltb (length rows) 3072))

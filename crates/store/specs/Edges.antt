@@ -1,9 +1,9 @@
 -- 01, "Edges": the starred rows, made of the definitions. One statement has them all; proofs/Starred proves it. Assumes nothing.
+use Rattle.std.specs.Prelude.{Ok}
 use Rattle.std.specs.Prelude.{ℕ, ◌+◌, ◌-◌, ◌/◌, ◌^◌, ◌≤◌, ◌<◌, ◌≡◌, Bool, true, false, List, [], ◌∷◌, ◌++◌, length, replicate}
 use Rattle.le.specs.Part.{zeros}
 use Rattle.names.specs.Names.{name_ok, dir_ok, in_dir}
 use Rattle.medium.specs.declared.Medium.{Medium}
-use Rattle.medium.specs.declared.Outcome.TheVariants.{Done}
 use Rattle.medium.specs.Refusal.{ok, refused}
 use Rattle.medium.specs.Sector.{sectors_of, read_of}
 use Rattle.freemap.specs.Map.{unfit_of}
@@ -38,7 +38,7 @@ Wrote m c records room =
 
 -- an appender that may write, with nothing unwritten in its 486 bytes, room in its chunk, and a write left
 pub record Ready (vol : List ℕ) (m : Medium) (st : Store) (ap : Appender) : Type 0 where
-  pub may : may_write vol st ap ≡ Done
+  pub may : may_write vol st ap ≡ Ok tt
   pub empty : ap.fill ≡ 0
   pub size : length ap.buffer ≡ 486
   pub index : ℕ
@@ -82,9 +82,9 @@ pub record Starred : Type 0 where
   pub bad_dir : (vol : List ℕ) (m : Medium) (st : Store) (dir : List ℕ) → store_ok st (sectors_of vol) ≡ true → dir_ok dir ≡ false
       → DirRefused vol m st dir
   -- size 512, S 575: 2; 576: one chunk
-  pub small : (vol : List ℕ) (m : Medium) (seed : ℕ) → (headers_of vol m).outcome ≡ Done → sectors_of vol ≡ 575
+  pub small : (vol : List ℕ) (m : Medium) (seed : ℕ) → (headers_of vol m).outcome ≡ Ok tt → sectors_of vol ≡ 575
       → (format_call vol m 512 seed).call.answer ≡ refused 2
-  pub enough : (vol : List ℕ) (m : Medium) (seed : ℕ) → (headers_of vol m).outcome ≡ Done → sectors_of vol ≡ 576
+  pub enough : (vol : List ℕ) (m : Medium) (seed : ℕ) → (headers_of vol m).outcome ≡ Ok tt → sectors_of vol ≡ 576
       → (newest_of (headers_of vol m) ≡ 2 ^ 64 - 1 → ⊥) → 11 ≤ m.left
       → ((format_call vol m 512 seed).call.answer ≡ ok tt) × ((format_call vol m 512 seed).call.store.head.chunks ≡ 1)
   -- slot 2, position 3, 5 records partial: bytes 83 02 03 80 hexadecimal
@@ -97,8 +97,8 @@ pub record Starred : Type 0 where
   pub append_487 : (vol : List ℕ) (m : Medium) (st : Store) (ap : Appender) (bytes : List ℕ) → Ready vol m st ap → length bytes ≡ 487
       → Wrote m (append_call vol m st ap bytes) 1 485
   -- zeroed volume: mount 5
-  pub zeroed : (n : ℕ) (m : Medium) → 64 ≤ n / 512 → read_of m 0 ≡ Done → read_of m 32 ≡ Done → (mount_call (zeros n) m).answer ≡ refused 5
+  pub zeroed : (n : ℕ) (m : Medium) → 64 ≤ n / 512 → read_of m 0 ≡ Ok tt → read_of m 32 ≡ Ok tt → (mount_call (zeros n) m).answer ≡ refused 5
   -- equal generations: mount A
-  pub equal : (vol : List ℕ) (m : Medium) → 64 ≤ sectors_of vol → read_of m 0 ≡ Done → read_of m 32 ≡ Done → (x y : Header)
+  pub equal : (vol : List ℕ) (m : Medium) → 64 ≤ sectors_of vol → read_of m 0 ≡ Ok tt → read_of m 32 ≡ Ok tt → (x y : Header)
       → copy_of vol 0 ≡ ours x → copy_of vol 32 ≡ ours y → x.generation ≡ y.generation
       → mount_call vol m ≡ record { answer = ok tt; store = filled_of vol m (record { copy = 0; head = x; writer = Nobody; free = unfit_of }); medium = m }

@@ -1,14 +1,14 @@
 -- The calls on offer that open a file to append: create and open_append. First as 01 has them; order of refusals: 3 on the store value, 1 on the name, 1
 -- on the directory of a rollover that is set, then state. Then as they are since S-5: 16 on the name comes behind these, before any read. Refused by the
 -- input, the store comes back as given, with an appender that no call accepts. Assumes nothing.
+use Rattle.std.specs.Prelude.{Err, Ok, Result}
+use Rattle.medium.specs.declared.Error.{Error}
 use Rattle.std.specs.Prelude.{ℕ, Bool, not, ◌&&◌, ◌||◌, List, length}
 use Rattle.le.specs.Choice.{pick}
 use Rattle.le.specs.Part.{over, zeros}
 use Rattle.names.specs.Names.{name_ok, dir_ok, dotted}
 use Rattle.medium.specs.declared.Error.TheVariants.{Dotted}
 use Rattle.medium.specs.declared.Medium.{Medium}
-use Rattle.medium.specs.declared.Outcome.{Outcome}
-use Rattle.medium.specs.declared.Outcome.TheVariants.{Done, No}
 use Rattle.medium.specs.Refusal.{on_done}
 use Rattle.handles.specs.declared.Store.{Store}
 use Rattle.append.specs.Calls.{AppCall, call_of}
@@ -46,8 +46,8 @@ open_earlier vol m st name rolls dir = opening vol m st name rolls dir (λ roll.
 
 -- ---- S-5: "16 when create or open_append gets such a name, after 1 and before any read"
 
-unfoldable pub admitted_of : List ℕ → Store → List ℕ → Bool → List ℕ → Outcome
-admitted_of vol st name rolls dir = on_done (asked_of vol st (open_fine name rolls dir)) (pick (dotted name) (No Dotted) Done) No
+unfoldable pub admitted_of : List ℕ → Store → List ℕ → Bool → List ℕ → Result Unit Error
+admitted_of vol st name rolls dir = on_done (asked_of vol st (open_fine name rolls dir)) (pick (dotted name) (Err Dotted) (Ok tt)) Err
 
 -- the call as it was, where its input is admitted
 unfoldable pub if_admitted : List ℕ → Medium → Store → List ℕ → Bool → List ℕ → AppCall → AppCall

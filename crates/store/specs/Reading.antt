@@ -1,13 +1,12 @@
 -- The calls on offer that only read, as 01 has them: the tests of the input in the order 2, 3, 1, then what the state gives. Each hands the medium
 -- record back as it was. Assumes nothing.
+use Rattle.std.specs.Prelude.{Err, Ok, Result}
 use Rattle.std.specs.Prelude.{ℕ, true, ◌||◌, List, ltb, length}
 use Rattle.le.specs.Choice.{pick}
 use Rattle.le.specs.Part.{over, zeros}
 use Rattle.medium.specs.declared.Error.{Error}
 use Rattle.medium.specs.declared.Error.TheVariants as no
 use Rattle.medium.specs.declared.Medium.{Medium}
-use Rattle.medium.specs.declared.Outcome.{Outcome}
-use Rattle.medium.specs.declared.Outcome.TheVariants.{Done, No}
 use Rattle.medium.specs.Refusal.{Answer, ok, refused, number_of, on_done, outcome_of}
 use Rattle.handles.specs.declared.Store.{Store}
 use Rattle.header.specs.declared.answers.Mounted.{Mounted}
@@ -93,7 +92,7 @@ pub record ListCall : Type 0 where
   pub rows : List ℕ
 
 -- what is told at an outcome: the rows made so far, and the buffers
-abbrev pub list_at : Medium → Outcome → ℕ → List ℕ → List ℕ → ListCall
+abbrev pub list_at : Medium → Result Unit Error → ℕ → List ℕ → List ℕ → ListCall
 list_at m o made counts rows = record { answer = outcome_of o; made = made; medium = m; counts = counts; rows = rows }
 
 -- the answer, beside what the lent buffers hold
@@ -102,7 +101,7 @@ list_answer r counts rows = list_at r.medium r.outcome r.count counts rows
 
 -- refused, with no row made
 abbrev pub not_listed : Medium → Error → ListAnswer
-not_listed m e = record { outcome = No e; count = 0; medium = m }
+not_listed m e = record { outcome = Err e; count = 0; medium = m }
 
 -- the counts set to 0 first, then the whole table, then the directory: a state refusal keeps the counts and rows made before it
 unfoldable pub list_from : List ℕ → Medium → Store → List ℕ → List ℕ → List ℕ → ListCall
@@ -129,13 +128,13 @@ reader_answer r = record { answer = outcome_of r.outcome; reader = r.reader; med
 
 -- refused, a reader that no call accepts
 abbrev pub no_reader_answer : Medium → Error → ReaderAnswer
-no_reader_answer m e = record { outcome = No e; reader = no_reader; medium = m }
+no_reader_answer m e = record { outcome = Err e; reader = no_reader; medium = m }
 
 -- the file found, with its chain
 abbrev pub started_at : List ℕ → Medium → Store → Found → ReaderAnswer
 started_at vol m st f =
     on_found f (no_reader_answer m)
-    (λ slot id. on_chain (chain_of vol m st slot) (no_reader_answer m) (λ p. record { outcome = Done; reader = start_of st slot id p; medium = m }))
+    (λ slot id. on_chain (chain_of vol m st slot) (no_reader_answer m) (λ p. record { outcome = Ok tt; reader = start_of st slot id p; medium = m }))
 
 unfoldable pub reader_call : List ℕ → Medium → Store → List ℕ → ReaderCall
 reader_call vol m st name = reader_answer (on_done (asked_name vol st name) (started_at vol m st (find_of vol m st name)) (no_reader_answer m))

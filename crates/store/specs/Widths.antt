@@ -2,10 +2,10 @@
 -- same, with Range still meaning fewer than 64 numbers. The old listing is proved equal on every volume." The listing's definition speaks of numbers,
 -- whatever their width: `list_call` on a buffer of 32 bits is the old listing, on one of 16 the new. What it tells goes by neither the width nor the length
 -- nor what the buffer held, and 16 bits hold its counts. One statement has this; proofs/Widths proves it. Assumes nothing.
+use Rattle.std.specs.Prelude.{Err, Ok}
 use Rattle.std.specs.Prelude.{ℕ, ◌^◌, ◌<◌, ◌≤◌, ◌≡◌, List, ltb, length, get_or, take, drop}
 use Rattle.medium.specs.declared.Error.TheVariants.{Range}
 use Rattle.medium.specs.declared.Medium.{Medium}
-use Rattle.medium.specs.declared.Outcome.TheVariants.{Done, No}
 use Rattle.handles.specs.declared.Store.{Store}
 use Rattle.store.specs.Asked.{asked_dir}
 use Rattle.store.specs.Reading.{ListCall, list_at, list_call}
@@ -14,7 +14,7 @@ use Rattle.store.specs.Reading.{ListCall, list_at, list_call}
 pub record Passes (vol : List ℕ) (st : Store) (dir counts rows : List ℕ) : Type 0 where
   pub rows_lent : 3072 ≤ length rows
   pub counts_lent : 64 ≤ length counts
-  pub asked : asked_dir vol st dir ≡ Done
+  pub asked : asked_dir vol st dir ≡ Ok tt
 
 -- two listings with the same answer, number of rows made, medium record, and bytes of all rows lent
 pub record SameTold (a b : ListCall) : Type 0 where
@@ -46,4 +46,4 @@ pub record Widths (vol : List ℕ) (m : Medium) (st : Store) (dir rows : List �
   -- where the input is refused, all of them are
   pub kept : (counts : List ℕ) → (Passes vol st dir counts rows → ⊥) → (list_call vol m st dir counts rows).counts ≡ counts
   -- fewer than 64 numbers: 2, before all else, with everything as given
-  pub short : (counts : List ℕ) → length counts < 64 → list_call vol m st dir counts rows ≡ list_at m (No Range) 0 counts rows
+  pub short : (counts : List ℕ) → length counts < 64 → list_call vol m st dir counts rows ≡ list_at m (Err Range) 0 counts rows

@@ -15,7 +15,7 @@ ghost use Rattle.store.specs.Reading.{no_reader_answer, started_at, reader_call,
 
 use directory::Found;
 use handles::Store;
-use medium::{Error, Medium, Outcome};
+use medium::{Error, Medium};
 pub use opening::{create, open_append};
 use plan::Committed;
 use reader::Reader;
@@ -23,21 +23,21 @@ use remove::Gone;
 use table::{Chained, FreeCount};
 
 // Refusals 3 and 1 of a call that takes a store value and a name or directory; `fine`: that one passes its rule.
-fn asked(volume: &[u8], store: Store, fine: bool) -> Outcome
+fn asked(volume: &[u8], store: Store, fine: bool) -> Result<(), Error>
     ensures { result ≡ asked_of volume.now store fine }
 {
     if !store.handle_ok(medium::sectors(volume)) {
-        return Outcome::No(Error::Handle);
+        return Err(Error::Handle);
     }
     if !fine {
-        return Outcome::No(Error::Name);
+        return Err(Error::Name);
     }
-    Outcome::Done
+    Ok(())
 }
 
 #[derive(Clone, Copy)]
 pub struct StoreAnswer {
-    pub outcome: Outcome,
+    pub outcome: Result<(), Error>,
     pub store: Store,
     pub medium: Medium,
 }
@@ -79,7 +79,7 @@ pub fn mount(volume: &[u8], medium: Medium) -> StoreAnswer
     let m = header::mount(volume, medium);
     let outcome = m.outcome;
     let found = m.store;
-    if let Outcome::No(_) = outcome {
+    if let Err(_) = outcome {
         return StoreAnswer {
             outcome,
             store: found,
@@ -105,7 +105,7 @@ pub fn free_count(volume: &[u8], medium: Medium, store: Store) -> FreeCountAnswe
     ensures { free_count_answer result ≡ free_count_call volume.now medium store }
 {
     let o = asked(volume, store, true);
-    if let Outcome::No(e) = o {
+    if let Err(e) = o {
         return FreeCountAnswer {
             count: FreeCount::Refused(e),
             medium,
@@ -134,7 +134,7 @@ pub fn find(volume: &[u8], medium: Medium, store: Store, name: &[u8]) -> FindAns
     ensures { find_answer result ≡ find_call volume.now medium store name.now }
 {
     let o = asked(volume, store, names::name_ok(name));
-    if let Outcome::No(e) = o {
+    if let Err(e) = o {
         return FindAnswer {
             found: Found::Refused(e),
             medium,
@@ -146,7 +146,7 @@ pub fn find(volume: &[u8], medium: Medium, store: Store, name: &[u8]) -> FindAns
 
 #[derive(Clone, Copy)]
 pub struct ListAnswer {
-    pub outcome: Outcome,
+    pub outcome: Result<(), Error>,
     pub count: usize,
     pub medium: Medium,
 }
@@ -156,7 +156,7 @@ fn not_listed(e: Error, medium: Medium) -> ListAnswer
     ensures { result ≡ not_listed medium e }
 {
     ListAnswer {
-        outcome: Outcome::No(e),
+        outcome: Err(e),
         count: 0,
         medium,
     }
@@ -188,12 +188,12 @@ pub fn list(
         return not_listed(Error::Range, medium);
     }
     let o = asked(volume, store, names::dir_ok(dir));
-    if let Outcome::No(e) = o {
+    if let Err(e) = o {
         return not_listed(e, medium);
     }
     clear_counts(counts);
     let c = table::count(volume, medium, store, counts);
-    if let Outcome::No(e) = c {
+    if let Err(e) = c {
         return not_listed(e, medium);
     }
     let made = directory::list_rows(volume, medium, store, dir, counts, rows);
@@ -207,7 +207,7 @@ pub fn list(
 
 #[derive(Clone, Copy)]
 pub struct ReaderAnswer {
-    pub outcome: Outcome,
+    pub outcome: Result<(), Error>,
     pub reader: Reader,
     pub medium: Medium,
 }
@@ -218,7 +218,7 @@ fn no_reader(e: Error, medium: Medium) -> ReaderAnswer
 {
     let reader = reader::no_reader();
     ReaderAnswer {
-        outcome: Outcome::No(e),
+        outcome: Err(e),
         reader,
         medium,
     }
@@ -238,7 +238,7 @@ fn started(volume: &[u8], medium: Medium, store: Store, f: Found) -> ReaderAnswe
                 Chained::Whole(p) => {
                     let reader = Reader::start(store, slot, id, p);
                     ReaderAnswer {
-                        outcome: Outcome::Done,
+                        outcome: Ok(()),
                         reader,
                         medium,
                     }
@@ -253,7 +253,7 @@ pub fn reader(volume: &[u8], medium: Medium, store: Store, name: &[u8]) -> Reade
     ensures { reader_answer result ≡ reader_call volume.now medium store name.now }
 {
     let o = asked(volume, store, names::name_ok(name));
-    if let Outcome::No(e) = o {
+    if let Err(e) = o {
         return no_reader(e, medium);
     }
     let f = directory::find(volume, medium, store, name);
@@ -265,7 +265,7 @@ pub fn reader_of_id(volume: &[u8], medium: Medium, store: Store, id: u32) -> Rea
     ensures { reader_answer result ≡ reader_of_id_call volume.now medium store id }
 {
     let o = asked(volume, store, true);
-    if let Outcome::No(e) = o {
+    if let Err(e) = o {
         return no_reader(e, medium);
     }
     let f = directory::find_id(volume, medium, store, id);
@@ -277,7 +277,7 @@ fn as_given(e: Error, store: Store, medium: Medium) -> StoreAnswer
     ensures { result ≡ answer_of (refused_out store [] medium e).ans }
 {
     StoreAnswer {
-        outcome: Outcome::No(e),
+        outcome: Err(e),
         store,
         medium,
     }
@@ -289,7 +289,7 @@ pub fn delete(volume: &mut [u8], medium: Medium, store: Store, name: &[u8]) -> S
         × (store_answer result ≡ (delete_call volume.old medium store name.now).call) }
 {
     let o = asked(&volume[..], store, names::name_ok(name));
-    if let Outcome::No(e) = o {
+    if let Err(e) = o {
         return as_given(e, store, medium);
     }
     let f = directory::find(&volume[..], medium, store, name);
@@ -306,8 +306,8 @@ pub fn delete_oldest(volume: &mut [u8], medium: Medium, store: Store, dir: &[u8]
         × (result ≡ (oldest_call volume.old medium store dir.now).gone) }
 {
     let o = asked(&volume[..], store, names::dir_ok(dir));
-    if let Outcome::No(e) = o {
-        return remove::none_gone(Outcome::No(e), medium, store);
+    if let Err(e) = o {
+        return remove::none_gone(Err(e), medium, store);
     }
     let writer = store.writer;
     let keeping = handles::is_open(writer);

@@ -6,7 +6,7 @@ ghost use Rattle.store.specs.Opening.{open_fine, rollover_of, admitted_of, creat
 use append::{Dir, Handed};
 use files::Rollover;
 use handles::Store;
-use medium::{Error, Medium, Outcome};
+use medium::{Error, Medium};
 
 // The name passes its rule, and the directory where it is set.
 fn open_fine(name: &[u8], rolls: bool, dir: &[u8]) -> bool
@@ -19,17 +19,17 @@ fn open_fine(name: &[u8], rolls: bool, dir: &[u8]) -> bool
 
 // Refusals 3, 1 and 16 of a call that opens a file to append, in this order.
 #[tactic(auto, using(crate::proofs::Admits::dot_refused))]
-fn admitted(volume: &[u8], store: Store, name: &[u8], rolls: bool, dir: &[u8]) -> Outcome
+fn admitted(volume: &[u8], store: Store, name: &[u8], rolls: bool, dir: &[u8]) -> Result<(), Error>
     ensures { result ≡ admitted_of volume.now store name.now rolls dir.now }
 {
     let o = crate::asked(volume, store, open_fine(name, rolls, dir));
-    if let Outcome::No(e) = o {
-        return Outcome::No(e);
+    if let Err(e) = o {
+        return Err(e);
     }
     if names::dotted(name) {
-        return Outcome::No(Error::Dotted);
+        return Err(Error::Dotted);
     }
-    Outcome::Done
+    Ok(())
 }
 
 // The rollover of a call. One that is not set has no directory.
@@ -67,7 +67,7 @@ pub fn create(
         × (app_answer result ≡ (create_call volume.old medium store name.now rolls dir.now).call) }
 {
     let o = admitted(&volume[..], store, name, rolls, dir);
-    if let Outcome::No(e) = o {
+    if let Err(e) = o {
         return files::refused(e, medium, store);
     }
     let over = rollover_of(rolls, dir);
@@ -86,7 +86,7 @@ pub fn open_append(
     ensures { app_answer result ≡ (open_call volume.now medium store name.now rolls dir.now).call }
 {
     let o = admitted(volume, store, name, rolls, dir);
-    if let Outcome::No(e) = o {
+    if let Err(e) = o {
         return files::refused(e, medium, store);
     }
     let over = rollover_of(rolls, dir);

@@ -1,4 +1,5 @@
 -- S-3: the answers by the map are the walk's where the map tells the table, whatever the cursor and whatever the medium reads. Assumes nothing.
+use Rattle.std.specs.Prelude.{Err, Ok, Result}
 use Prim.Native.Nat.{ℕ, zero, suc, ◌+◌, ◌-◌, ◌*◌, ◌/◌, ◌%◌, ◌<◌, ◌≤◌}
 use mathlib.Core.Path.{◌≡◌, refl, sym, ap, ◌∙◌, subst}
 use mathlib.Core.Bool.{Bool, true, false, false≢true}
@@ -14,8 +15,6 @@ use Rattle.le.proofs.Choices.{pick_true, pick_false, pick_keeps_by}
 use Rattle.le.proofs.Tallies.{tally_ext, tally_yes, tally_no, tally_start}
 use Rattle.medium.specs.declared.Error.{Error}
 use Rattle.medium.specs.declared.Medium.{Medium}
-use Rattle.medium.specs.declared.Outcome.{Outcome}
-use Rattle.medium.specs.declared.Outcome.TheVariants.{Done, No}
 use Rattle.medium.proofs.Laws.{on_done_no, on_done_keeps}
 use Rattle.freemap.specs.Map.{marks, ones_of, map_ok}
 use Rattle.freemap.proofs.First.{Chosen, ahead, round, none, chosen_of_lem}
@@ -43,32 +42,32 @@ use Rattle.table.proofs.Nearest.{from_before, from_after, Nearest, dist, free_ne
 
 module _ (vol : List ℕ) (m : Medium) (st : Store) where
   abbrev pub Passed : ℕ → Type 0
-  Passed n = (t : ℕ) → t < n → check_of vol m st (8 + t) ≡ Done
+  Passed n = (t : ℕ) → t < n → check_of vol m st (8 + t) ≡ Ok tt
 
   -- the first that fails
   pub record Fails (e : Error) : Type 0 where
     pub at : ℕ
     pub inside : at < table_of st.head.chunks
     before : Passed at
-    there : check_of vol m st (8 + at) ≡ No e
+    there : check_of vol m st (8 + at) ≡ Err e
 
-  abbrev pub Result : Outcome → Type 0
-  Result Done = Passed (table_of st.head.chunks)
-  Result (No e) = Fails e
+  abbrev pub CheckedAs : Result Unit Error → Type 0
+  CheckedAs (Ok tt) = Passed (table_of st.head.chunks)
+  CheckedAs (Err e) = Fails e
 
-  pub checked_result : Result (checked_of vol m st)
+  pub checked_result : CheckedAs (checked_of vol m st)
   unfolding checked_of visits
   checked_result =
-      walk_keeps _ _ (table_of st.head.chunks) (λ k s. Passed k) Result (λ k t u h p g. goes k p (check_of vol m st (8 + k)) refl g)
+      walk_keeps _ _ (table_of st.head.chunks) (λ k s. Passed k) CheckedAs (λ k t u h p g. goes k p (check_of vol m st (8 + k)) refl g)
       (λ k t r h p g. stops k r h p (check_of vol m st (8 + k)) refl g) (λ t p. p) 0 tt (omega arith) (below_none _)
     where
-      goes : (k : ℕ) → Passed k → (o : Outcome) → check_of vol m st (8 + k) ≡ o → {u : Unit} → on_check o ≡ next u → Passed (k + 1)
-      goes k p Done q g = below_more (λ (t : ℕ). check_of vol m st (8 + t) ≡ Done) k p q
-      goes k p (No e) q g = absurd (let z : ◌≡◌ {A = ℕ} 0 1 = cc in omega arith)
+      goes : (k : ℕ) → Passed k → (o : Result Unit Error) → check_of vol m st (8 + k) ≡ o → {u : Unit} → on_check o ≡ next u → Passed (k + 1)
+      goes k p (Ok tt) q g = below_more (λ (t : ℕ). check_of vol m st (8 + t) ≡ Ok tt) k p q
+      goes k p (Err e) q g = absurd (let z : ◌≡◌ {A = ℕ} 0 1 = cc in omega arith)
 
-      stops : (k : ℕ) (r : Outcome) → k < table_of st.head.chunks → Passed k → (o : Outcome) → check_of vol m st (8 + k) ≡ o → on_check o ≡ stop r → Result r
-      stops k r h p Done q g = absurd (let z : ◌≡◌ {A = ℕ} 0 1 = cc in omega arith)
-      stops k r h p (No e) q g = let z : No e ≡ r = cc in subst Result z (record { at = k; inside = h; before = p; there = q })
+      stops : (k : ℕ) (r : Result Unit Error) → k < table_of st.head.chunks → Passed k → (o : Result Unit Error) → check_of vol m st (8 + k) ≡ o → on_check o ≡ stop r → CheckedAs r
+      stops k r h p (Ok tt) q g = absurd (let z : ◌≡◌ {A = ℕ} 0 1 = cc in omega arith)
+      stops k r h p (Err e) q g = let z : Err e ≡ r = cc in subst CheckedAs z (record { at = k; inside = h; before = p; there = q })
 
   -- the first link of the sector that fails
   pub failing : {e : Error} (f : Fails e) → link_at vol m st (128 * f.at) ≡ link.Refused e
@@ -277,8 +276,8 @@ module _ (vol : List ℕ) (m : Medium) (st : Store) (most : st.head.chunks ≤ 2
 
 module _ (vol : List ℕ) (m : Medium) (st : Store) (most : st.head.chunks ≤ 2048) (ok : map_ok st.free st.head.chunks ≡ true) (mapped : Mapped vol st) where
   -- what is known of the sectors, by the outcome of their checks
-  known : {o : Outcome} → checked_of vol m st ≡ o → Result vol m st o
-  known q = subst (Result vol m st) q (checked_result vol m st)
+  known : {o : Result Unit Error} → checked_of vol m st ≡ o → CheckedAs vol m st o
+  known q = subst (CheckedAs vol m st) q (checked_result vol m st)
 
   -- the chunk chosen, and the free count
   pub mapped_free : st.head.cursor < st.head.chunks → free_of vol m st ≡ walk_free_of vol m st

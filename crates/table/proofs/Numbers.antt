@@ -1,4 +1,5 @@
 -- Laws of a link: what its numbers tell, its two numbers and 4 bytes both ways, and where its bytes stand in the volume. Assumes nothing.
+use Rattle.std.specs.Prelude.{Err, Ok, Result}
 use mathlib.Core.Path.{◌≡◌, refl, sym, ap, ap₂, ◌∙◌, subst}
 use mathlib.Core.Bool.{Bool, true, false, ◌&&◌, ◌||◌}
 use mathlib.Core.List.{List}
@@ -17,8 +18,6 @@ use Rattle.le.proofs.Fields.{length_bytes}
 use Rattle.le.proofs.Bools.{and_true, or_right}
 use Rattle.medium.specs.declared.Error.{Error}
 use Rattle.medium.specs.declared.Medium.{Medium}
-use Rattle.medium.specs.declared.Outcome.{Outcome}
-use Rattle.medium.specs.declared.Outcome.TheVariants.{Done, No}
 use Rattle.medium.specs.Refusal.{on_done}
 use Rattle.medium.specs.Sector.{sector_at}
 use Rattle.medium.proofs.Laws.{on_done_keeps}
@@ -205,12 +204,12 @@ pub link_owned : (vol : List ℕ) (st : Store) (c slot : ℕ) {at owner : ℕ} �
 unfolding owned_by
 link_owned vol st c slot {at} e f = ap (λ (x : ℕ). eqb (x % 128) (slot + 1)) (f ∙ link_field vol st c at 0 (omega arith) (omega arith))
 
-module _ (vol : List ℕ) (m : Medium) (st : Store) (c : ℕ) {o : Outcome} (asked : o ≡ due_of vol m st (eqb (c % 128) 0) (8 + c / 128)) where
-  pub link_refused : {e : Error} → o ≡ No e → Refused e ≡ link_at vol m st c
+module _ (vol : List ℕ) (m : Medium) (st : Store) (c : ℕ) {o : Result Unit Error} (asked : o ≡ due_of vol m st (eqb (c % 128) 0) (8 + c / 128)) where
+  pub link_refused : {e : Error} → o ≡ Err e → Refused e ≡ link_at vol m st c
   unfolding link_at on_done
   link_refused q = rw (← asked, q)
 
-  pub link_read : {r : LinkAt} {at owner place : ℕ} → o ≡ Done → at ≡ 512 * (base_of st.copy + 9) + 4 * c → owner ≡ get_le 2 at vol → place ≡ get_le 2 (at + 2) vol
+  pub link_read : {r : LinkAt} {at owner place : ℕ} → o ≡ Ok tt → at ≡ 512 * (base_of st.copy + 9) + 4 * c → owner ≡ get_le 2 at vol → place ≡ get_le 2 (at + 2) vol
       → r ≡ link_of owner place (ltb c st.head.chunks) st.head.chunk → r ≡ link_at vol m st c
   unfolding link_at on_done link_in
   link_read {at = at} q f g h k =

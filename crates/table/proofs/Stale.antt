@@ -1,11 +1,11 @@
 -- A link and the counts never give 11. Assumes nothing.
+use Rattle.std.specs.Prelude.{Err}
 use mathlib.Core.Path.{refl, subst}
 use mathlib.Core.List.{List}
 use Prim.Native.Nat.{ℕ, ◌+◌, ◌/◌, ◌%◌}
 use lib.Dec.{eqb}
 use Rattle.le.proofs.Choices.{pick_keeps}
 use Rattle.medium.specs.declared.Medium.{Medium}
-use Rattle.medium.specs.declared.Outcome.TheVariants.{No}
 use Rattle.medium.proofs.Laws.{on_done_keeps}
 use Rattle.medium.proofs.Stale.{NotStale, no_stale}
 use Rattle.handles.specs.declared.Store.{Store}
@@ -19,7 +19,7 @@ use Rattle.table.proofs.Walks.{table_keeps}
 
 module _ (vol : List ℕ) (m : Medium) (st : Store) where
   abbrev Seen : LinkAt → Type 0
-  Seen (link.Refused e) = NotStale (No e)
+  Seen (link.Refused e) = NotStale (Err e)
   Seen link.Past = Unit
   Seen link.Free = Unit
   Seen (link.Linked l) = Unit

@@ -1,5 +1,6 @@
 -- Laws of the walks of the table: a property that each chunk keeps holds of the answer; the ranges of what each walk answers; and volumes whose
 -- table sectors agree give the same walks. Assumes nothing.
+use Rattle.std.specs.Prelude.{Ok}
 use Prim.Native.Nat.{ℕ, ◌+◌, ◌-◌, ◌/◌, ◌%◌, ◌<◌, ◌≤◌, zero-le}
 use mathlib.Core.Path.{◌≡◌, refl, sym, ap, ap₂, ◌∙◌, subst}
 use mathlib.Core.Bool.{Bool, true, false}
@@ -16,7 +17,6 @@ use Rattle.le.proofs.Choices.{pick_keeps_by}
 use Rattle.le.proofs.Bools.{and_true, or_false}
 use Rattle.medium.specs.declared.Error.{Error}
 use Rattle.medium.specs.declared.Medium.{Medium}
-use Rattle.medium.specs.declared.Outcome.TheVariants.{Done}
 use Rattle.medium.specs.Sector.{sector_at}
 use Rattle.medium.proofs.Laws.{on_done_done}
 use Rattle.handles.specs.declared.Store.{Store}
@@ -80,7 +80,7 @@ module _ (vol vol' : List ℕ) (m : Medium) (st : Store)
 
 -- ---- where the first n table sectors pass their checks, a link in them is what its bytes say
 
-pub link_checked : (vol : List ℕ) (m : Medium) (st : Store) (n : ℕ) → ((t : ℕ) → t < n → check_of vol m st (8 + t) ≡ Done) → (c : ℕ) → c / 128 < n
+pub link_checked : (vol : List ℕ) (m : Medium) (st : Store) (n : ℕ) → ((t : ℕ) → t < n → check_of vol m st (8 + t) ≡ Ok tt) → (c : ℕ) → c / 128 < n
     → link_at vol m st c ≡ link_held vol st c
 unfolding link_at
 link_checked vol m st n pass c h = on_done_done _ _ (due_done vol m st (eqb (c % 128) 0) (8 + c / 128) (pass (c / 128) h))

@@ -1,4 +1,5 @@
 -- The ways to an answer by the map: with an unfit one the walk's, else the first refusal of the table's sectors, else the map's own. Assumes nothing.
+use Rattle.std.specs.Prelude.{Err, Ok, Result}
 use mathlib.Core.Path.{◌≡◌, refl, sym, ◌∙◌}
 use mathlib.Core.Bool.{true, false, not}
 use mathlib.Core.List.{List}
@@ -8,8 +9,6 @@ use Rattle.le.specs.Choice.{pick}
 use Rattle.le.proofs.Choices.{pick_true, pick_false, pick_keeps_by}
 use Rattle.medium.specs.declared.Error.{Error}
 use Rattle.medium.specs.declared.Medium.{Medium}
-use Rattle.medium.specs.declared.Outcome.{Outcome}
-use Rattle.medium.specs.declared.Outcome.TheVariants.{Done, No}
 use Rattle.medium.specs.Refusal.{on_done}
 use Rattle.medium.proofs.Laws.{on_done_done, on_done_no, on_done_keeps}
 use Rattle.handles.specs.declared.Store.{Store}
@@ -23,14 +22,14 @@ module _ {A : Type 0} (vol : List ℕ) (m : Medium) (st : Store) (mapped : A) (r
   by_walk u e = e ∙ sym (pick_false _ _ (not-true _ u))
 
   -- where the map's own answer is the walk's, and so is each refusal, every answer is
-  pub as_walked : (st.free.fit ≡ true → checked_of vol m st ≡ Done → mapped ≡ walked)
-      → (st.free.fit ≡ true → (e : Error) → checked_of vol m st ≡ No e → refuse e ≡ walked) → answer ≡ walked
+  pub as_walked : (st.free.fit ≡ true → checked_of vol m st ≡ Ok tt → mapped ≡ walked)
+      → (st.free.fit ≡ true → (e : Error) → checked_of vol m st ≡ Err e → refuse e ≡ walked) → answer ≡ walked
   as_walked p q =
       pick_keeps_by (λ (r : A). r ≡ walked) st.free.fit _ _ (λ f. on_done_keeps (λ (r : A). r ≡ walked) (checked_of vol m st) _ _ (p f) (q f)) (λ _. refl)
 
-  module _ (f : not st.free.fit ≡ false) {o : Outcome} (asked : o ≡ checked_of vol m st) where
-    pub by_refusal : {e : Error} → o ≡ No e → refuse e ≡ answer
+  module _ (f : not st.free.fit ≡ false) {o : Result Unit Error} (asked : o ≡ checked_of vol m st) where
+    pub by_refusal : {e : Error} → o ≡ Err e → refuse e ≡ answer
     by_refusal q = sym (pick_true _ _ (not-false _ f) ∙ on_done_no _ _ (sym asked ∙ q))
 
-    pub by_map : {r : A} → o ≡ Done → r ≡ mapped → r ≡ answer
+    pub by_map : {r : A} → o ≡ Ok tt → r ≡ mapped → r ≡ answer
     by_map q e = e ∙ sym (pick_true _ _ (not-false _ f) ∙ on_done_done _ _ (sym asked ∙ q))

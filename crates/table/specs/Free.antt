@@ -1,12 +1,12 @@
 -- 02, S-3: The next chunk comes from the map's words at and after the cursor, and the free count from counting ones. The map's answer is used only when
 -- all table sectors pass their checksums. Where the map is unfit the walk is used. And the map that mount makes of the table: where a sector can't be
 -- read, or its checksum or a link fails, it is unfit. Assumes nothing.
+use Rattle.std.specs.Prelude.{Err, Ok, Result}
+use Rattle.medium.specs.declared.Error.{Error}
 use Rattle.std.specs.Prelude.{ℕ, ◌+◌, true, List, ltb}
 use Rattle.le.specs.Choice.{pick}
 use Rattle.le.specs.Part.{zeros}
 use Rattle.medium.specs.declared.Medium.{Medium}
-use Rattle.medium.specs.declared.Outcome.{Outcome}
-use Rattle.medium.specs.declared.Outcome.TheVariants.{Done, No}
 use Rattle.medium.specs.Refusal.{on_done}
 use Rattle.freemap.specs.declared.FreeMap.{FreeMap}
 use Rattle.freemap.specs.Map.{put_of, chosen_of, ones_of, unfit_of}
@@ -21,12 +21,12 @@ use Rattle.table.specs.declared.FreeCount.TheVariants as count
 use Rattle.table.specs.Table.{TableVisit, over_table, walk_free_of}
 
 -- all sectors of the table, read and checked in order: the first refusal, if there is one
-abbrev pub on_check : Outcome → Visit Unit Outcome
-on_check Done = next tt
-on_check (No e) = stop (No e)
+abbrev pub on_check : Result Unit Error → Visit Unit (Result Unit Error)
+on_check (Ok tt) = next tt
+on_check (Err e) = stop (Err e)
 
-unfoldable pub checked_of : List ℕ → Medium → Store → Outcome
-checked_of vol m st = visits (λ t s. on_check) (λ t. check_of vol m st (8 + t)) (λ s. Done) (table_of st.head.chunks) 0 tt
+unfoldable pub checked_of : List ℕ → Medium → Store → Result Unit Error
+checked_of vol m st = visits (λ t s. on_check) (λ t. check_of vol m st (8 + t)) (λ s. (Ok tt)) (table_of st.head.chunks) 0 tt
 
 -- the chunk of a bit; 2,048 stands for none
 unfoldable pub pick_of : ℕ → Pick

@@ -1,13 +1,12 @@
 -- 01, "Link": The free chunk taken is the first at or after the cursor, going round. A chain passes when some link has position 0 and the largest
 -- position is the count − 1. Where positions repeat, reading takes the highest chunk number; appending takes the lowest with the largest position.
 -- And "Directory entry": the count buffer holds the chunks linked to each slot; a state refusal keeps the counts made before it. Assumes nothing.
+use Rattle.std.specs.Prelude.{Err, Ok, Result}
 use Rattle.std.specs.Prelude.{ℕ, ◌+◌, ◌-◌, ◌*◌, ◌%◌, ◌<◌, Bool, ◌&&◌, ◌||◌, List, eqb, ltb, get_or, set}
 use Rattle.le.specs.Choice.{pick}
 use Rattle.medium.specs.declared.Error.{Error}
 use Rattle.medium.specs.declared.Error.TheVariants.{Corrupt}
 use Rattle.medium.specs.declared.Medium.{Medium}
-use Rattle.medium.specs.declared.Outcome.{Outcome}
-use Rattle.medium.specs.declared.Outcome.TheVariants.{Done, No}
 use Rattle.handles.specs.declared.Store.{Store}
 use Rattle.handles.specs.Handles.{table_of}
 use Rattle.walk.specs.Walk.{Visit, next, stop, visits}
@@ -122,16 +121,16 @@ Before i (free.At b) = b < i
 
 -- the chunks linked to each slot, added to the counts; a refusal keeps what was counted before it
 pub record Counted : Type 0 where
-  pub outcome : Outcome
+  pub outcome : Result Unit Error
   pub counts : List ℕ
 
 abbrev pub count_v : TableVisit (List ℕ) Counted
 count_v =
     record {
-      refuse = λ e s. record { outcome = No e; counts = s };
+      refuse = λ e s. record { outcome = Err e; counts = s };
       free = λ i s. s;
       linked = λ i l s. set s l.slot (get_or s l.slot 0 + 1);
-      done = λ s. record { outcome = Done; counts = s };
+      done = λ s. record { outcome = Ok tt; counts = s };
     }
 
 unfoldable pub count_of : List ℕ → Medium → Store → List ℕ → Counted

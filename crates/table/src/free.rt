@@ -7,10 +7,10 @@ ghost use Rattle.table.specs.Free.{checked_of, free_of, walk_count_of, free_coun
 use super::{FreeCount, LinkAt, Pick, free_step, link_at, links};
 use freemap::FreeMap;
 use handles::Store;
-use medium::{Medium, Outcome};
+use medium::{Error, Medium};
 
 // Whether every table sector reads and passes its checksum.
-fn checked(volume: &[u8], medium: Medium, store: Store) -> Outcome
+fn checked(volume: &[u8], medium: Medium, store: Store) -> Result<(), Error>
     requires { (64 ≤ sectors_of volume.now) × (store.head.chunks ≤ 2048) }
     ensures { result ≡ checked_of volume.now medium store }
 {
@@ -18,11 +18,11 @@ fn checked(volume: &[u8], medium: Medium, store: Store) -> Outcome
     let n = handles::table(h.chunks);
     for t in 0..n {
         let o = handles::check(store, volume, medium, 8 + t);
-        if let Outcome::No(_) = o {
+        if let Err(_) = o {
             return o;
         }
     }
-    Outcome::Done
+    Ok(())
 }
 
 // The first free chunk at or after the cursor, going round, by the links.
@@ -63,7 +63,7 @@ pub fn free_chunk(volume: &[u8], medium: Medium, store: Store) -> Pick
         return walk_free(volume, medium, store);
     }
     let o = checked(volume, medium, store);
-    if let Outcome::No(e) = o {
+    if let Err(e) = o {
         return Pick::Refused(e);
     }
     let h = store.head;
@@ -111,7 +111,7 @@ pub fn free_count(volume: &[u8], medium: Medium, store: Store) -> FreeCount
         return walk_count(volume, medium, store);
     }
     let o = checked(volume, medium, store);
-    if let Outcome::No(e) = o {
+    if let Err(e) = o {
         return FreeCount::Refused(e);
     }
     let words = map.words;

@@ -11,7 +11,7 @@ ghost use Rattle.table.specs.Table.{links_of, Before, locate_of, first_step, cha
 
 pub use free::{free_chunk, free_count, map_at};
 use handles::Store;
-use medium::{Error, Medium, Outcome};
+use medium::{Error, Medium};
 
 // What a chunk's link says: its file's slot, its place in the file, and the records of a chunk that the file left before it was full.
 #[derive(Clone, Copy)]
@@ -114,7 +114,7 @@ pub fn link_at(volume: &[u8], medium: Medium, store: Store, chunk: u32) -> LinkA
         chunk % 128 == 0,
         8 + (chunk / 128) as usize,
     );
-    if let Outcome::No(e) = o {
+    if let Err(e) = o {
         return LinkAt::Refused(e);
     }
     let h = store.head;
@@ -327,7 +327,7 @@ fn free_step(cursor: u32, chunks: u32, i: u32, best: Pick) -> Pick
 }
 
 // Adds the chunks that are linked to each slot to the counts, which the caller cleared; a refusal keeps what was counted before it.
-pub fn count(volume: &[u8], medium: Medium, store: Store, counts: &mut [u16]) -> Outcome
+pub fn count(volume: &[u8], medium: Medium, store: Store, counts: &mut [u16]) -> Result<(), Error>
     requires { (64 ≤ sectors_of volume.now) × (store.head.chunks ≤ 2048) × (64 ≤ length counts.old) × ((k : ℕ) → k < 64 → get_or counts.old k 0 ≡ 0) }
     ensures { (result ≡ (count_of volume.now medium store counts.old).outcome)
         × (counts.new ≡ (count_of volume.now medium store counts.old).counts) }
@@ -340,7 +340,7 @@ pub fn count(volume: &[u8], medium: Medium, store: Store, counts: &mut [u16]) ->
         next += 1;
         match e {
             LinkAt::Refused(c) => {
-                return Outcome::No(c);
+                return Err(c);
             }
             LinkAt::Past => {}
             LinkAt::Free => {}
@@ -350,5 +350,5 @@ pub fn count(volume: &[u8], medium: Medium, store: Store, counts: &mut [u16]) ->
             }
         }
     }
-    Outcome::Done
+    Ok(())
 }

@@ -1,5 +1,6 @@
 -- What stays in the bytes stays in the views: a refused commit or format, another writer, and all but one data sector after a record's write; and the
 -- views of a fresh store. Assumes nothing.
+use Rattle.std.specs.Prelude.{Ok}
 use mathlib.Core.Path.{◌≡◌, refl, ap, ◌∙◌, sym}
 use mathlib.Core.Logic.{◌⊎◌, inl, inr}
 use mathlib.Core.Bool.{Bool, true, false}
@@ -13,7 +14,6 @@ use Rattle.le.specs.Part.{part, zeros}
 use Rattle.le.proofs.Choices.{pick_false}
 use Rattle.le.proofs.Parts.{part_zeros}
 use Rattle.medium.specs.declared.Medium.{Medium}
-use Rattle.medium.specs.declared.Outcome.TheVariants.{Done}
 use Rattle.medium.specs.Sector.{sectors_of, sector_at, write_at, write_of}
 use Rattle.medium.proofs.Laws.{sector_same, sector_other, write_done}
 use Rattle.handles.specs.declared.Header.{Header}
@@ -137,7 +137,7 @@ module _ (vol : List ℕ) (st : Store) (c i id number : ℕ) (x : List ℕ) (san
       }
 
   -- the write itself, where it is done; where it is not, the volume is as it was: plan Order `write_none`
-  pub write_recorded : (m : Medium) → (write_record_of vol m st id c i number x).ans.outcome ≡ Done
+  pub write_recorded : (m : Medium) → (write_record_of vol m st id c i number x).ans.outcome ≡ Ok tt
       → Recorded (disk_of vol st) (disk_of (write_record_of vol m st id c i number x).vol st) c i id number x
   unfolding write_of
   write_recorded m q = rw (sym (write_done vol m (data_at st c i) (record_of st.head.id id number x) refl q refl).0) recorded

@@ -1,4 +1,5 @@
 -- What a record takes, its commits and its own write, and so a sync, and an append for each record that it fills. Assumes nothing.
+use Rattle.std.specs.Prelude.{Ok}
 use Prim.Native.Nat.{ℕ, zero, suc, ◌+◌, ◌-◌, ◌*◌, ◌/◌, ◌≤◌, ◌<◌}
 use mathlib.Core.Path.{◌≡◌, refl, sym, subst, ◌∙◌}
 use mathlib.Core.Logic.{◌⊎◌, inl, inr, ⊎_elim}
@@ -14,7 +15,6 @@ use Rattle.le.proofs.Choices.{pick_keeps, pick_keeps_by}
 use Rattle.medium.specs.declared.Error.{Error}
 use Rattle.medium.specs.declared.Error.TheVariants.{Corrupt, Full}
 use Rattle.medium.specs.declared.Medium.{Medium}
-use Rattle.medium.specs.declared.Outcome.TheVariants.{Done}
 use Rattle.medium.specs.Refusal.{on_done}
 use Rattle.medium.specs.Sector.{sectors_of, WriteOut}
 use Rattle.medium.specs.Frame.{Kept}
@@ -81,7 +81,7 @@ module _ {rolls : Bool} {c : ℕ} (r : Rates rolls c) where
 
   -- with a write for the record still to come
   abbrev Extends : ℕ → Medium → AppOut → Type 0
-  Extends e m o = (m.left + 1 ≤ o.ans.medium.left + (e + r.per)) × (o.ans.outcome ≡ Done → Beside 0 o.vol o.ans.store)
+  Extends e m o = (m.left + 1 ≤ o.ans.medium.left + (e + r.per)) × (o.ans.outcome ≡ Ok tt → Beside 0 o.vol o.ans.store)
 
   module _ (vol : List ℕ) (m : Medium) (st : Store) (a : Appender) (partial : Bool) (records : ℕ) (good : Good vol st) (h : st.head.chunks ≡ c) where
     refused_extends : (e : ℕ) (x : Error) → Extends e m (stopped vol m st a x)
@@ -90,7 +90,7 @@ module _ {rolls : Bool} {c : ℕ} (r : Rates rolls c) where
     abbrev edit : ℕ → Edit
     edit next = Extend a.slot a.position next a.chunk partial records
 
-    link_beside : (next : ℕ) → (link_out vol m st a partial records next).ans.outcome ≡ Done
+    link_beside : (next : ℕ) → (link_out vol m st a partial records next).ans.outcome ≡ Ok tt
         → Beside 0 (link_out vol m st a partial records next).vol (link_out vol m st a partial records next).ans.store
     unfolding link_out
     link_beside next d = commit_beside (edit next) [] vol m st (extend_plain _ _ _ _ _ _) good (lit≤ tt) d
@@ -145,11 +145,11 @@ module _ {rolls : Bool} {c : ℕ} (r : Rates rolls c) where
   -- what is left of e for the next one
   abbrev Writes : ℕ → Medium → AppOut → Type 0
   Writes e m o = (m.left ≤ o.ans.medium.left + (e + r.per))
-      × (o.ans.outcome ≡ Done → (d : ℕ) × (m.left + d ≤ o.ans.medium.left + (e + r.per)) × Owes d o.vol o.ans.store)
+      × (o.ans.outcome ≡ Ok tt → (d : ℕ) × (m.left + d ≤ o.ans.medium.left + (e + r.per)) × Owes d o.vol o.ans.store)
 
   -- its own write
   abbrev Records : Medium → (List ℕ → Store → Type 0) → AppOut → Type 0
-  Records m P o = (m.left ≤ o.ans.medium.left + 1) × (o.ans.outcome ≡ Done → P o.vol o.ans.store)
+  Records m P o = (m.left ≤ o.ans.medium.left + 1) × (o.ans.outcome ≡ Ok tt → P o.vol o.ans.store)
 
   record_writes : (vol : List ℕ) (m : Medium) (st : Store) (a : Appender) → Good vol st → Fit a st → (index : ℕ) → index < st.head.chunk
       → (e : ℕ) → Owes e vol st → Records m (Owes e) (record_out index vol m st a)

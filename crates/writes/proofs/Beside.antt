@@ -1,5 +1,7 @@
 -- The copy beside the store's, as the next commit finds it. After an accepted commit it is the copy that was current, so its header is known and lists
 -- the store's own checksums but for the sectors that the commit changed. No premise on the volume. Assumes nothing.
+use Rattle.std.specs.Prelude.{Ok, Result}
+use Rattle.medium.specs.declared.Error.{Error}
 use Prim.Native.Nat.{ℕ, ◌+◌, ◌-◌, ◌≤◌, ◌<◌}
 use mathlib.Core.Path.{◌≡◌, refl, sym, ap, subst, ◌∙◌}
 use mathlib.Core.Bool.{Bool, true, false, ◌&&◌, ◌||◌}
@@ -14,8 +16,6 @@ use Rattle.le.proofs.Bools.{and_true, or_false, or_right}
 use Rattle.le.proofs.Tallies.{tally_le, tally_none}
 use Rattle.checksum.specs.Crc.{crc32_of}
 use Rattle.medium.specs.declared.Medium.{Medium}
-use Rattle.medium.specs.declared.Outcome.{Outcome}
-use Rattle.medium.specs.declared.Outcome.TheVariants.{Done}
 use Rattle.medium.specs.Sector.{sectors_of, sector_at, read_of}
 use Rattle.medium.proofs.Laws.{on_done_keeps}
 use Rattle.handles.specs.declared.Header.{Header}
@@ -45,7 +45,7 @@ use Rattle.writes.proofs.Copies.{Leaves, commit_counted}
 
 -- ---- the store's own copy, where it is current
 
-module _ (vol : List ℕ) (m : Medium) (st : Store) (d : (current_of vol m).outcome ≡ Done) (c : is_current (current_of vol m) st ≡ true) where
+module _ (vol : List ℕ) (m : Medium) (st : Store) (d : (current_of vol m).outcome ≡ Ok tt) (c : is_current (current_of vol m) st ≡ true) where
   current_is : current_of vol m ≡ taken_of st.copy st.head (copy_of vol (base_of (1 - st.copy))).head (is_ours (copy_of vol (base_of (1 - st.copy))).kind)
   current_is = current_choice vol m d ∙ stands_choice vol st.head st.copy (own_stands vol m st d c)
 
@@ -118,11 +118,11 @@ abbrev pub rewrites : Edit → (ℕ → Bool) → ℕ → Bool
 rewrites edit may k = leb 8 k || (may k || changes_of edit k)
 
 module _ (edit : Edit) (name vol : List ℕ) (m : Medium) (st : Store) (plain : is_format edit ≡ false) {d : ℕ} (x : Beside d vol st) where
-  known : (current_of vol m).outcome ≡ Done → is_current (current_of vol m) st ≡ true → ((current_of vol m).known ≡ true) × ((current_of vol m).listed ≡ x.head.crcs)
+  known : (current_of vol m).outcome ≡ Ok tt → is_current (current_of vol m) st ≡ true → ((current_of vol m).known ≡ true) × ((current_of vol m).listed ≡ x.head.crcs)
   unfolding taken_of
   known o c = let q = current_is vol m st o c in rw (q, x.found) (x.same, refl)
 
-  pub leaves : (current_of vol m).outcome ≡ Done → is_current (current_of vol m) st ≡ true → Leaves (commit_plan (current_of vol m) edit name st) (rewrites edit x.may)
+  pub leaves : (current_of vol m).outcome ≡ Ok tt → is_current (current_of vol m) st ≡ true → Leaves (commit_plan (current_of vol m) edit name st) (rewrites edit x.may)
   unfolding move_of commit_plan lists
   leaves o c k e v u =
       let p = or_false (leb 8 k) _ e in
@@ -147,15 +147,15 @@ module _ (edit : Edit) (name vol : List ℕ) (m : Medium) (st : Store) (plain : 
 -- ---- after an accepted commit
 
 -- a check that passed
-check_sum : (vol : List ℕ) (m : Medium) (st : Store) (k : ℕ) → check_of vol m st k ≡ Done → crc32_of (sector_at vol (body_at st k)) ≡ get_or st.head.crcs k 0
+check_sum : (vol : List ℕ) (m : Medium) (st : Store) (k : ℕ) → check_of vol m st k ≡ Ok tt → crc32_of (sector_at vol (body_at st k)) ≡ get_or st.head.crcs k 0
 unfolding check_of
 check_sum vol m st k =
     on_done_keeps Right (read_of m (body_at st k)) _ _
     (λ _. pick_keeps_by Right (eqb (crc32_of (sector_at vol (body_at st k))) (get_or st.head.crcs k 0)) _ _ (λ e _. eqb-true _ _ e) (λ _. clash refl))
     (λ e _. clash refl)
   where
-    Right : Outcome → Type 0
-    Right o = o ≡ Done → crc32_of (sector_at vol (body_at st k)) ≡ get_or st.head.crcs k 0
+    Right : Result Unit Error → Type 0
+    Right o = o ≡ Ok tt → crc32_of (sector_at vol (body_at st k)) ≡ get_or st.head.crcs k 0
 
 module _ (edit : Edit) (name vol : List ℕ) (m : Medium) (st : Store) (plain : is_format edit ≡ false) where
   -- a sector that the edit leaves keeps its checksum, read or not
@@ -174,11 +174,11 @@ module _ (edit : Edit) (name vol : List ℕ) (m : Medium) (st : Store) (plain : 
       Right : Move → Type 0
       Right mv = Made mv s (get_or st.head.crcs k 0) s' c' → c' ≡ get_or st.head.crcs k 0
 
-  module _ (good : remove.Good vol st) (short : length name ≤ 40) (accepted : (commit_of edit name vol m st).ans.outcome ≡ Done) where
+  module _ (good : remove.Good vol st) (short : length name ≤ 40) (accepted : (commit_of edit name vol m st).ans.outcome ≡ Ok tt) where
     abbrev plan : Plan
     plan = plan_of edit name vol m st
 
-    copies : ((current_of vol m).outcome ≡ Done) × (is_current (current_of vol m) st ≡ true) × (commit_of edit name vol m st ≡ copy_out plan vol m)
+    copies : ((current_of vol m).outcome ≡ Ok tt) × (is_current (current_of vol m) st ≡ true) × (commit_of edit name vol m st ≡ copy_out plan vol m)
     copies = commit_copies edit name vol m st accepted
 
     fits : Good plan vol

@@ -1,5 +1,6 @@
 -- Each part of a call that writes a copy anew carries more writes through: one write, the body, the copy, a commit and a removal. Of the medium record
 -- they read which sector is unreadable, and writes left only to spend one. Assumes nothing.
+use Rattle.std.specs.Prelude.{Err, Ok}
 use Prim.Native.Nat.{ℕ, zero, suc, ◌+◌, ◌-◌, ◌^◌, ◌≤◌}
 use mathlib.Core.Path.{◌≡◌, refl, ap}
 use mathlib.Core.Bool.{Bool, true, false}
@@ -11,7 +12,6 @@ use Rattle.le.specs.Choice.{pick}
 use Rattle.le.specs.Part.{part}
 use Rattle.medium.specs.declared.Error.TheVariants.{Media, Spent, Stale}
 use Rattle.medium.specs.declared.Medium.{Medium}
-use Rattle.medium.specs.declared.Outcome.TheVariants.{Done, No}
 use Rattle.medium.specs.declared.Written.{Written}
 use Rattle.medium.specs.Refusal.{on_done}
 use Rattle.medium.specs.Sector.{read_of, spend_of, WriteOut, write_at, write_of}
@@ -64,8 +64,8 @@ gone = record { held = λ g. g.ans.medium; raised = λ d g. record { vol = g.vol
 abbrev paid : Medium → Bool → Written
 paid m none =
     pick none
-    (record { outcome = No Media; medium = m })
-    (record { outcome = Done; medium = record { left = m.left - 1; unreadable = m.unreadable; entropy = m.entropy; token = m.token } })
+    (record { outcome = Err Media; medium = m })
+    (record { outcome = Ok tt; medium = record { left = m.left - 1; unreadable = m.unreadable; entropy = m.entropy; token = m.token } })
 
 module _ (d : ℕ) where
   spend_same : (m : Medium) → d ≤ (spend_of (more d m)).medium.left
@@ -81,7 +81,7 @@ module _ (d : ℕ) where
       go false p false q l =
           let x = eqb-false m.left 0 p in
           let e : m.left + d - 1 ≡ m.left - 1 + d = omega (arith, x) in
-          ap (λ (n : ℕ). record { outcome = Done; medium = record { left = n; unreadable = m.unreadable; entropy = m.entropy; token = m.token } }) e
+          ap (λ (n : ℕ). record { outcome = Ok tt; medium = record { left = n; unreadable = m.unreadable; entropy = m.entropy; token = m.token } }) e
 
   pub write_carries : (vol : List ℕ) (k : ℕ) (bytes : List ℕ) → Carries d alone written (λ m. write_of vol m k bytes)
   unfolding write_of
@@ -132,7 +132,7 @@ module _ (d : ℕ) where
         onward (λ w. w.ans.outcome)
         (λ w. record {
           vol = w.vol;
-          ans = record { outcome = Done; medium = w.ans.medium; store = record { copy = p.copy; head = h; writer = p.store.writer; free = free } };
+          ans = record { outcome = Ok tt; medium = w.ans.medium; store = record { copy = p.copy; head = h; writer = p.store.writer; free = free } };
           skipped = skipped;
         })
         (λ w. refused_out p.store w.vol w.ans.medium) (λ w. refl)
@@ -194,7 +194,7 @@ module _ (d : ℕ) where
     unfolding remove_of
     remove_carries slot id =
         onward (λ o. o.ans.outcome)
-        (λ o. record { vol = o.vol; ans = record { outcome = Done; medium = o.ans.medium; store = closed_for id o.ans.store }; skipped = o.skipped })
+        (λ o. record { vol = o.vol; ans = record { outcome = Ok tt; medium = o.ans.medium; store = closed_for id o.ans.store }; skipped = o.skipped })
         (λ o e. o) (λ o. refl)
         (commit_carries (Remove slot) [] vol st) (still (λ o. refl) (λ o. refl)) (λ e. still (λ o. refl) (λ o. refl))
 
@@ -205,7 +205,7 @@ module _ (d : ℕ) where
         (λ t o. on_done t
         (record {
           vol = o.vol;
-          ans = record { outcome = Done; medium = o.ans.medium; store = o.ans.store; any = true; name = name; length = len };
+          ans = record { outcome = Ok tt; medium = o.ans.medium; store = o.ans.store; any = true; name = name; length = len };
           skipped = o.skipped;
         })
         (λ e. none_out o))

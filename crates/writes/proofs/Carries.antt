@@ -1,5 +1,6 @@
 -- A part of a call carries d more writes through: from a medium record with d more left it does the same, and d more are left after it, wherever at
 -- least d are left after it. Parts one after another carry them, and a decision that does not depend on writes left. Assumes nothing.
+use Rattle.std.specs.Prelude.{Err, Ok, Result}
 use Prim.Native.Nat.{ℕ, ◌≤◌}
 use mathlib.Core.Path.{◌≡◌, sym, ap, ap₂, subst, ◌∙◌}
 use mathlib.Core.Bool.{Bool, true, false}
@@ -8,8 +9,6 @@ use native.Mathlib.Omega.{arith}
 use Rattle.le.specs.Choice.{pick}
 use Rattle.medium.specs.declared.Error.{Error}
 use Rattle.medium.specs.declared.Medium.{Medium}
-use Rattle.medium.specs.declared.Outcome.{Outcome}
-use Rattle.medium.specs.declared.Outcome.TheVariants.{Done, No}
 use Rattle.medium.specs.Refusal.{on_done}
 use Rattle.writes.specs.Writes.{Most}
 use Rattle.writes.specs.More.{more}
@@ -58,10 +57,10 @@ module _ {d : ℕ} {A B : Type 0} {a : Holder A} {b : Holder B} where
   either true p q = p
   either false p q = q
 
-  pub unless : {f : A → B} {r : A → Error → B} (o : Outcome) → Carries d a b f → ((e : Error) → Carries d a b (λ x. r x e)) → Carries d a b (λ x. on_done o (f x) (r x))
+  pub unless : {f : A → B} {r : A → Error → B} (o : Result Unit Error) → Carries d a b f → ((e : Error) → Carries d a b (λ x. r x e)) → Carries d a b (λ x. on_done o (f x) (r x))
   unfolding on_done
-  unless Done p q = p
-  unless (No e) p q = q e
+  unless (Ok tt) p q = p
+  unless (Err e) p q = q e
 
 module _ {d : ℕ} {A B C : Type 0} {a : Holder A} {b : Holder B} {c : Holder C} {f : A → B} where
   -- one after the other
@@ -75,7 +74,7 @@ module _ {d : ℕ} {A B C : Type 0} {a : Holder A} {b : Holder B} {c : Holder C}
       }
 
   -- the other only where the first is accepted
-  pub onward : (o : B → Outcome) (g : B → C) (r : B → Error → C) → ((y : B) → o (b.raised d y) ≡ o y) → Carries d a b f → Carries d b c g
+  pub onward : (o : B → Result Unit Error) (g : B → C) (r : B → Error → C) → ((y : B) → o (b.raised d y) ≡ o y) → Carries d a b f → Carries d b c g
       → ((e : Error) → Carries d b c (λ y. r y e)) → Carries d a c (λ x. on_done (o (f x)) (g (f x)) (r (f x)))
   onward o g r e p q s = both (λ y. on_done (o y) (g y) (r y)) p (given o (λ t y. on_done t (g y) (r y)) e (λ t. unless t q s))
 

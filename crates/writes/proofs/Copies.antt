@@ -1,5 +1,6 @@
 -- A copy written anew takes a write for each body sector that is not left unread, at most, and two for its header, on any volume and wherever it stops;
 -- and so does a commit. Assumes nothing.
+use Rattle.std.specs.Prelude.{Ok}
 use Prim.Native.Nat.{ℕ, zero, suc, ◌+◌, ◌-◌, ◌^◌, ◌≤◌}
 use mathlib.Core.Path.{◌≡◌, refl, subst}
 use mathlib.Core.Bool.{Bool, true, false, true≢false}
@@ -12,7 +13,6 @@ use Rattle.le.proofs.Choices.{pick_keeps, pick_keeps_by}
 use Rattle.le.proofs.Tallies.{tally_le, tally_yes, tally_no}
 use Rattle.medium.specs.declared.Medium.{Medium}
 use Rattle.medium.specs.declared.Written.{Written}
-use Rattle.medium.specs.declared.Outcome.TheVariants.{Done}
 use Rattle.medium.specs.Sector.{spend_of, WriteOut, write_of}
 use Rattle.medium.proofs.Laws.{on_done_keeps}
 use Rattle.handles.specs.declared.Header.{Header}
@@ -110,7 +110,7 @@ copy_most p vol m =
 
 module _ (edit : Edit) (name vol : List ℕ) (m : Medium) (st : Store) where
   pub commit_counted : (f : ℕ → Bool)
-      → ((current_of vol m).outcome ≡ Done → is_current (current_of vol m) st ≡ true → Leaves (commit_plan (current_of vol m) edit name st) f)
+      → ((current_of vol m).outcome ≡ Ok tt → is_current (current_of vol m) st ≡ true → Leaves (commit_plan (current_of vol m) edit name st) f)
       → Most (tally f (body_of st.head.chunks) + 2) m (commit_of edit name vol m st).ans.medium
   unfolding commit_of commit_plan head_after
   commit_counted f leaves =

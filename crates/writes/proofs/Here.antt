@@ -1,4 +1,5 @@
 -- Records that go into the appender's own chunk: a write each, and nothing else. On any volume, with any handle. Assumes nothing.
+use Rattle.std.specs.Prelude.{Ok}
 use Prim.Native.Nat.{ℕ, suc, ◌+◌, ◌/◌, ◌≤◌, ◌<◌}
 use mathlib.Core.Path.{◌≡◌, refl, sym, subst}
 use mathlib.Core.Bool.{true, false}
@@ -11,7 +12,6 @@ use lib.ListN.{length}
 use Rattle.le.specs.Part.{part}
 use Rattle.le.proofs.Choices.{pick_keeps, pick_keeps_by}
 use Rattle.medium.specs.declared.Medium.{Medium}
-use Rattle.medium.specs.declared.Outcome.TheVariants.{Done}
 use Rattle.medium.specs.Refusal.{on_done}
 use Rattle.medium.proofs.Laws.{on_done_keeps}
 use Rattle.handles.specs.declared.Store.{Store}
@@ -29,9 +29,9 @@ use Rattle.writes.proofs.Copies.{write_most}
 -- one write; accepted, the next record follows in the same chunk
 pub record Here (i : ℕ) (m : Medium) (st : Store) (o : AppOut) : Type 0 where
   pub one : Most 1 m o.ans.medium
-  pub store : o.ans.outcome ≡ Done → o.ans.store ≡ st
-  pub tail : o.ans.outcome ≡ Done → o.ans.appender.tail ≡ At (i + 1)
-  pub fill : o.ans.outcome ≡ Done → o.ans.appender.fill ≡ 0
+  pub store : o.ans.outcome ≡ Ok tt → o.ans.store ≡ st
+  pub tail : o.ans.outcome ≡ Ok tt → o.ans.appender.tail ≡ At (i + 1)
+  pub fill : o.ans.outcome ≡ Ok tt → o.ans.appender.fill ≡ 0
 
 module _ (vol : List ℕ) (m : Medium) (st : Store) (a : Appender) (i : ℕ) (at : a.tail ≡ At i) (room : i < st.head.chunk) where
   record_here_lem : Here i m st (record_out i vol m st a)

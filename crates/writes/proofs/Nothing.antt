@@ -1,12 +1,12 @@
 -- The other calls write nothing: they hand the medium record back as it was, open_append all but the token. Assumes nothing.
+use Rattle.std.specs.Prelude.{Err, Ok, Result}
+use Rattle.medium.specs.declared.Error.{Error}
 use Prim.Native.Nat.{ℕ}
 use mathlib.Core.Path.{◌≡◌, refl, ap}
 use mathlib.Core.Bool.{Bool, true}
 use mathlib.Core.List.{List}
 use Rattle.le.proofs.Choices.{pick_keeps}
 use Rattle.medium.specs.declared.Medium.{Medium}
-use Rattle.medium.specs.declared.Outcome.{Outcome}
-use Rattle.medium.specs.declared.Outcome.TheVariants.{Done, No}
 use Rattle.medium.specs.Sector.{sectors_of}
 use Rattle.medium.proofs.Laws.{on_done_keeps}
 use Rattle.handles.specs.declared.Store.{Store}
@@ -71,9 +71,9 @@ module _ (vol : List ℕ) (m : Medium) (st : Store) where
   reopened : (name : List ℕ) (roll : Rollover) → store_ok st (sectors_of vol) ≡ true → (reopen_of name roll vol m st).ans.medium.left ≡ m.left
   reopened name roll ok = go (reopen_of name roll vol m st).ans.outcome refl
     where
-      go : (o : Outcome) → (reopen_of name roll vol m st).ans.outcome ≡ o → (reopen_of name roll vol m st).ans.medium.left ≡ m.left
-      go Done q = ap (λ (u : Medium). u.left) (reopen_opens name roll vol m st ok q).medium
-      go (No e) q = ap (λ (r : Handed). r.medium.left) ((reopen_reads name roll vol m st ok).refused e q)
+      go : (o : Result Unit Error) → (reopen_of name roll vol m st).ans.outcome ≡ o → (reopen_of name roll vol m st).ans.medium.left ≡ m.left
+      go (Ok tt) q = ap (λ (u : Medium). u.left) (reopen_opens name roll vol m st ok q).medium
+      go (Err e) q = ap (λ (r : Handed). r.medium.left) ((reopen_reads name roll vol m st ok).refused e q)
 
   pub open_left : (name : List ℕ) (rolls : Bool) (dir : List ℕ) → (open_call vol m st name rolls dir).call.medium.left ≡ m.left
   open_left name rolls dir =

@@ -1,4 +1,5 @@
 -- A removal makes the writes of its commit, and leaves beside the store's copy the one that was current. Assumes nothing.
+use Rattle.std.specs.Prelude.{Ok}
 use Prim.Native.Nat.{ℕ}
 use mathlib.Core.Path.{◌≡◌}
 use mathlib.Core.Bool.{Bool, true, false≢true}
@@ -7,7 +8,6 @@ use native.Mathlib.Omega.{arith}
 use lib.Dec.{lit≤}
 use Rattle.le.proofs.Choices.{pick_keeps}
 use Rattle.medium.specs.declared.Medium.{Medium}
-use Rattle.medium.specs.declared.Outcome.TheVariants.{Done}
 use Rattle.medium.proofs.Laws.{on_done_keeps}
 use Rattle.handles.specs.declared.Store.{Store}
 use Rattle.directory.specs.declared.OldestFile.{OldestFile}
@@ -47,7 +47,7 @@ module _ (vol : List ℕ) (m : Medium) (st : Store) where
   -- where a file went
   module _ (good : Good vol st) where
     abbrev After : Out → Type 0
-    After o = o.ans.outcome ≡ Done → Beside 1 o.vol o.ans.store
+    After o = o.ans.outcome ≡ Ok tt → Beside 1 o.vol o.ans.store
 
     remove_beside : (slot id : ℕ) → After (remove_of vol m st slot id)
     unfolding remove_of

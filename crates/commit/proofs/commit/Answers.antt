@@ -6,11 +6,11 @@ use Rattle.commit.proofs.Steps.{made_of}
 use Rattle.commit.proofs.Commits.{unfound, stale, spent, rewritten}
 use Rattle.commit.proofs.commit.Goals as goal
 
-pub returns-in-No : goal.returns-in-No
-returns-in-No c =
+pub returns-in-Err : goal.returns-in-Err
+returns-in-Err c =
     let a = c.args in
     made_of c.refused.ensures
-    (unfound a.edit a.name.now a.volume.now a.medium a.store c.current-found.ensures c.in-No.is)
+    (unfound a.edit a.name.now a.volume.now a.medium a.store c.current-found.ensures c.in-Err.is)
 
 pub returns-then-not-is_current : goal.returns-then-not-is_current
 returns-then-not-is_current c =

@@ -1,12 +1,12 @@
 use Rattle.commit.proofs.Steps.{not_read, passed, damaged}
 use Rattle.commit.proofs.read_body.Goals as goal
 
-pub returns-in-No : goal.returns-in-No
-returns-in-No c =
+pub returns-in-Err : goal.returns-in-Err
+returns-in-Err c =
     let a = c.args in
     let r = c.read_sector-o in
     not_read a.volume.now a.medium a.store a.k a.sector.now c.base.ensures.0 r.ensures.0 r.ensures.1
-    c.in-No.is
+    c.in-Err.is
 
 pub returns-then-crc32-h : goal.returns-then-crc32-h
 returns-then-crc32-h c =

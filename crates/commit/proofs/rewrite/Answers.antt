@@ -25,12 +25,12 @@ zero_sector-z-requires c =
       (store_facts c.args.store _ c.requires.0).enough,
     )
 
-pub returns-in-No : goal.returns-in-No
+pub returns-in-Err : goal.returns-in-Err
 unfolding commit_plan
-returns-in-No c =
+returns-in-Err c =
     let plan : Plan = commit_plan c.args.found c.args.edit c.args.name.now c.args.store in
     made_of c.refused.ensures (first_refused plan c.args.volume.now c.args.medium c.base.ensures.0
-    c.zero_sector-z.ensures c.in-No.is)
+    c.zero_sector-z.ensures c.in-Err.is)
 
 pub write_body-b-requires : goal.write_body-b-requires
 write_body-b-requires c = (
@@ -41,12 +41,12 @@ write_body-b-requires c = (
   c.requires.4,
 )
 
-pub returns-in-No-bo : goal.returns-in-No-bo
+pub returns-in-Err-bo : goal.returns-in-Err-bo
 unfolding commit_plan head_after
-returns-in-No-bo c =
+returns-in-Err-bo c =
     let plan : Plan = commit_plan c.args.found c.args.edit c.args.name.now c.args.store in
-    made_of c.refused-in-No-bo.ensures (body_refused plan c.args.volume.now c.args.medium c.base.ensures.0
-    c.zero_sector-z.ensures c.in_default.is c.write_body-b.ensures c.in-No-bo.is)
+    made_of c.refused-in-Err-bo.ensures (body_refused plan c.args.volume.now c.args.medium c.base.ensures.0
+    c.zero_sector-z.ensures c.in_default.is c.write_body-b.ensures c.in-Err-bo.is)
 
 pub write_head-w-requires : goal.write_head-w-requires
 unfolding commit_plan head_after
@@ -59,17 +59,17 @@ write_head-w-requires c =
     (omega (arith, e, c.write_body-b.auto.volume), omega (arith, f.head.chunks_most, q)) in
     ranges
 
-pub shape_of-volume-in-No-wo : goal.shape_of-volume-in-No-wo
-shape_of-volume-in-No-wo c =
+pub shape_of-volume-in-Err-wo : goal.shape_of-volume-in-Err-wo
+shape_of-volume-in-Err-wo c =
     c.write_head-w.auto.volume ∙ c.write_body-b.auto.volume ∙ c.zero_sector-z.auto.volume
 
-pub returns-in-No-wo : goal.returns-in-No-wo
+pub returns-in-Err-wo : goal.returns-in-Err-wo
 unfolding commit_plan head_after
-returns-in-No-wo c =
+returns-in-Err-wo c =
     let plan : Plan = commit_plan c.args.found c.args.edit c.args.name.now c.args.store in
-    made_of c.refused-in-No-wo.ensures (last_refused plan c.args.volume.now c.args.medium c.base.ensures.0
+    made_of c.refused-in-Err-wo.ensures (last_refused plan c.args.volume.now c.args.medium c.base.ensures.0
     c.zero_sector-z.ensures c.in_default.is c.write_body-b.ensures c.in_default-bo.is
-    c.write_head-w.ensures c.in-No-wo.is)
+    c.write_head-w.ensures c.in-Err-wo.is)
 
 pub shape_of-volume : goal.shape_of-volume
 shape_of-volume c =

@@ -31,12 +31,12 @@ write_body_sector-s-requires c =
       c.requires.4,
     )
 
-pub returns-in-No : goal.returns-in-No
-returns-in-No c =
+pub returns-in-Err : goal.returns-in-Err
+returns-in-Err c =
     let a = c.args in
     let l = c.loop-k in
     along (stop (commit_plan a.found a.edit a.name.now a.store) c.body-n.result l.k l.volume l.m l.head
-    c.loop-k-test.true c.write_body_sector-s.ensures c.in-No.is) l.invariant.2
+    c.loop-k-test.true c.write_body_sector-s.ensures c.in-Err.is) l.invariant.2
 
 pub loop-k-preserved : goal.loop-k-preserved
 loop-k-preserved c =

@@ -11,13 +11,13 @@ returns-then-changing-lists c =
     made_of c.so_far.ensures (skipped (commit_plan a.found a.edit a.name.now a.store) a.volume.now a.medium a.head a.k c.requires.4
     c.changes-changing.ensures c.lists.ensures c.if-changing-lists.true)
 
-pub returns-in-No : goal.returns-in-No
+pub returns-in-Err : goal.returns-in-Err
 unfolding commit_plan
-returns-in-No c =
+returns-in-Err c =
     let a = c.args in
-    made_of c.so_far-in-No.ensures (refused (commit_plan a.found a.edit a.name.now a.store) a.volume.now a.medium a.head a.k
+    made_of c.so_far-in-Err.ensures (refused (commit_plan a.found a.edit a.name.now a.store) a.volume.now a.medium a.head a.k
     c.requires.4 c.changes-changing.ensures c.lists.ensures c.if-changing-lists.false c.read_body-o.ensures.0
-    c.in-No.is)
+    c.in-Err.is)
 
 pub returns-then-lists : goal.returns-then-lists
 unfolding commit_plan zeros

@@ -4,10 +4,10 @@ use Rattle.directory.proofs.Answers.{sector_fails, sector_passes}
 use Rattle.directory.proofs.Places.{entry_slice}
 use Rattle.directory.proofs.slot_at.Goals as goal
 
-pub returns-in-No : goal.returns-in-No
-returns-in-No c =
+pub returns-in-Err : goal.returns-in-Err
+returns-in-Err c =
     let a = c.args in
-    sector_fails a.volume.now a.medium a.store a.slot c.due-o.ensures c.in-No.is
+    sector_fails a.volume.now a.medium a.store a.slot c.due-o.ensures c.in-Err.is
 
 pub returns : goal.returns
 returns c =

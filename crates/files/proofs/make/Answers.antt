@@ -15,11 +15,11 @@ commit-c-requires c =
     let n : c.args.store.head.next_id < 2 ^ 32 = search (rules, c.well_formed.1.1.0.0) in
     (p.0, (p.2, omega (arith, n, c.if-id.false), p.3), refl, p.1)
 
-pub returns-in-No : goal.returns-in-No
-returns-in-No c =
+pub returns-in-Err : goal.returns-in-Err
+returns-in-Err c =
     let a = c.args in
     make_refused a.name.now a.rollover a.volume.now a.medium a.store a.slot a.chunk c.if-id.false
-    c.commit-c.ensures c.in-No.is c.refused-in-No.ensures
+    c.commit-c.ensures c.in-Err.is c.refused-in-Err.ensures
 
 pub returns : goal.returns
 returns c =

@@ -17,11 +17,11 @@ slice_bounds-remove_oldest-end c =
     search (rules, c.well_formed.1.1.1.0.0) in
     search (rules, n, c.requires.1 (not-false _ c.if-not-rollover.false))
 
-pub returns-in-No : goal.returns-in-No
-returns-in-No c =
+pub returns-in-Err : goal.returns-in-Err
+returns-in-Err c =
     let a = c.args in
-    ended_with c.ended-in-No.ensures (roll_refused a.rollover a.volume.now a.medium a.store (not-false _ c.if-not-rollover.false)
-    (dir_slice a.rollover.dir) c.remove_oldest-g.ensures c.in-No.is c.refused-in-No.ensures)
+    ended_with c.ended-in-Err.ensures (roll_refused a.rollover a.volume.now a.medium a.store (not-false _ c.if-not-rollover.false)
+    (dir_slice a.rollover.dir) c.remove_oldest-g.ensures c.in-Err.is c.refused-in-Err.ensures)
 
 pub returns-then-not-g : goal.returns-then-not-g
 returns-then-not-g c =

@@ -8,11 +8,11 @@ returns-then-not-name_ok c =
     let a = c.args in
     name_refused a.volume.now _ a.name.now c.name_ok.ensures (rw c.if-not-name_ok.true refl) c.number.ensures
 
-pub returns-in-No : goal.returns-in-No
-returns-in-No c =
+pub returns-in-Err : goal.returns-in-Err
+returns-in-Err c =
     let a = c.args in
     delete_unmounted a.volume.now _ a.name.now c.name_ok.ensures (rw c.if-not-name_ok.false refl) c.medium_of.ensures
-    c.mount-m.result c.mount-m.ensures c.in-No.is c.number-in-No.ensures
+    c.mount-m.result c.mount-m.ensures c.in-Err.is c.number-in-Err.ensures
 
 pub code-requires : goal.code-requires
 code-requires c = λ _. lit≤ tt

@@ -15,13 +15,13 @@ returns-then-not-dir_ok c =
     dir_refused a.volume.now _ a.directory.now a.rows.now long c.dir_ok.ensures (rw c.if-not-dir_ok.true refl)
     c.number-then-not-dir_ok.ensures
 
-pub returns-in-No : goal.returns-in-No
-returns-in-No c =
+pub returns-in-Err : goal.returns-in-Err
+returns-in-Err c =
     let a = c.args in
     let long : 3072 ≤ length a.rows.now = omega arith in
     list_unmounted a.volume.now _ a.directory.now a.rows.now long c.dir_ok.ensures
     (rw c.if-not-dir_ok.false refl) c.medium_of.ensures c.mount-found.result c.mount-found.ensures
-    c.in-No.is c.number-in-No.ensures
+    c.in-Err.is c.number-in-Err.ensures
 
 pub overflow_cast-l : goal.overflow_cast-l
 overflow_cast-l c =

@@ -8,13 +8,13 @@ loop-k-init c =
     let a = c.args in
     (omega arith, refl, zero_start a.copy a.head c.requires.2 a.volume.now a.medium c.body-body.ensures)
 
-pub returns-in-No : goal.returns-in-No
-returns-in-No c =
+pub returns-in-Err : goal.returns-in-Err
+returns-in-Err c =
     let a = c.args in
     let l = c.loop-k in
     zero_stop a.copy a.head c.requires.2 l.volume l.m c.body-body.ensures
     c.loop-k-test.true c.base-first.ensures.0 c.zero_sector-w.ensures.0 c.zero_sector-w.ensures.1
-    l.invariant.2 c.in-No.is
+    l.invariant.2 c.in-Err.is
 
 pub loop-k-preserved : goal.loop-k-preserved
 loop-k-preserved c =

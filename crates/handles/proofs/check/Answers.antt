@@ -8,10 +8,10 @@ use Rattle.medium.specs.Sector.{sector_at}
 use Rattle.handles.specs.Body.{check_of}
 use Rattle.handles.proofs.check.Goals as goal
 
-pub returns-in-No : goal.returns-in-No
+pub returns-in-Err : goal.returns-in-Err
 unfolding check_of on_done
-returns-in-No c =
-    rw (← c.base.ensures.0, told c.readable-o.ensures c.in-No.is)
+returns-in-Err c =
+    rw (← c.base.ensures.0, told c.readable-o.ensures c.in-Err.is)
 
 pub returns-then-c-h : goal.returns-then-c-h
 unfolding check_of on_done sector_at part pick

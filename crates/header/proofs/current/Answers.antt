@@ -2,9 +2,9 @@ use Rattle.medium.specs.Refusal.{on_done}
 use Rattle.header.specs.Copies.{current_of, choice_of, takes_b}
 use Rattle.header.proofs.current.Goals as goal
 
-pub returns-in-No : goal.returns-in-No
+pub returns-in-Err : goal.returns-in-Err
 unfolding current_of on_done
-returns-in-No c = rw (← c.headers-c.ensures, c.in-No.is) c.no_current.ensures
+returns-in-Err c = rw (← c.headers-c.ensures, c.in-Err.is) c.no_current.ensures
 
 pub returns : goal.returns
 unfolding current_of on_done choice_of takes_b

@@ -10,15 +10,15 @@ pub returns-then-sectors-lt64 : goal.returns-then-sectors-lt64
 unfolding headers_of pick
 returns-then-sectors-lt64 c = rw (← c.sectors.ensures, lt-ltb _ _ c.if-sectors-lt64.true) c.no_copies.ensures
 
-pub returns-in-No : goal.returns-in-No
+pub returns-in-Err : goal.returns-in-Err
 unfolding headers_of pick on_done
-returns-in-No c =
+returns-in-Err c =
     rw (
       ← c.sectors.ensures,
       le-ltb _ _ c.if-sectors-lt64.false,
       ← c.readable-ra.ensures,
-      c.in-No.is,
-    ) c.no_copies-in-No.ensures
+      c.in-Err.is,
+    ) c.no_copies-in-Err.ensures
 
 pub returns-then-is_foreign : goal.returns-then-is_foreign
 returns-then-is_foreign c =
@@ -30,16 +30,16 @@ returns-then-is_foreign c =
     } in
     foreign_a seen c.if-is_foreign.true c.no_copies-then-is_foreign.ensures
 
-pub returns-in-No-rb : goal.returns-in-No-rb
-returns-in-No-rb c =
+pub returns-in-Err-rb : goal.returns-in-Err-rb
+returns-in-Err-rb c =
     let seen : Seen c.args.volume.now c.args.medium c.copy_at-a.result c.is_foreign.result = record {
       enough = rw c.sectors.ensures at (le-ltb _ _ c.if-sectors-lt64.false);
       reads = told c.readable-ra.ensures c.in_default.is;
       copy = c.copy_at-a.ensures;
       foreign = c.is_foreign.ensures;
     } in
-    unread_b seen c.if-is_foreign.false c.readable-rb.ensures c.in-No-rb.is
-    c.no_copies-in-No-rb.ensures
+    unread_b seen c.if-is_foreign.false c.readable-rb.ensures c.in-Err-rb.is
+    c.no_copies-in-Err-rb.ensures
 
 pub returns-then-is_foreign-2 : goal.returns-then-is_foreign-2
 returns-then-is_foreign-2 c =

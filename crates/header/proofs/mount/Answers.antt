@@ -2,9 +2,9 @@ use Rattle.medium.specs.Refusal.{on_done}
 use Rattle.header.specs.Copies.{mount_of}
 use Rattle.header.proofs.mount.Goals as goal
 
-pub returns-in-No : goal.returns-in-No
+pub returns-in-Err : goal.returns-in-Err
 unfolding mount_of on_done
-returns-in-No c = rw (← c.current-c.ensures, c.in-No.is, c.no_store-store.ensures)
+returns-in-Err c = rw (← c.current-c.ensures, c.in-Err.is, c.no_store-store.ensures)
 
 pub returns : goal.returns
 unfolding mount_of on_done

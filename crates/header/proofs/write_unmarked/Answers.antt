@@ -4,10 +4,10 @@ use Rattle.handles.specs.Handles.{base_of}
 use Rattle.header.specs.Header.{unmarked_of}
 use Rattle.header.proofs.write_unmarked.Goals as goal
 
-pub returns-in-No : goal.returns-in-No
-returns-in-No c =
+pub returns-in-Err : goal.returns-in-Err
+returns-in-Err c =
     let a = c.args in
-    write_refused a.volume.now a.medium (base_of a.copy) (unmarked_of a.head) c.spend-w.ensures c.in-No.is
+    write_refused a.volume.now a.medium (base_of a.copy) (unmarked_of a.head) c.spend-w.ensures c.in-Err.is
 
 pub returns : goal.returns
 returns c =

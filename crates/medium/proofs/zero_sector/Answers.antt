@@ -3,10 +3,10 @@ use Rattle.medium.specs.Sector.{write_at}
 use Rattle.medium.proofs.Laws.{write_refused, write_done}
 use Rattle.medium.proofs.zero_sector.Goals as goal
 
-pub returns-in-No : goal.returns-in-No
-returns-in-No c =
+pub returns-in-Err : goal.returns-in-Err
+returns-in-Err c =
     let a = c.args in
-    write_refused a.volume.now a.medium a.at (zeros 512) c.spend-w.ensures c.in-No.is
+    write_refused a.volume.now a.medium a.at (zeros 512) c.spend-w.ensures c.in-Err.is
 
 pub returns : goal.returns
 unfolding write_at

@@ -1,10 +1,10 @@
 use Rattle.points.proofs.Offers.{point_refused, point_unread, point_absent, point_unset, point_found}
 use Rattle.points.proofs.read_point.Goals as goal
 
-pub returns-in-No : goal.returns-in-No
-returns-in-No c =
+pub returns-in-Err : goal.returns-in-Err
+returns-in-Err c =
     let a = c.args in
-    point_refused a.volume.now a.medium a.store a.point.now c.asked-o.ensures c.no_upto.result c.in-No.is
+    point_refused a.volume.now a.medium a.store a.point.now c.asked-o.ensures c.no_upto.result c.in-Err.is
     c.no_upto.ensures
 
 pub returns-in-Refused : goal.returns-in-Refused

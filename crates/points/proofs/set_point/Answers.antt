@@ -1,11 +1,11 @@
 use Rattle.points.proofs.Offers.{asked_short, set_refused, set_unread, set_known, set_absent, set_there}
 use Rattle.points.proofs.set_point.Goals as goal
 
-pub returns-in-No : goal.returns-in-No
-returns-in-No c =
+pub returns-in-Err : goal.returns-in-Err
+returns-in-Err c =
     let a = c.args in
     set_refused a.volume.now a.medium a.store a.point.now a.name.now c.name_ok.ensures c.asked-o.ensures
-    c.not_set.result c.in-No.is c.not_set.ensures
+    c.not_set.result c.in-Err.is c.not_set.ensures
 
 pub set_from-requires : goal.set_from-requires
 set_from-requires c =

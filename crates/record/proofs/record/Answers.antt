@@ -8,10 +8,10 @@ use Rattle.record.specs.Record.{heard_of, read_record_of}
 use Rattle.record.proofs.Verdicts.{heard_judged}
 use Rattle.record.proofs.record.Goals as goal
 
-pub returns-in-No : goal.returns-in-No
+pub returns-in-Err : goal.returns-in-Err
 unfolding read_record_of on_done
-returns-in-No c =
-    rw (← c.data-at.ensures, told c.readable-o.ensures c.in-No.is)
+returns-in-Err c =
+    rw (← c.data-at.ensures, told c.readable-o.ensures c.in-Err.is)
 
 pub returns : goal.returns
 unfolding read_record_of on_done sector_at part

@@ -5,11 +5,11 @@ use Rattle.record.specs.Record.{data_at, record_of}
 use mathlib.Core.Path.{◌∙◌}
 use Rattle.record.proofs.write_record.Goals as goal
 
-pub returns-in-No : goal.returns-in-No
-returns-in-No c =
+pub returns-in-Err : goal.returns-in-Err
+returns-in-Err c =
     let a = c.args in
     let r : List ℕ = record_of a.store.head.id a.id a.number a.payload.now in
-    write_refused a.volume.now a.medium (data_at a.store a.chunk a.index) r c.spend-w.ensures c.in-No.is
+    write_refused a.volume.now a.medium (data_at a.store a.chunk a.index) r c.spend-w.ensures c.in-Err.is
 
 pub returns : goal.returns
 returns c =

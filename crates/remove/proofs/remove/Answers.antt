@@ -8,10 +8,10 @@ pub commit-c-requires : goal.commit-c-requires
 unfolding is_format
 commit-c-requires c = (c.requires.0, c.requires.1, refl, lit≤ tt)
 
-pub returns-in-No : goal.returns-in-No
-returns-in-No c =
+pub returns-in-Err : goal.returns-in-Err
+returns-in-Err c =
     let a = c.args in
-    remove_refused a.volume.now a.medium a.store a.slot a.id c.commit-c.ensures c.in-No.is
+    remove_refused a.volume.now a.medium a.store a.slot a.id c.commit-c.ensures c.in-Err.is
 
 pub returns : goal.returns
 returns c =

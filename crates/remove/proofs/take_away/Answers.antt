@@ -14,11 +14,11 @@ slice_bounds-put_bytes-end-2 c = omega (arith, (store_facts _ _ c.requires.0).en
 pub put_bytes-requires : goal.put_bytes-requires
 put_bytes-requires c = search (rules, (store_facts _ _ c.requires.0).enough)
 
-pub returns-in-No : goal.returns-in-No
-returns-in-No c =
+pub returns-in-Err : goal.returns-in-Err
+returns-in-Err c =
     let a = c.args in
     made_of c.none_gone.ensures (gone_refused (part 0 40 (entry_at a.volume.now a.store a.old.slot)) a.old.len
-    (remove_of a.volume.now a.medium a.store a.old.slot a.old.id) c.remove-c.ensures c.in-No.is)
+    (remove_of a.volume.now a.medium a.store a.old.slot a.old.id) c.remove-c.ensures c.in-Err.is)
 
 pub returns : goal.returns
 unfolding zeros

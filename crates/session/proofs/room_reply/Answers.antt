@@ -1,8 +1,8 @@
 use Rattle.session.proofs.Ways.{room_not, room_refused, room_is}
 use Rattle.session.proofs.room_reply.Goals as goal
 
-pub returns-in-No : goal.returns-in-No
-returns-in-No c = let args = c.args in room_not args.o args.appender c.in-No.is
+pub returns-in-Err : goal.returns-in-Err
+returns-in-Err c = let args = c.args in room_not args.o args.appender c.in-Err.is
 
 pub returns-in-Refused : goal.returns-in-Refused
 returns-in-Refused c =

@@ -4,11 +4,11 @@ use Rattle.store.proofs.Laws.{asked_done}
 use Rattle.store.proofs.Deletes.{input_refused, not_found, removed}
 use Rattle.store.proofs.delete.Goals as goal
 
-pub returns-in-No : goal.returns-in-No
-returns-in-No c =
+pub returns-in-Err : goal.returns-in-Err
+returns-in-Err c =
     let a = c.args in
     input_refused a.volume.now a.medium a.store a.name.now c.name_ok.ensures c.asked-o.ensures
-    c.in-No.is c.as_given.ensures
+    c.in-Err.is c.as_given.ensures
 
 pub find-f-requires : goal.find-f-requires
 find-f-requires c =

@@ -4,9 +4,9 @@ use Rattle.store.specs.Reading.{find_call}
 use Rattle.store.proofs.Laws.{asked_done}
 use Rattle.store.proofs.find.Goals as goal
 
-pub returns-in-No : goal.returns-in-No
+pub returns-in-Err : goal.returns-in-Err
 unfolding find_call on_done
-returns-in-No c = rw (← c.name_ok.ensures, told c.asked-o.ensures c.in-No.is)
+returns-in-Err c = rw (← c.name_ok.ensures, told c.asked-o.ensures c.in-Err.is)
 
 pub find-found-requires : goal.find-found-requires
 find-found-requires c =

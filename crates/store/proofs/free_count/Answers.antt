@@ -4,9 +4,9 @@ use Rattle.store.specs.Reading.{free_count_call}
 use Rattle.store.proofs.Laws.{asked_done}
 use Rattle.store.proofs.free_count.Goals as goal
 
-pub returns-in-No : goal.returns-in-No
+pub returns-in-Err : goal.returns-in-Err
 unfolding free_count_call on_done
-returns-in-No c = rw (told c.asked-o.ensures c.in-No.is)
+returns-in-Err c = rw (told c.asked-o.ensures c.in-Err.is)
 
 pub free_count-count-requires : goal.free_count-count-requires
 free_count-count-requires c =

@@ -8,11 +8,11 @@ returns-then-rows-counts c =
     let a = c.args in
     short_refused a.volume.now a.medium a.store a.dir.now a.counts.now a.rows.now c.if-rows-counts.true c.not_listed.ensures
 
-pub returns-in-No : goal.returns-in-No
-returns-in-No c =
+pub returns-in-Err : goal.returns-in-Err
+returns-in-Err c =
     let a = c.args in
     input_refused a.volume.now a.medium a.store a.dir.now a.counts.now a.rows.now c.if-rows-counts.false
-    c.dir_ok.ensures c.asked-o.ensures c.in-No.is c.not_listed-in-No.ensures
+    c.dir_ok.ensures c.asked-o.ensures c.in-Err.is c.not_listed-in-Err.ensures
 
 pub clear_counts-requires : goal.clear_counts-requires
 clear_counts-requires c =
@@ -30,12 +30,12 @@ count-c-requires c =
       cleared_zero a.counts.now c.clear_counts.ensures,
     )
 
-pub returns-in-No-c : goal.returns-in-No-c
-returns-in-No-c c =
+pub returns-in-Err-c : goal.returns-in-Err-c
+returns-in-Err-c c =
     let a = c.args in
     count_refused a.volume.now a.medium a.store a.dir.now a.counts.now a.rows.now c.if-rows-counts.false
     c.dir_ok.ensures c.asked-o.ensures c.in_default.is
-    c.clear_counts.ensures c.count-c.ensures c.in-No-c.is c.not_listed-in-No-c.ensures
+    c.clear_counts.ensures c.count-c.ensures c.in-Err-c.is c.not_listed-in-Err-c.ensures
 
 pub list_rows-made-requires : goal.list_rows-made-requires
 list_rows-made-requires c =

@@ -6,9 +6,9 @@ use Rattle.header.proofs.Accepted.{mount_ok}
 use Rattle.store.specs.Reading.{mount_call}
 use Rattle.store.proofs.mount.Goals as goal
 
-pub returns-in-No : goal.returns-in-No
+pub returns-in-Err : goal.returns-in-Err
 unfolding mount_call on_done
-returns-in-No c = rw (← c.mount-m.ensures, c.in-No.is)
+returns-in-Err c = rw (← c.mount-m.ensures, c.in-Err.is)
 
 pub filled-store-requires : goal.filled-store-requires
 filled-store-requires c =

@@ -2,11 +2,11 @@ use Rattle.store.proofs.Laws.{asked_done}
 use Rattle.store.proofs.Starts.{input_refused, named_started}
 use Rattle.store.proofs.reader.Goals as goal
 
-pub returns-in-No : goal.returns-in-No
-returns-in-No c =
+pub returns-in-Err : goal.returns-in-Err
+returns-in-Err c =
     let a = c.args in
     input_refused a.volume.now a.medium a.store a.name.now c.name_ok.ensures c.asked-o.ensures
-    c.in-No.is c.no_reader.ensures
+    c.in-Err.is c.no_reader.ensures
 
 pub find-f-requires : goal.find-f-requires
 find-f-requires c =

@@ -2,10 +2,10 @@ use Rattle.store.proofs.Laws.{asked_done}
 use Rattle.store.proofs.Starts.{id_refused, id_started}
 use Rattle.store.proofs.reader_of_id.Goals as goal
 
-pub returns-in-No : goal.returns-in-No
-returns-in-No c =
+pub returns-in-Err : goal.returns-in-Err
+returns-in-Err c =
     let a = c.args in
-    id_refused a.volume.now a.medium a.store a.id c.asked-o.ensures c.in-No.is c.no_reader.ensures
+    id_refused a.volume.now a.medium a.store a.id c.asked-o.ensures c.in-Err.is c.no_reader.ensures
 
 pub find_id-f-requires : goal.find_id-f-requires
 find_id-f-requires c =

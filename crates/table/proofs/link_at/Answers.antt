@@ -3,10 +3,10 @@ use Prim.Native.Nat.{◌+◌, ◌*◌}
 use Rattle.table.proofs.Numbers.{link_refused, link_read}
 use Rattle.table.proofs.link_at.Goals as goal
 
-pub returns-in-No : goal.returns-in-No
-returns-in-No c =
+pub returns-in-Err : goal.returns-in-Err
+returns-in-Err c =
     let args = c.args in
-    link_refused args.volume.now args.medium args.store args.chunk c.due-o.ensures c.in-No.is
+    link_refused args.volume.now args.medium args.store args.chunk c.due-o.ensures c.in-Err.is
 
 pub returns : goal.returns
 returns c =

@@ -7,12 +7,12 @@ use Rattle.append.proofs.Facts.{May, may_facts}
 use Rattle.append.proofs.Offers.{offer_refused, offer_done, sync_flushed}
 use Rattle.append.proofs.Appender.sync.Goals as goal
 
-pub returns-in-No : goal.returns-in-No
+pub returns-in-Err : goal.returns-in-Err
 unfolding sync_call
-returns-in-No c =
+returns-in-Err c =
     let a = c.args in
     offer_refused a.volume.now a.medium a.store a.self (sync_of a.volume.now a.medium a.store a.self) c.check-o.ensures
-    c.in-No.is c.stopped.ensures
+    c.in-Err.is c.stopped.ensures
 
 pub flush-requires : goal.flush-requires
 flush-requires c =

@@ -10,11 +10,11 @@ pub commit-c-requires : goal.commit-c-requires
 unfolding is_format
 commit-c-requires c = let p = c.requires in (p.0, (p.1.slot, omega (arith, p.2), p.4, p.1.chunk, p.3), refl, lit≤ tt)
 
-pub returns-in-No : goal.returns-in-No
-returns-in-No c =
+pub returns-in-Err : goal.returns-in-Err
+returns-in-Err c =
     let a = c.args in
     made_of c.stopped.ensures (link_refused a.volume.now a.medium a.store a.appender a.partial a.records a.next
-    c.commit-c.ensures c.in-No.is)
+    c.commit-c.ensures c.in-Err.is)
 
 pub moved_to-moved-requires : goal.moved_to-moved-requires
 moved_to-moved-requires c = c.requires.2

@@ -20,11 +20,11 @@ slice_bounds-remove_oldest-end c =
 pub remove_oldest-g-requires : goal.remove_oldest-g-requires
 remove_oldest-g-requires c = c.requires.0
 
-pub returns-in-No : goal.returns-in-No
-returns-in-No c =
+pub returns-in-Err : goal.returns-in-Err
+returns-in-Err c =
     let a = c.args in
     made_of c.stopped.ensures (rolled_refused a.volume.now a.medium a.store a.appender a.partial a.records (dir_slice a.appender.dir)
-    c.is_open-keeping.ensures c.open_id-keep.ensures c.remove_oldest-g.ensures c.in-No.is)
+    c.is_open-keeping.ensures c.open_id-keep.ensures c.remove_oldest-g.ensures c.in-Err.is)
 
 pub returns-then-not-g : goal.returns-then-not-g
 returns-then-not-g c =

@@ -35,16 +35,16 @@ put_run-x-requires c =
     c.loop-i.invariant.room c.loop-i-test.true in
     (c.loop-i.invariant.good.ok, c.loop-i.invariant.fit, t.2, t.3)
 
-pub shape_of-volume-in-No : goal.shape_of-volume-in-No
-shape_of-volume-in-No c =
+pub shape_of-volume-in-Err : goal.shape_of-volume-in-Err
+shape_of-volume-in-Err c =
     c.put_run-x.auto.volume ∙ c.loop-i.invariant.size
 
-pub returns-in-No : goal.returns-in-No
-returns-in-No c =
+pub returns-in-Err : goal.returns-in-Err
+returns-in-Err c =
     let l = c.loop-i in
     let g = c.args in
     along_same (append_of _ l.volume l.m l.s l.a) (append_of g.bytes.now g.volume.now g.medium g.store g.appender)
-    (put_stopped g.bytes.now l.i l.volume l.m l.s l.a _ c.put_run-x.ensures c.in-No.is) l.invariant.same
+    (put_stopped g.bytes.now l.i l.volume l.m l.s l.a _ c.put_run-x.ensures c.in-Err.is) l.invariant.same
 
 pub loop-i-smaller : goal.loop-i-smaller
 loop-i-smaller c =

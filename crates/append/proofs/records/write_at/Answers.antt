@@ -17,11 +17,11 @@ write_record-w-requires c =
     let a = c.args in
     (data_inside a.store a.appender.chunk a.index _ c.requires.1.chunk c.requires.2 h.room, fill_short a.appender c.requires.1.fill)
 
-pub returns-in-No : goal.returns-in-No
-returns-in-No c =
+pub returns-in-Err : goal.returns-in-Err
+returns-in-Err c =
     let a = c.args in
     made_of c.stopped.ensures (record_refused a.volume.now a.medium a.store a.appender a.index c.number_at-number.ensures
-    (fill_slice a.appender) c.write_record-w.ensures c.in-No.is)
+    (fill_slice a.appender) c.write_record-w.ensures c.in-Err.is)
 
 pub filed-next-requires : goal.filed-next-requires
 filed-next-requires c =

@@ -6,10 +6,10 @@ use Rattle.handles.proofs.Laws.{store_facts}
 use Rattle.append.proofs.Ways.{next_refused, next_written}
 use Rattle.append.proofs.records.write_next.Goals as goal
 
-pub returns-in-No : goal.returns-in-No
-returns-in-No c =
+pub returns-in-Err : goal.returns-in-Err
+returns-in-Err c =
     let a = c.args in
-    next_refused a.volume.now a.medium a.store a.appender a.partial a.records c.extend-x.ensures c.in-No.is
+    next_refused a.volume.now a.medium a.store a.appender a.partial a.records c.extend-x.ensures c.in-Err.is
 
 pub write_at-requires : goal.write_at-requires
 write_at-requires c =

@@ -1,10 +1,10 @@
 use Rattle.medium.specs.Refusal.{on_done}
 use Rattle.bridge_write.proofs.appenders.gone_code.Goals as goal
 
-pub returns-in-Done : goal.returns-in-Done
+pub returns-in-Ok : goal.returns-in-Ok
 unfolding on_done
-returns-in-Done c = rw c.in-Done.is
+returns-in-Ok c = rw c.in-Ok.is
 
-pub returns-in-No : goal.returns-in-No
+pub returns-in-Err : goal.returns-in-Err
 unfolding on_done
-returns-in-No c = rw c.in-No.is c.number.ensures
+returns-in-Err c = rw c.in-Err.is c.number.ensures

@@ -3,8 +3,8 @@ use borrow.Author.Rules.{rules}
 use Rattle.bridge_write.proofs.Gone.{name_refused, name_none, name_short, name_long}
 use Rattle.bridge_write.proofs.appenders.gone_length.Goals as goal
 
-pub returns-in-No : goal.returns-in-No
-returns-in-No c = name_refused _ c.in-No.is
+pub returns-in-Err : goal.returns-in-Err
+returns-in-Err c = name_refused _ c.in-Err.is
 
 pub returns-then-not-g : goal.returns-then-not-g
 returns-then-not-g c = name_none _ c.in_default.is (not-true _ c.if-not-g.true)

@@ -3,20 +3,20 @@ use Rattle.points.proofs.Offers.{line_sent, mark_unopened, mark_unput, mark_sync
 use Rattle.marks.specs.Line.{line_of}
 use Rattle.points.proofs.marking.mark.Goals as goal
 
-pub returns-in-No : goal.returns-in-No
-returns-in-No c =
+pub returns-in-Err : goal.returns-in-Err
+returns-in-Err c =
     let a = c.args in
     mark_unopened a.fresh (line_of a.point.now a.id a.number) a.number a.volume.now a.medium a.store c.open-o.result
-    c.open-o.ensures.0 c.open-o.ensures.1 c.told_by.result c.in-No.is c.told_by.ensures
+    c.open-o.ensures.0 c.open-o.ensures.1 c.told_by.result c.in-Err.is c.told_by.ensures
 
-pub returns-in-No-done : goal.returns-in-No-done
+pub returns-in-Err-done : goal.returns-in-Err-done
 unfolding zeros
-returns-in-No-done c =
+returns-in-Err-done c =
     let a = c.args in
     mark_unput a.fresh (line_of a.point.now a.id a.number) a.number a.volume.now a.medium a.store c.open-o.result
     c.open-o.ensures.0 c.open-o.ensures.1 c.in_default.is
     (line_sent _ c.line-length.ensures.0 c.line-length.ensures.1) c.append-a.result
-    c.append-a.ensures.0 c.append-a.ensures.1 c.told_by-in-No-done.result c.in-No-done.is c.told_by-in-No-done.ensures
+    c.append-a.ensures.0 c.append-a.ensures.1 c.told_by-in-Err-done.result c.in-Err-done.is c.told_by-in-Err-done.ensures
 
 pub returns : goal.returns
 unfolding zeros

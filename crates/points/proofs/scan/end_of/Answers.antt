@@ -1,10 +1,10 @@
 use Rattle.points.proofs.Scans.{end_refused, end_no, end_past, end_at_lem}
 use Rattle.points.proofs.scan.end_of.Goals as goal
 
-pub returns-in-No : goal.returns-in-No
-returns-in-No c =
+pub returns-in-Err : goal.returns-in-Err
+returns-in-Err c =
     let a = c.args in
-    end_refused a.volume.now a.medium a.store a.name.now c.reader-r.result c.reader-r.ensures c.in-No.is
+    end_refused a.volume.now a.medium a.store a.name.now c.reader-r.result c.reader-r.ensures c.in-Err.is
 
 pub returns-in-Refused : goal.returns-in-Refused
 returns-in-Refused c =

@@ -5,13 +5,13 @@ use Rattle.points.proofs.scan.look.Goals as goal
 pub returns-then-number-eq9 : goal.returns-then-number-eq9
 returns-then-number-eq9 c =
     let a = c.args in
-    look_absent a.volume.now a.medium a.store a.point.now c.reader-r.result c.reader-r.ensures c.in-No.is
+    look_absent a.volume.now a.medium a.store a.point.now c.reader-r.result c.reader-r.ensures c.in-Err.is
     c.number.ensures c.if-number-eq9.true
 
-pub returns-in-No : goal.returns-in-No
-returns-in-No c =
+pub returns-in-Err : goal.returns-in-Err
+returns-in-Err c =
     let a = c.args in
-    look_refused a.volume.now a.medium a.store a.point.now c.reader-r.result c.reader-r.ensures c.in-No.is
+    look_refused a.volume.now a.medium a.store a.point.now c.reader-r.result c.reader-r.ensures c.in-Err.is
     c.number.ensures (ne_eqb _ 9 c.if-number-eq9.false)
 
 pub returns-in-Refused : goal.returns-in-Refused

@@ -11,10 +11,10 @@ arrive-a-requires c =
     let h = store_facts _ _ c.requires.0 in
     (h.enough, h.head.chunks_most)
 
-pub returns-in-No : goal.returns-in-No
-returns-in-No c =
+pub returns-in-Err : goal.returns-in-Err
+returns-in-Err c =
     let a = c.args in
-    next_refused a.volume.now a.medium a.store a.self a.out.now c.arrive-a.ensures c.in-No.is
+    next_refused a.volume.now a.medium a.store a.self a.out.now c.arrive-a.ensures c.in-Err.is
 
 pub returns-then-not-a : goal.returns-then-not-a
 returns-then-not-a c =

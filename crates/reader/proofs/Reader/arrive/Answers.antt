@@ -13,11 +13,11 @@ returns-then-not-passed_end c =
     sym (arrive_here a.volume.now a.medium a.store c.loop-r.r c.loop-r-test.true
     (told c.passed_end.ensures c.if-not-passed_end.true)) ∙ c.loop-r.invariant
 
-pub returns-in-No : goal.returns-in-No
-returns-in-No c =
+pub returns-in-Err : goal.returns-in-Err
+returns-in-Err c =
     let a = c.args in
     sym (arrive_refused a.volume.now a.medium a.store c.loop-r.r c.loop-r-test.true
-    (told c.passed_end.ensures c.if-not-passed_end.false) c.enter-d.ensures c.in-No.is)
+    (told c.passed_end.ensures c.if-not-passed_end.false) c.enter-d.ensures c.in-Err.is)
     ∙ c.loop-r.invariant
 
 pub loop-r-smaller : goal.loop-r-smaller

@@ -14,11 +14,11 @@ arrive-a-requires c =
     let h = store_facts _ _ c.requires.0 in
     (h.enough, h.head.chunks_most)
 
-pub returns-in-No : goal.returns-in-No
-returns-in-No c =
+pub returns-in-Err : goal.returns-in-Err
+returns-in-Err c =
     let a = c.args in
     below_refused a.limit a.volume.now a.medium a.store a.self a.out.now c.stands_at-here.ensures
-    c.if-limit-here.false c.arrive-a.ensures c.in-No.is
+    c.if-limit-here.false c.arrive-a.ensures c.in-Err.is
 
 pub stands_at-there-requires : goal.stands_at-there-requires
 stands_at-there-requires c =

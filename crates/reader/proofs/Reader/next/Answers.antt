@@ -7,10 +7,10 @@ returns-then-out-lt486 c =
     let a = c.args in
     next_short a.volume.now a.medium a.store a.self a.out.now c.if-out-lt486.true
 
-pub returns-in-No : goal.returns-in-No
-returns-in-No c =
+pub returns-in-Err : goal.returns-in-Err
+returns-in-Err c =
     let a = c.args in
-    next_no a.volume.now a.medium a.store a.self a.out.now c.if-out-lt486.false c.check-o.ensures c.in-No.is
+    next_no a.volume.now a.medium a.store a.self a.out.now c.if-out-lt486.false c.check-o.ensures c.in-Err.is
 
 pub advance-t-requires : goal.advance-t-requires
 advance-t-requires c =

@@ -6,9 +6,9 @@ use Rattle.reader.proofs.Upto.next.Goals as goal
 pub returns-then-out-lt486 : goal.returns-then-out-lt486
 returns-then-out-lt486 c = upto_short _ _ _ _ _ c.if-out-lt486.true
 
-pub returns-in-No : goal.returns-in-No
-returns-in-No c =
-    upto_no _ _ _ _ _ c.if-out-lt486.false c.check-o.ensures c.in-No.is
+pub returns-in-Err : goal.returns-in-Err
+returns-in-Err c =
+    upto_no _ _ _ _ _ c.if-out-lt486.false c.check-o.ensures c.in-Err.is
 
 pub below-t-requires : goal.below-t-requires
 below-t-requires c =

@@ -6,11 +6,11 @@ use Rattle.le.proofs.Choices.{pick_false}
 use Rattle.store.proofs.Admits.{not_asked, by_dots}
 use Rattle.store.proofs.opening.admitted.Goals as goal
 
-pub returns-in-No : goal.returns-in-No
-returns-in-No c =
+pub returns-in-Err : goal.returns-in-Err
+returns-in-Err c =
     let a = c.args in
     not_asked a.volume.now a.store a.name.now a.rolls a.dir.now c.open_fine.ensures c.asked-o.ensures
-    c.in-No.is
+    c.in-Err.is
 
 pub returns : goal.returns
 returns c =

@@ -1,11 +1,11 @@
 use Rattle.store.proofs.Opens.{input_fits, open_refused, open_told}
 use Rattle.store.proofs.opening.open_append.Goals as goal
 
-pub returns-in-No : goal.returns-in-No
-returns-in-No c =
+pub returns-in-Err : goal.returns-in-Err
+returns-in-Err c =
     let a = c.args in
     open_refused a.volume.now a.medium a.store a.name.now a.rolls a.dir.now c.admitted-o.ensures
-    c.in-No.is c.refused.ensures
+    c.in-Err.is c.refused.ensures
 
 pub rollover_of-over-requires : goal.rollover_of-over-requires
 rollover_of-over-requires c =

@@ -8,9 +8,9 @@ pub loop-t-init : goal.loop-t-init
 unfolding checked_of
 loop-t-init c = at_start _ _ _ _ _
 
-pub returns-in-No : goal.returns-in-No
-returns-in-No c =
-    let q = c.in-No.is in
+pub returns-in-Err : goal.returns-in-Err
+returns-in-Err c =
+    let q = c.in-Err.is in
     q ∙ at_stop c.loop-t.invariant (omega arith) c.check-o.ensures q refl
 
 pub loop-t-preserved : goal.loop-t-preserved

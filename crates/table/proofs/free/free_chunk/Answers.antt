@@ -9,10 +9,10 @@ pub returns-then-not-map : goal.returns-then-not-map
 unfolding free_of
 returns-then-not-map c = by_walk _ _ _ _ _ _ c.if-not-map.true c.walk_free.ensures
 
-pub returns-in-No : goal.returns-in-No
+pub returns-in-Err : goal.returns-in-Err
 unfolding free_of
-returns-in-No c =
-    by_refusal _ _ _ _ _ _ c.if-not-map.false c.checked-o.ensures c.in-No.is
+returns-in-Err c =
+    by_refusal _ _ _ _ _ _ c.if-not-map.false c.checked-o.ensures c.in-Err.is
 
 pub returns-then-c-lt2048 : goal.returns-then-c-lt2048
 unfolding free_of pick_of

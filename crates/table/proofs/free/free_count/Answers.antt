@@ -8,10 +8,10 @@ pub returns-then-not-map : goal.returns-then-not-map
 unfolding free_count_of
 returns-then-not-map c = by_walk _ _ _ _ _ _ c.if-not-map.true c.walk_count.ensures
 
-pub returns-in-No : goal.returns-in-No
+pub returns-in-Err : goal.returns-in-Err
 unfolding free_count_of
-returns-in-No c =
-    by_refusal _ _ _ _ _ _ c.if-not-map.false c.checked-o.ensures c.in-No.is
+returns-in-Err c =
+    by_refusal _ _ _ _ _ _ c.if-not-map.false c.checked-o.ensures c.in-Err.is
 
 pub returns : goal.returns
 unfolding free_count_of

@@ -102,6 +102,13 @@ module _ (l : List ℕ) where
   unfolding plain_of pick
   plain_read max e = rw e
 
+pub plain_most : (max n : ℕ) (l : List ℕ) → plain_of max l ≡ Some n → n ≤ max
+plain_most max n l e = go (leading_zero l) refl
+  where
+    go : (t : Bool) → leading_zero l ≡ t → n ≤ max
+    go true z = let v : None ≡ Some n = sym (plain_zero l max z) ∙ e in absurd (cc)
+    go false z = decimal_most max n l (sym (plain_read l max z) ∙ e)
+
 pub ruleset zero_forms = (short_zero, long_zero)
 
 pub ruleset plain_forms = (plain_zero, plain_read)

@@ -3,7 +3,7 @@
 
 ghost use Rattle.std.specs.Prelude.{◌≡◌, ◌∷◌, ◌+◌, ◌≤◌, ◌<◌, length, drop};
 ghost use Rattle.decimal.specs.Fields.{field_len};
-ghost use Rattle.decimal.specs.Decimal.{is_digit, decimal_of, leading_zero, plain_of, decimal_text, Put};
+ghost use Rattle.decimal.specs.Decimal.{decimal_of, leading_zero, plain_of, decimal_text, Put};
 
 // The place of the first tab from here on, or the end of the line.
 pub fn field_end(line: &[u8], from: usize) -> usize

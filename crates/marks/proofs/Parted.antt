@@ -1,17 +1,17 @@
 -- What a record says, as the code finds it: the line feed, the ends of the fields, the name, the numbers. Assumes nothing.
 use Prim.Native.Nat.{ℕ, ◌+◌, ◌-◌, ◌<◌}
-use mathlib.Core.Path.{◌≡◌, refl, sym, ◌∙◌}
+use mathlib.Core.Path.{◌≡◌, refl}
 use mathlib.Core.Bool.{true, false}
 use mathlib.Core.List.{List, [], ◌∷◌, ◌++◌}
 use native.Mathlib.Omega.{arith}
 use borrow.Author.Tests.{eq-eqb, ne_eqb}
-use lib.ListN.{length, get_or, take, drop, length-append}
-use lib.Seq.{take_at, get_or_at}
+use lib.ListN.{length, get_or, take, drop}
 use Rattle.std.specs.Prelude.{Some, None}
 use Rattle.le.specs.Choice.{pick}
 use Rattle.runs.specs.Run.{same_bytes}
 use Rattle.runs.proofs.Splits.{some_part}
 use Rattle.names.specs.Names.{last_byte, all_but_last}
+use Rattle.names.proofs.Segments.{last_is, front_is}
 use Rattle.decimal.specs.Fields.{fields, field_len}
 use Rattle.decimal.specs.Decimal.{plain_of}
 use Rattle.decimal.proofs.Digits.{plain_most}
@@ -95,19 +95,12 @@ module _ (p x : List ℕ) where
 
 -- the same of a record that is parted into its last byte and the bytes before it
 module _ (p x text : List ℕ) (b : ℕ) (parted : x ≡ text ++ (b ∷ [])) where
-  ends : length x - 1 ≡ length text
-  ends = rw (parted, length-append) (omega arith)
-
-  last_is : get_or x (length x - 1) 0 ≡ b
-  last_is = rw parted (get_or_at text b [] 0 (length (text ++ (b ∷ [])) - 1) (sym (rw parted at ends)))
-
-  front_is : take (length x - 1) x ≡ text
-  front_is = rw parted (take_at text (b ∷ []) (length (text ++ (b ∷ [])) - 1) (sym (rw parted at ends)))
-
   pub last_other : (b ≡ 10 → ⊥) → says_of p x ≡ None
-  last_other h = no_feed p x (λ e. h (sym last_is ∙ e))
+  unfolding says_of pick
+  last_other h = rw (last_is x text b parted, ne_eqb b 10 h)
 
   pub last_feed : b ≡ 10 → says_of p x ≡ three_of p (fields text)
-  last_feed e = with_feed p x (last_is ∙ e) ∙ rw front_is
+  unfolding says_of pick
+  last_feed e = rw (last_is x text b parted, front_is x text b parted, eq-eqb b 10 e)
 
 pub ruleset line_feed = (no_byte, last_other, last_feed)

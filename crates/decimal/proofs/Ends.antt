@@ -3,27 +3,39 @@ use Prim.Native.Nat.{ℕ, suc, ◌+◌, ◌-◌, ◌≤◌, ◌<◌}
 use mathlib.Core.Path.{◌≡◌, ◌∙◌}
 use mathlib.Core.List.{List, [], ◌∷◌}
 use native.Mathlib.Omega.{arith}
-use borrow.Author.Tests.{eq-eqb, ne_eqb}
-use lib.ListN.{length, get_or, take, drop, length-drop}
+use lib.Dec.{eqb}
+use lib.ListN.{length, take, drop, length-drop}
 use lib.Seq.{take_all, drop-drop}
-use Rattle.le.proofs.Turns.{drop_one, drop_end}
+use mathlib.Core.Bool.{Bool, true, false, not, cond}
+use mathlib.Core.Path.{refl}
+use Rattle.std.specs.Prelude.{Option, Some, None}
+use Rattle.std.specs.List.{position, position_or_len}
+use Rattle.std.proofs.lemmas.Bool.Decides.{nat_tests}
+use Rattle.std.proofs.lemmas.List.Recursion.{is_position_or_len}
+use Rattle.std.proofs.lemmas.List.Sums.{prefix_len-le-length}
 use Rattle.runs.proofs.Splits.{len_here, len_on, len_none, whole, parted}
 use Rattle.decimal.specs.Fields.{fields, field_len}
 
--- ---- one turn of the loop that looks for a tab
+-- ---- the first field ends at the first tab
 
-module _ (l : List ℕ) (i : ℕ) where
-  pub field_stop : i < length l → get_or l i 0 ≡ 9 → field_len (drop i l) ≡ 0
-  unfolding field_len
-  field_stop h e = rw (drop_one l i h) (len_here 9 (get_or l i 0) (drop (i + 1) l) (eq-eqb (get_or l i 0) 9 e))
+first_tab : (l : List ℕ) → field_len l ≡ position_or_len (λ b. eqb b 9) l
+unfolding field_len
+first_tab = is_position_or_len field_len (λ b. eqb b 9) (len_none 9) (λ b bs. here b bs (eqb b 9) refl)
+  where
+    here : (b : ℕ) (bs : List ℕ) (t : Bool) → eqb b 9 ≡ t → field_len (b ∷ bs) ≡ cond t 0 (1 + field_len bs)
+    here b bs true e = len_here 9 b bs e
+    here b bs false e = len_on 9 b bs e
 
-  pub field_next : i < length l → (get_or l i 0 ≡ 9 → ⊥) → field_len (drop i l) ≡ 1 + field_len (drop (i + 1) l)
-  unfolding field_len
-  field_next h e = rw (drop_one l i h) (len_on 9 (get_or l i 0) (drop (i + 1) l) (ne_eqb (get_or l i 0) 9 e))
+-- where the search found it, and where it found none
+pub tab_found : (l : List ℕ) {o : Option ℕ} {n : ℕ} → o ≡ position (λ b. eqb b 9) l → o ≡ Some n → (field_len l ≡ n) × (n ≤ length l)
+tab_found l {n = n} e f =
+    let most = prefix_len-le-length (λ b. not (eqb b 9)) l in
+    grind (arith, nat_tests, first_tab l)
 
-  pub field_none : length l ≤ i → field_len (drop i l) ≡ 0
-  unfolding field_len
-  field_none h = rw (drop_end l i h) (len_none 9)
+pub tab_none : (l : List ℕ) {o : Option ℕ} → o ≡ position (λ b. eqb b 9) l → o ≡ None → field_len l ≡ length l
+tab_none l e f =
+    let most = prefix_len-le-length (λ b. not (eqb b 9)) l in
+    grind (arith, nat_tests, first_tab l)
 
 -- ---- the fields from a place on, by the end of the first of them
 

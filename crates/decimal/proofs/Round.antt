@@ -11,7 +11,7 @@ use lib.ListN.{length, get_or, length-append, get_or-append}
 use lib.Seq.{append_snoc}
 use Rattle.le.specs.Choice.{pick}
 use Rattle.le.proofs.Bools.{and_true}
-use Rattle.decimal.specs.declared.Number.TheVariants.{Nothing, Value}
+use Rattle.std.specs.Prelude.{Some, None}
 use Rattle.decimal.specs.Decimal.{is_digit, all_digits, value_from, decimal_from, leading_zero, plain_of, digits_of, decimal_text}
 use Rattle.decimal.proofs.Digits.{digit_range, decimal_some, decimal_said, short_zero, long_zero, plain_zero, plain_read}
 use Rattle.decimal.proofs.Texts.{one_digit, more_digits, fewer}
@@ -147,13 +147,13 @@ pub text_digits : (n : ℕ) → all_digits (decimal_text n) ≡ true
 unfolding decimal_text
 text_digits n = all_digits_lem 20 n
 
-from_text : (max n : ℕ) → n < 10 ^ 20 → n ≤ max → decimal_from max 0 (digits_of 20 n) ≡ Value n
+from_text : (max n : ℕ) → n < 10 ^ 20 → n ≤ max → decimal_from max 0 (digits_of 20 n) ≡ Some n
 unfolding decimal_from pick
 from_text max n m h = rw (all_digits_lem 20 n, value_back 19 n m, le-leb n max h)
 
 module _ (max n : ℕ) (wide : max < 18446744073709551616) where
   -- a number's text is read as the number
-  pub plain_text : n ≤ max → plain_of max (decimal_text n) ≡ Value n
+  pub plain_text : n ≤ max → plain_of max (decimal_text n) ≡ Some n
   unfolding decimal_text
   plain_text h =
       let m : n < 10 ^ 20 = omega arith in
@@ -161,12 +161,12 @@ module _ (max n : ℕ) (wide : max < 18446744073709551616) where
       plain_read (digits_of 20 n) max (no_zero 19 n m) ∙ sym (decimal_some max (digits_of 20 n) some) ∙ from_text max n m h
 
   -- and no other text is
-  pub plain_only : (l : List ℕ) → plain_of max l ≡ Value n → (l ≡ decimal_text n) × (n ≤ max)
+  pub plain_only : (l : List ℕ) → plain_of max l ≡ Some n → (l ≡ decimal_text n) × (n ≤ max)
   plain_only l e = go (leading_zero l) refl
     where
       go : (t : Bool) → leading_zero l ≡ t → (l ≡ decimal_text n) × (n ≤ max)
       go true z =
-          let v : Nothing ≡ Value n = sym (plain_zero l max z) ∙ e in
+          let v : None ≡ Some n = sym (plain_zero l max z) ∙ e in
           let q : ◌≡◌ {A = ℕ} 0 1 = cc in
           absurd (omega arith)
       go false z =

@@ -60,3 +60,5 @@ module _ (l : List ℕ) (i j left : ℕ) (h : i ≡ suc j) (k : j < length l) wh
 
   pub digits_last : left < 10 → drop j (set l j (48 + left)) ≡ digits_of i left ++ drop i l
   digits_last m = rw (put_front l j (48 + left) k, h, one_digit j left m)
+
+pub ruleset digit_puts = (digits_start, digits_last)

@@ -1,9 +1,7 @@
 -- Numbers in decimal, as bytes: read (01, "Hosts"; 02, S-1) and written. Assumes nothing.
-use Rattle.std.specs.Prelude.{ℕ, zero, suc, ◌+◌, ◌-◌, ◌*◌, ◌/◌, ◌%◌, ◌≡◌, Bool, true, ◌&&◌, List, [], ◌∷◌, ◌++◌, eqb, leb, ltb, length, get_or}
+use Rattle.std.specs.Prelude.{ℕ, zero, suc, ◌+◌, ◌-◌, ◌*◌, ◌/◌, ◌%◌, ◌≡◌, Bool, true, ◌&&◌, List, [], ◌∷◌, ◌++◌, eqb, leb, ltb, length, get_or, Option, Some, None}
 use Rattle.le.specs.Choice.{pick}
 use Rattle.le.specs.Part.{over}
-use Rattle.decimal.specs.declared.Number.{Number}
-use Rattle.decimal.specs.declared.Number.TheVariants.{Nothing, Value}
 
 -- ---- read
 
@@ -21,12 +19,12 @@ value_from n [] = n
 value_from n (b ∷ bs) = value_from (n * 10 + (b - 48)) bs
 
 -- the same where the bytes are digits and the number is at most the largest of its width; else there is none
-unfoldable pub decimal_from : ℕ → ℕ → List ℕ → Number
-decimal_from max n l = pick (all_digits l && leb (value_from n l) max) (Value (value_from n l)) Nothing
+unfoldable pub decimal_from : ℕ → ℕ → List ℕ → Option ℕ
+decimal_from max n l = pick (all_digits l && leb (value_from n l) max) (Some (value_from n l)) None
 
 -- the number of a field: no empty field is one, and leading zeros are allowed
-unfoldable pub decimal_of : ℕ → List ℕ → Number
-decimal_of max [] = Nothing
+unfoldable pub decimal_of : ℕ → List ℕ → Option ℕ
+decimal_of max [] = None
 decimal_of max (b ∷ bs) = decimal_from max 0 (b ∷ bs)
 
 -- `0` and more bytes after it; `0` alone has no leading zero
@@ -34,8 +32,8 @@ unfoldable pub leading_zero : List ℕ → Bool
 leading_zero l = leb 2 (length l) && eqb (get_or l 0 0) 48
 
 -- the number of a field where no leading zero is allowed
-unfoldable pub plain_of : ℕ → List ℕ → Number
-plain_of max l = pick (leading_zero l) Nothing (decimal_of max l)
+unfoldable pub plain_of : ℕ → List ℕ → Option ℕ
+plain_of max l = pick (leading_zero l) None (decimal_of max l)
 
 -- ---- written
 

@@ -3,79 +3,66 @@
 
 ghost use Rattle.std.specs.Prelude.{◌≡◌, ◌∷◌, ◌+◌, ◌≤◌, ◌<◌, length, drop};
 ghost use Rattle.decimal.specs.Fields.{field_len};
-ghost use Rattle.decimal.specs.Decimal.{is_digit, decimal_of, leading_zero, plain_of, decimal_text, Put};
-
-#[derive(Clone, Copy)]
-pub enum Number {
-    Nothing,
-    Value(u64),
-}
+ghost use Rattle.decimal.specs.Decimal.{decimal_of, leading_zero, plain_of, decimal_text, Put};
 
 // The place of the first tab from here on, or the end of the line.
 pub fn field_end(line: &[u8], from: usize) -> usize
     requires { from ≤ length line.now }
     ensures { (result ≡ from + field_len (drop from line.now)) × (from ≤ result) × (result ≤ length line.now) }
 {
-    for i in from..line.len() {
-        if line[i] == b'\t' {
-            return i;
-        }
+    match line[from..].iter().position(|b| *b == b'\t') {
+        Some(length) => from + length,
+        None => line.len(),
     }
-    line.len()
-}
-
-fn is_digit(b: u8) -> bool
-    ensures { result ≡ is_digit b }
-{
-    (b >= b'0') & (b <= b'9')
 }
 
 // Each step is tested before it is taken, so that no sum goes past the largest number.
-pub fn read(text: &[u8], max: u64) -> Number
+#[tactic(auto, unfolding(crate::specs::Decimal::is_digit), using(crate::proofs::Digits::digit_turns))]
+pub fn read(text: &[u8], max: u64) -> Option<u64>
     requires { 9 ≤ max }
     ensures { result ≡ decimal_of max text.now }
 {
-    if text.len() == 0 {
-        return Number::Nothing;
+    if text.is_empty() {
+        return None;
     }
     let mut value: u64 = 0;
-    for i in 0..text.len() {
-        let b = text[i];
-        if !is_digit(b) {
-            return Number::Nothing;
+    for b in text {
+        if !b.is_ascii_digit() {
+            return None;
         }
-        let digit = (b - b'0') as u64;
+        let digit = u64::from(*b - b'0');
         if value > (max - digit) / 10 {
-            return Number::Nothing;
+            return None;
         }
         value = value * 10 + digit;
     }
-    Number::Value(value)
+    Some(value)
 }
 
+#[tactic(auto, using(crate::proofs::Digits::zero_forms))]
 fn leading_zero(text: &[u8]) -> bool
     ensures { result ≡ leading_zero text.now }
 {
-    if text.len() < 2 {
-        return false;
-    }
-    text[0] == b'0'
+    text.len() >= 2 && text[0] == b'0'
 }
 
 // The same with no leading zero.
-pub fn plain(text: &[u8], max: u64) -> Number
+#[tactic(auto, unfolding(crate::specs::Decimal::plain_of), using(crate::proofs::Digits::plain_forms))]
+pub fn plain(text: &[u8], max: u64) -> Option<u64>
     requires { 9 ≤ max }
     ensures { result ≡ plain_of max text.now }
 {
     if leading_zero(text) {
-        return Number::Nothing;
+        None
+    } else {
+        read(text, max)
     }
-    read(text, max)
 }
 
 // The digits at the end of the buffer, the lowest first; answers where they start.
-fn put_digits(digits: &mut [u8], n: u64) -> usize
-    requires { length digits.old ≡ 20 }
+// Down by hand: how many there are is known only when the number is used up.
+#[tactic(auto, using(crate::proofs::Texts::digit_puts))]
+fn put_digits(digits: &mut [u8; 20], n: u64) -> usize
     ensures { (drop result digits.new ≡ decimal_text n) × (result < 20) }
 {
     let mut left = n;
@@ -83,7 +70,7 @@ fn put_digits(digits: &mut [u8], n: u64) -> usize
     while left >= 10 {
         i -= 1;
         digits[i] = b'0' + (left % 10) as u8;
-        left = left / 10;
+        left /= 10;
     }
     i -= 1;
     digits[i] = b'0' + left as u8;
@@ -91,6 +78,7 @@ fn put_digits(digits: &mut [u8], n: u64) -> usize
 }
 
 // Answers where the digits end.
+#[tactic(auto, using(crate::proofs::Puts::digits_lent, crate::proofs::Puts::digits_long))]
 pub fn put(out: &mut [u8], at: usize, n: u64) -> usize
     requires { at + length (decimal_text n) ≤ length out.old }
     ensures { Put at (decimal_text n) out.old out.new result }

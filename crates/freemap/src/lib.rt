@@ -5,6 +5,7 @@ ghost use Rattle.std.specs.Prelude.{◌≡◌, ◌*◌, ◌<◌, ◌≤◌, eqb,
 ghost use Rattle.freemap.specs.Map.{unfit_of, full_of, put_of, first_from, chosen_of, ones_of, map_ok};
 
 // A set bit for each free chunk. Where it is unfit no bit is set, and the table is walked instead.
+// A flag and not an `Option`: an unfit map with a set bit can be handed in, and must be refused.
 #[derive(Clone, Copy)]
 pub struct FreeMap {
     pub fit: bool,
@@ -21,14 +22,14 @@ pub fn unfit() -> FreeMap
     }
 }
 
-// The first set bit of the words from `from` on; 2,048 where there is none.
+// The first set bit of the words from `from` on; 2,048 where there is none. By index: the place of the word is the answer.
 fn first_word(words: [u64; 32], from: usize) -> u32
     ensures { result ≡ first_from words (64 * from) }
 {
     for j in from..32 {
         let w = words[j];
         if w != 0 {
-            return 64 * (j as u32) + u64::trailing_zeros(w);
+            return 64 * (j as u32) + w.trailing_zeros();
         }
     }
     2048
@@ -44,7 +45,7 @@ pub fn first_from(words: [u64; 32], from: u32) -> u32
     let j = (from / 64) as usize;
     let w = words[j] >> (from % 64);
     if w != 0 {
-        return from + u64::trailing_zeros(w);
+        return from + w.trailing_zeros();
     }
     first_word(words, j + 1)
 }
@@ -54,10 +55,7 @@ pub fn choose(words: [u64; 32], cursor: u32) -> u32
     ensures { result ≡ chosen_of words cursor }
 {
     let c = first_from(words, cursor);
-    if c < 2048 {
-        return c;
-    }
-    first_from(words, 0)
+    if c < 2048 { c } else { first_from(words, 0) }
 }
 
 // The number of set bits.
@@ -65,8 +63,8 @@ pub fn count(words: [u64; 32]) -> u32
     ensures { result ≡ ones_of words }
 {
     let mut n: u32 = 0;
-    for j in 0usize..32 {
-        n = n + u64::count_ones(words[j]);
+    for w in &words {
+        n += w.count_ones();
     }
     n
 }
@@ -111,6 +109,7 @@ fn none_after(words: &[u64], from: usize) -> bool
 }
 
 // Whether no bit at or after `from` is set. The words are lent: every call tests its map, and a copy would cost it more than the test.
+// Apart from `first_from`, which stops at the first word with a set bit: as one search, of words by value, it was slower.
 fn none_from(words: &[u64], from: u32) -> bool
     requires { length words.now ≡ 32 }
     ensures { result ≡ eqb (first_from words.now from) 2048 }
@@ -131,7 +130,8 @@ pub fn map_ok(map: FreeMap, chunks: u32) -> bool
     ensures { result ≡ map_ok map chunks }
 {
     if map.fit {
-        return none_from(&map.words[..], chunks);
+        none_from(&map.words[..], chunks)
+    } else {
+        none_from(&map.words[..], 0)
     }
-    none_from(&map.words[..], 0)
 }

@@ -16,8 +16,8 @@ use Rattle.le.proofs.Parts.{length_zeros}
 use Rattle.runs.specs.Split.{longer, split_at}
 use Rattle.walk.specs.Walk.{stop, after_visit, walk}
 use Rattle.names.specs.Names.{plain_byte, every_byte, none_empty, name_ok}
+use Rattle.std.specs.Prelude.{Option, Some, None}
 use Rattle.marks.specs.declared.Mark.{Mark}
-use Rattle.marks.specs.declared.Mark.TheVariants.{Nothing, At}
 use Rattle.marks.specs.Line.{marks_name, says_of}
 use Rattle.medium.specs.declared.Medium.{Medium}
 use Rattle.medium.specs.Refusal.{Answer, ok, refused, on_ok}
@@ -49,7 +49,7 @@ use Rattle.hatch.specs.Claim.{or_next, first_of}
 
 -- ---- the first record that says something
 
-silent : (l : List (List ℕ)) → first_of (λ x. Nothing) l ≡ Nothing
+silent : (l : List (List ℕ)) → first_of (λ x. None) l ≡ None
 unfolding first_of or_next
 silent [] = refl
 silent (x ∷ xs) = silent xs
@@ -98,9 +98,9 @@ module _ (vol : List ℕ) (m : Medium) (st : Store) where
 
   -- ---- a walk
 
-  module _ (says : List ℕ → Mark) where
+  module _ (says : List ℕ → Option Mark) where
     turn_end : (rd : Reader) → (next_call vol m st rd (zeros 486)).answer ≡ ok end
-        → turn_of says vol m st rd ≡ stop (ok (record { mark = Nothing; reader = (next_call vol m st rd (zeros 486)).reader }))
+        → turn_of says vol m st rd ≡ stop (ok (record { mark = None; reader = (next_call vol m st rd (zeros 486)).reader }))
     unfolding turn_of on_ok after_item
     turn_end rd q = rw q
 
@@ -110,17 +110,17 @@ module _ (vol : List ℕ) (m : Medium) (st : Store) where
     turn_payload rd x q e = rw q (ap (λ (y : List ℕ). after_mark (says y) (next_call vol m st rd (zeros 486)).reader) e)
 
     -- it comes to a record that says k, or, where k is nothing, to the end
-    pub record Sees (k : Mark) (id n : ℕ) (a : Answer Seen) : Type 0 where
+    pub record Sees (k : Option Mark) (id n : ℕ) (a : Answer Seen) : Type 0 where
       pub seen : Seen
       pub same : a ≡ ok seen
       pub mark : seen.mark ≡ k
       pub file : seen.reader.id ≡ id
-      pub stands : k ≡ Nothing → stands_at st seen.reader ≡ n
+      pub stands : k ≡ None → stands_at st seen.reader ≡ n
 
     -- the turns over these payloads, the last of which finds the end at n
     unfoldable Turns : ℕ → Reader → List (List ℕ) → Type 0
     Turns n rd [] =
-        (there : Reader) × (turn_of says vol m st rd ≡ stop (ok (record { mark = Nothing; reader = there }))) × (there.id ≡ rd.id) × (stands_at st there ≡ n)
+        (there : Reader) × (turn_of says vol m st rd ≡ stop (ok (record { mark = None; reader = there }))) × (there.id ≡ rd.id) × (stands_at st there ≡ n)
     Turns n rd (x ∷ xs) = (there : Reader) × (turn_of says vol m st rd ≡ after_mark (says x) there) × (there.id ≡ rd.id) × Turns n there xs
 
     turns_on : (n : ℕ) (rd : Reader) (l : List (List ℕ)) → GivesTo vol m st rd l n → Turns n rd l
@@ -130,7 +130,7 @@ module _ (vol : List ℕ) (m : Medium) (st : Store) where
         let c = g (zeros 486) enough in
         ((next_call vol m st rd (zeros 486)).reader, turn_payload rd x c.0 c.1, next_id vol m st rd (zeros 486), turns_on n (next_call vol m st rd (zeros 486)).reader xs c.2)
 
-    module _ (k : Mark) (id n : ℕ) (z : Stands id n) where
+    module _ (k : Option Mark) (id n : ℕ) (z : Stands id n) where
       -- where the turns are up: points/Ends says that they never are
       abbrev over : Reader → Answer Seen
       over rd = ok (record { mark = k; reader = z.reader })
@@ -138,13 +138,13 @@ module _ (vol : List ℕ) (m : Medium) (st : Store) where
       abbrev Walks : ℕ → ℕ → Reader → Type 0
       Walks count i rd = Sees k id n (walk (λ j. turn_of says vol m st) over count i rd)
 
-      sees_on : (count i : ℕ) (there : Reader) (rest : Mark) → there.id ≡ id → (rest ≡ k → Walks count i there) → (t : Mark) → or_next t rest ≡ k
+      sees_on : (count i : ℕ) (there : Reader) (rest : Option Mark) → there.id ≡ id → (rest ≡ k → Walks count i there) → (t : Option Mark) → or_next t rest ≡ k
           → Sees k id n (after_visit (after_mark t there) (λ u. walk (λ j. turn_of says vol m st) over count i u))
       unfolding after_mark or_next
-      sees_on count i there rest f more Nothing h = more h
-      sees_on count i there rest f more (At a b) h =
-          let never : k ≢ Nothing = λ q. let y : At a b ≡ Nothing = h ∙ q in let w : ◌≡◌ {A = ℕ} 0 1 = cc in absurd (omega arith) in
-          record { seen = record { mark = At a b; reader = there }; same = refl; mark = h; file = f; stands = λ q. absurd (never q) }
+      sees_on count i there rest f more None h = more h
+      sees_on count i there rest f more (Some said) h =
+          let never : k ≢ None = λ q. let y : Some said ≡ None = h ∙ q in let w : ◌≡◌ {A = ℕ} 0 1 = cc in absurd (omega arith) in
+          record { seen = record { mark = Some said; reader = there }; same = refl; mark = h; file = f; stands = λ q. absurd (never q) }
 
       abbrev Seeing : ℕ → ℕ → Reader → List (List ℕ) → Type 0
       Seeing count i rd l = Turns n rd l → rd.id ≡ id → first_of says l ≡ k → Walks count i rd
@@ -152,7 +152,7 @@ module _ (vol : List ℕ) (m : Medium) (st : Store) where
       turn_sees : (count i : ℕ) (rd : Reader) (l : List (List ℕ)) → ((there : Reader) (xs : List (List ℕ)) → Seeing count (i + 1) there xs) → Seeing (suc count) i rd l
       unfolding walk Turns first_of
       turn_sees count i rd [] more g f e =
-          rw g.1 (record { seen = record { mark = Nothing; reader = g.0 }; same = refl; mark = e; file = g.2 ∙ f; stands = λ _. g.3 })
+          rw g.1 (record { seen = record { mark = None; reader = g.0 }; same = refl; mark = e; file = g.2 ∙ f; stands = λ _. g.3 })
       turn_sees count i rd (x ∷ xs) more g f e =
           rw g.1 (sees_on count (i + 1) g.0 (first_of says xs) (g.2 ∙ f) (λ h. more g.0 xs g.3 (g.2 ∙ f) h) (says x) e)
 
@@ -194,7 +194,7 @@ module _ (vol : List ℕ) (m : Medium) (st : Store) (G : ℕ → List Segment) (
     pub end_book : end_of vol m st f.name ≡ ok (f.id, ends_at)
     unfolding end_of on_ok record_call pick stands_at
     end_book =
-        let s = walk_gives vol m st (λ x. Nothing) rd f.payloads ends_at ends in
+        let s = walk_gives vol m st (λ x. None) rd f.payloads ends_at ends in
         let n = s.stands (silent f.payloads) in
         rw ((each_reads vol m st G b w r f mem).0, s.same, n, lt-ltb _ _ end_fits, s.file, own)
 

@@ -8,9 +8,9 @@ use mathlib.Core.Bool.{Bool, true, false}
 use mathlib.Core.List.Memᴰ
 use mathlib.Core.List.{List, [], ◌∷◌, ◌++◌, map, Memᴰ}
 use native.Mathlib.Omega.{arith}
+use Rattle.std.specs.Prelude.{Some, None}
 use Rattle.le.specs.Choice.{pick}
 use Rattle.names.specs.Names.{point_ok}
-use Rattle.marks.specs.declared.Mark.TheVariants.{Nothing, At}
 use Rattle.marks.specs.Line.{marks_name, line_of, says_of}
 use Rattle.marks.proofs.Round.{line_back, line_other}
 use Rattle.medium.specs.declared.Medium.{Medium}
@@ -70,13 +70,13 @@ differ_more (x ∷ qs) q d t h = (d.0, λ r m. go r (more_mem r qs q m), differ_
 
 -- ---- what their lines say
 
-says_none : (p : List ℕ) (qs : List Pin) → Differ qs → ((q : Pin) → Memᴰ q qs → q.name ≢ p) → first_of (says_of p) (map pin_line qs) ≡ Nothing
+says_none : (p : List ℕ) (qs : List Pin) → Differ qs → ((q : Pin) → Memᴰ q qs → q.name ≢ p) → first_of (says_of p) (map pin_line qs) ≡ None
 unfolding first_of or_next
 says_none p [] d h = refl
 says_none p (q ∷ qs) d h =
     rw (line_other q.name d.0.name q.id q.number p (h q (Memᴰ.head refl))) (says_none p qs d.2 (λ r m. h r (Memᴰ.tail m)))
 
-says_pin : (qs : List Pin) → Differ qs → (q : Pin) → Memᴰ q qs → first_of (says_of q.name) (map pin_line qs) ≡ At q.id q.number
+says_pin : (qs : List Pin) → Differ qs → (q : Pin) → Memᴰ q qs → first_of (says_of q.name) (map pin_line qs) ≡ Some (record { id = q.id; number = q.number })
 unfolding first_of or_next
 says_pin [] d q m = elim m [ ]
 says_pin (x ∷ qs) d q (Memᴰ.head e) =

@@ -13,8 +13,8 @@ use lib.Seq.{take_all}
 use Rattle.le.specs.Choice.{pick}
 use Rattle.names.specs.Names.{point_ok}
 use Rattle.decimal.proofs.Texts.{text_room}
+use Rattle.std.specs.Prelude.{Option, None}
 use Rattle.marks.specs.declared.Mark.{Mark}
-use Rattle.marks.specs.declared.Mark.TheVariants.{Nothing}
 use Rattle.marks.specs.Line.{marks_name, line_of, says_of}
 use Rattle.marks.proofs.Round.{line_other, line_some}
 use Rattle.medium.specs.Refusal.{on_ok}
@@ -201,7 +201,7 @@ module _ (w : World) (b : Fine) (k : Keeps w b) (fresh : Bool) (left₁ left₂ 
 -- ---- a setting
 
 -- a further record that says nothing
-first_more : (says : List ℕ → Mark) (l : List (List ℕ)) (x : List ℕ) → says x ≡ Nothing → first_of says (l ++ (x ∷ [])) ≡ first_of says l
+first_more : (says : List ℕ → Option Mark) (l : List (List ℕ)) (x : List ℕ) → says x ≡ None → first_of says (l ++ (x ∷ [])) ≡ first_of says l
 unfolding first_of or_next
 first_more says [] x e = rw e
 first_more says (y ∷ l) x e = ap (or_next (says y)) (first_more says l x e)
@@ -251,7 +251,7 @@ module _ (w : World) (b : Fine) (k : Keeps w b) (point name : List ℕ) where
   set_line = set_ways w point name Lines (λ h. absurd (false≢true h)) (λ fresh e f _. ((asked_passed _ point refl f.asked).1, (e, is_for fresh e f)))
 
   -- a line of another name says nothing
-  other_said : (q : List ℕ) → q ≢ point → is_ok (set_in w point name).call.answer ≡ true → says_of q (line_for w point name) ≡ Nothing
+  other_said : (q : List ℕ) → q ≢ point → is_ok (set_in w point name).call.answer ≡ true → says_of q (line_for w point name) ≡ None
   other_said q n a = let l = set_line a in rw l.1.1 (line_other point l.0 l.1.0.0 l.1.0.1 q (λ e. n (sym e)))
 
   -- on 01's book

@@ -1,10 +1,9 @@
 -- 02, S-1, in demand 3: a history with settings and readings of points loses no batch either, since each counts as the calls that it makes; and "after
 -- a power stop a point is wholly there or absent". Assumes nothing.
-use Rattle.std.specs.Prelude.{ℕ, ◌<◌, ◌≡◌, ◌↔◌, ◌≢◌, Bool, true, false, List, [], ◌∷◌, ◌++◌, get_or}
+use Rattle.std.specs.Prelude.{ℕ, ◌<◌, ◌≡◌, ◌↔◌, ◌≢◌, Bool, true, false, List, [], ◌∷◌, ◌++◌, get_or, Option, Some, None}
 use Rattle.le.specs.Choice.{pick}
 use Rattle.runs.specs.Run.{same_bytes}
 use Rattle.marks.specs.declared.Mark.{Mark}
-use Rattle.marks.specs.declared.Mark.TheVariants.{Nothing, At}
 use Rattle.marks.specs.Line.{marks_name, line_of, says_of}
 use Rattle.medium.specs.declared.Medium.{Medium}
 use Rattle.medium.specs.Refusal.{ok, on_ok}
@@ -78,12 +77,12 @@ unfoldable pub line_for : World → List ℕ → List ℕ → List ℕ
 line_for w point name = on_ok (end_of w.vol w.medium w.store name) (λ e. line_of point e.0 e.1) (λ n. [])
 
 -- what the records of `MARKS` say of a point: the first of them that says anything
-unfoldable pub or_next : Mark → Mark → Mark
-or_next Nothing k = k
-or_next (At id number) k = At id number
+unfoldable pub or_next : Option Mark → Option Mark → Option Mark
+or_next None k = k
+or_next (Some said) k = Some said
 
-unfoldable pub first_of : (List ℕ → Mark) → List (List ℕ) → Mark
-first_of says [] = Nothing
+unfoldable pub first_of : (List ℕ → Option Mark) → List (List ℕ) → Option Mark
+first_of says [] = None
 first_of says (x ∷ xs) = or_next (says x) (first_of says xs)
 
 -- what a setting in a world leaves of the book: the line of the point stands in `MARKS`, behind the others, exactly if the setting was accepted. Refused,

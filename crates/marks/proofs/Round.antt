@@ -7,7 +7,8 @@ use native.Mathlib.Omega.{arith}
 use borrow.Author.Tests.{eqb-true, eqb-false}
 use lib.Dec.{eqb}
 use lib.ListN.{length, get_or, take, length-append}
-use lib.Seq.{take_at, get_or_at, take_all, take-suc}
+use lib.Seq.{take_all, take-suc}
+use Rattle.std.specs.Prelude.{Option, Some, None}
 use Rattle.le.specs.Choice.{pick}
 use Rattle.le.proofs.Bools.{and_true}
 use Rattle.runs.specs.Run.{same_bytes}
@@ -15,15 +16,13 @@ use Rattle.runs.specs.Split.{split_at}
 use Rattle.runs.proofs.Splits.{len_on}
 use Rattle.runs.proofs.Tests.{same_self, same_true}
 use Rattle.names.specs.Names.{between, plain_byte, every_plain, point_ok}
-use Rattle.decimal.specs.declared.Number.{Number}
-use Rattle.decimal.specs.declared.Number.TheVariants.{Nothing as none, Value}
 use Rattle.decimal.specs.Fields.{fields, field_len}
 use Rattle.decimal.specs.Decimal.{plain_of, decimal_text}
 use Rattle.decimal.proofs.Round.{text_short, text_digits, plain_text, plain_only}
 use Rattle.decimal.proofs.Joins.{joined, joined_fields, digits_field, field_then, field_alone}
-use Rattle.marks.specs.declared.Mark.TheVariants.{Nothing, At}
+use Rattle.marks.specs.declared.Mark.{Mark}
 use Rattle.marks.specs.Line.{line_of, mark_of, numbers_of, three_of, says_of}
-use Rattle.marks.proofs.Parted.{both, other_first, no_feed, with_feed}
+use Rattle.marks.proofs.Parted.{both, other_first, no_feed, with_feed, last_feed}
 
 -- ---- a point's name has no tab
 
@@ -48,19 +47,6 @@ point_field p ok = plain_field p (and_true (between 1 16 (length p)) (every_plai
 
 -- ---- a text and a line feed
 
-module _ (t : List ℕ) where
-  ends : length (t ++ (10 ∷ [])) - 1 ≡ length t
-  ends = rw length-append (omega arith)
-
-  feed_last : get_or (t ++ (10 ∷ [])) (length (t ++ (10 ∷ [])) - 1) 0 ≡ 10
-  feed_last = get_or_at t 10 [] 0 (length (t ++ (10 ∷ [])) - 1) (sym ends)
-
-  feed_front : take (length (t ++ (10 ∷ [])) - 1) (t ++ (10 ∷ [])) ≡ t
-  feed_front = take_at t (10 ∷ []) (length (t ++ (10 ∷ [])) - 1) (sym ends)
-
-  with_line : (p : List ℕ) → says_of p (t ++ (10 ∷ [])) ≡ three_of p (fields t)
-  with_line p = with_feed p (t ++ (10 ∷ [])) feed_last ∙ rw feed_front
-
 feed_back : (x : List ℕ) → get_or x (length x - 1) 0 ≡ 10 → x ≡ take (length x - 1) x ++ (10 ∷ [])
 feed_back [] e = absurd (omega arith)
 feed_back (b ∷ bs) e =
@@ -83,48 +69,50 @@ module _ (p : List ℕ) (id n : ℕ) where
       ∙ rw (field_then (decimal_text id) (decimal_text n) (digits_field (decimal_text id) (text_digits id)), field_alone (decimal_text n) (digits_field (decimal_text n) (text_digits n)))
 
   line_said : (q : List ℕ) → field_len p ≡ length p → says_of q (line_of p id n) ≡ three_of q three
-  line_said q h = rw line_joined (with_line (joined three) q ∙ rw (line_fields h))
+  line_said q h = rw line_joined (last_feed q (joined three ++ (10 ∷ [])) (joined three) 10 refl refl ∙ rw (line_fields h))
 
 -- ---- the laws
 
 module _ (p : List ℕ) (ok : point_ok p ≡ true) (id n : ℕ) where
   -- a point's line says its numbers
-  pub line_back : id < 4294967296 → n < 4294967296 → says_of p (line_of p id n) ≡ At id n
+  pub line_back : id < 4294967296 → n < 4294967296 → says_of p (line_of p id n) ≡ Some (record { id = id; number = n })
   unfolding three_of pick
   line_back h k =
       line_said p id n p (point_field p ok)
       ∙ rw (same_self p) (both (decimal_text id) (decimal_text n) (plain_text 4294967295 id (omega arith) (omega arith)) (plain_text 4294967295 n (omega arith) (omega arith)))
 
   -- and nothing of another name
-  pub line_other : (q : List ℕ) → (p ≡ q → ⊥) → says_of q (line_of p id n) ≡ Nothing
+  pub line_other : (q : List ℕ) → (p ≡ q → ⊥) → says_of q (line_of p id n) ≡ None
   line_other q h = line_said p id n q (point_field p ok) ∙ go (same_bytes p q) refl
     where
-      go : (t : Bool) → same_bytes p q ≡ t → three_of q (three p id n) ≡ Nothing
+      go : (t : Bool) → same_bytes p q ≡ t → three_of q (three p id n) ≡ None
       go true e = absurd (h (same_true p q e))
       go false e = other_first q p (decimal_text id ∷ decimal_text n ∷ []) e
 
-never : {A : Type 0} {id n : ℕ} → Nothing ≡ At id n → A
+never : {A : Type 0} {m : Mark} → None ≡ Some m → A
 never e = let z : ◌≡◌ {A = ℕ} 0 1 = cc in absurd (omega arith)
 
-mark_said : (a b : Number) (id n : ℕ) → mark_of a b ≡ At id n → (a ≡ Value id) × (b ≡ Value n)
+mark_said : (a b : Option ℕ) (id n : ℕ) → mark_of a b ≡ Some (record { id = id; number = n }) → (a ≡ Some id) × (b ≡ Some n)
 unfolding mark_of
-mark_said (Value i) (Value k) id n e = (cc, cc)
-mark_said (Value i) none id n e = never e
-mark_said none b id n e = never e
+mark_said (Some i) (Some k) id n e =
+    let m : ◌≡◌ {A = Mark} (record { id = i; number = k }) (record { id = id; number = n }) = cc in
+    (ap (λ (x : Mark). Some x.id) m, ap (λ (x : Mark). Some x.number) m)
+mark_said (Some i) None id n e = never e
+mark_said None b id n e = never e
 
 -- no other record does: what says something is the line of what it says
 module _ (p : List ℕ) (id n : ℕ) where
   Said : List (List ℕ) → Type 0
   Said fs = (fs ≡ three p id n) × (id < 4294967296) × (n < 4294967296)
 
-  three_only : (fs : List (List ℕ)) → three_of p fs ≡ At id n → Said fs
+  three_only : (fs : List (List ℕ)) → three_of p fs ≡ Some (record { id = id; number = n }) → Said fs
   unfolding three_of pick numbers_of Said
   three_only [] e = never e
   three_only (a ∷ []) e = never e
   three_only (a ∷ b ∷ []) e = never e
   three_only (a ∷ b ∷ c ∷ []) e = go (same_bytes a p) refl e
     where
-      go : (t : Bool) → same_bytes a p ≡ t → pick t (numbers_of b c) Nothing ≡ At id n → Said (a ∷ b ∷ c ∷ [])
+      go : (t : Bool) → same_bytes a p ≡ t → pick t (numbers_of b c) None ≡ Some (record { id = id; number = n }) → Said (a ∷ b ∷ c ∷ [])
       go true s h =
           let m = mark_said (plain_of 4294967295 b) (plain_of 4294967295 c) id n h in
           let i = plain_only 4294967295 id (omega arith) b m.0 in
@@ -133,7 +121,7 @@ module _ (p : List ℕ) (id n : ℕ) where
       go false s h = never h
   three_only (a ∷ b ∷ c ∷ d ∷ fs) e = never e
 
-  pub line_only : (x : List ℕ) → says_of p x ≡ At id n → (x ≡ line_of p id n) × (id < 4294967296) × (n < 4294967296)
+  pub line_only : (x : List ℕ) → says_of p x ≡ Some (record { id = id; number = n }) → (x ≡ line_of p id n) × (id < 4294967296) × (n < 4294967296)
   unfolding Said
   line_only x e = go (eqb (get_or x (length x - 1) 0) 10) refl
     where

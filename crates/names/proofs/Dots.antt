@@ -1,66 +1,33 @@
--- S-5: one pass over a name that looks for a dot where a segment starts, as the code goes, and that it is the definition. Assumes nothing.
-use Prim.Native.Nat.{ℕ, ◌+◌, ◌≤◌, ◌<◌}
-use mathlib.Core.Path.{◌≡◌, refl, sym}
-use mathlib.Core.Bool.{Bool, true, false, ◌&&◌, ◌||◌, and-false}
+-- S-5: a dot name by its segments, as the code looks at them. Assumes nothing.
+use Prim.Native.Nat.{ℕ}
+use mathlib.Core.Path.{◌≡◌, refl, sym, ap, ◌∙◌}
+use mathlib.Core.Bool.{Bool, false, ◌||◌}
 use mathlib.Core.List.{List, [], ◌∷◌}
-use borrow.Author.Tests.{eqb-true}
+use native.Mathlib.Omega.{arith}
 use lib.Dec.{eqb}
-use lib.ListN.{length, get_or, drop}
-use Rattle.le.specs.Choice.{pick}
-use Rattle.le.proofs.Turns.{drop_one, drop_end}
-use Rattle.runs.specs.Split.{longer, split_at}
+use lib.ListN.{length, get_or}
+use Rattle.std.specs.List.{list_any, slice_split}
 use Rattle.names.specs.Names.{is_slash, segments, begins_dot, some_dot, dotted}
-use Rattle.names.proofs.Scan.{others, left}
+use Rattle.names.proofs.Segments.{as_split}
 
--- a dot where a segment starts
-abbrev pub starts : Bool → ℕ → Bool
-starts fresh b = fresh && eqb b 46
+pub no_dot : (s : List ℕ) → length s ≡ 0 → begins_dot s ≡ false
+unfolding begins_dot
+no_dot [] e = refl
+no_dot (b ∷ bs) e = absurd (omega arith)
 
--- the bytes from here on. Only proofs speak of it: `dot_scan` ties it to `dotted`
-unfoldable pub dots : Bool → List ℕ → Bool
-dots fresh [] = false
-dots fresh (b ∷ bs) = starts fresh b || dots (is_slash b) bs
+pub dot_first : (s : List ℕ) → (length s ≡ 0 → ⊥) → begins_dot s ≡ eqb (get_or s 0 0) 46
+unfolding begins_dot
+dot_first [] h = absurd (h refl)
+dot_first (b ∷ bs) h = refl
 
--- ---- the pass is the split
+pub ruleset first_dot = (no_dot, dot_first)
 
-left_longer : (fresh : Bool) (b : ℕ) (ss : List (List ℕ)) → some_dot (left fresh (longer b ss)) ≡ (starts fresh b || some_dot (others ss))
-unfolding some_dot begins_dot longer
-left_longer true b [] = refl
-left_longer true b (s ∷ ss) = refl
-left_longer false b [] = refl
-left_longer false b (s ∷ ss) = refl
+some_part_dot : (ss : List (List ℕ)) → list_any begins_dot ss ≡ some_dot ss
+unfolding some_dot
+some_part_dot [] = refl
+some_part_dot (s ∷ ss) = ap (λ (t : Bool). begins_dot s || t) (some_part_dot ss)
 
-slash_no_dot : (fresh : Bool) (b : ℕ) → is_slash b ≡ true → starts fresh b ≡ false
-slash_no_dot fresh b e = rw (eqb-true b 47 e) (and-false fresh)
-
-module _ (b : ℕ) (bs : List ℕ) (rest : (fresh : Bool) → dots fresh bs ≡ some_dot (left fresh (segments bs))) where
-  dots_byte : (fresh s : Bool) → is_slash b ≡ s → dots fresh (b ∷ bs) ≡ some_dot (left fresh (segments (b ∷ bs)))
-  unfolding dots split_at some_dot begins_dot pick
-  dots_byte true true e = rw (slash_no_dot true b e, e) (rest true)
-  dots_byte false true e = rw e (rest true)
-  dots_byte fresh false e = rw (e, left_longer fresh b (segments bs), rest false)
-
-dots_left : (l : List ℕ) (fresh : Bool) → dots fresh l ≡ some_dot (left fresh (segments l))
-unfolding dots split_at some_dot begins_dot
-dots_left [] true = refl
-dots_left [] false = refl
-dots_left (b ∷ bs) fresh = dots_byte b bs (dots_left bs) fresh (is_slash b) refl
-
-pub dot_scan : (l : List ℕ) → dotted l ≡ dots true l
+-- what the code asks of each part
+pub by_parts : (l : List ℕ) {t : Bool} → t ≡ list_any begins_dot (slice_split is_slash l) → t ≡ dotted l
 unfolding dotted
-dot_scan l = sym (dots_left l true)
-
--- ---- one turn of the loop
-
-module _ (l : List ℕ) (i : ℕ) (fresh : Bool) (h : i < length l) where
-  pub dots_next : starts fresh (get_or l i 0) ≡ false → dots (is_slash (get_or l i 0)) (drop (i + 1) l) ≡ dots fresh (drop i l)
-  unfolding dots
-  dots_next e = rw (drop_one l i h, e)
-
-  pub dots_stop : starts fresh (get_or l i 0) ≡ true → dots fresh (drop i l) ≡ true
-  unfolding dots
-  dots_stop e = rw (drop_one l i h, e)
-
-pub dots_end : (l : List ℕ) (i : ℕ) (fresh : Bool) → length l ≤ i → dots fresh (drop i l) ≡ false
-unfolding dots
-dots_end l i fresh h = rw (drop_end l i h)
+by_parts l e = e ∙ ap (list_any begins_dot) (sym (as_split l)) ∙ some_part_dot (segments l)

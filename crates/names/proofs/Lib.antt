@@ -1,5 +1,5 @@
-pub mod Scan
+pub mod Segments
+pub mod Zeros
 pub mod Laws
 pub mod Edges
-pub mod Points
 pub mod Dots

@@ -1,57 +1,52 @@
 // Names of files and of directories: what the Rust has as `Name`, `Dir`, `path` and `is_in`.
 #![tactic(auto)]
 
-ghost use Rattle.std.specs.Prelude.{◌≡◌, ◌≤◌, length};
-ghost use Rattle.names.specs.Names.{plain_byte, name_ok, dir_ok, in_dir, text_len, point_ok, dotted};
+ghost use Rattle.std.specs.Prelude.{◌≡◌, ◌≤◌, ◌&&◌, leb, length};
+ghost use Rattle.names.specs.Names.{plain_byte, every_plain, name_ok, dir_ok, in_dir, text_len, point_ok, begins_dot, dotted};
 
 // The most bytes of a name, and of a directory with its `/`.
 pub const NAME: usize = 40;
 
+#[tactic(auto, unfolding(crate::specs::Names::plain_byte), using(crate::proofs::Segments::in_turn))]
 fn plain_byte(b: u8) -> bool
     ensures { result ≡ plain_byte b }
 {
-    ((b >= b'A') & (b <= b'Z'))
-        | ((b >= b'a') & (b <= b'z'))
-        | ((b >= b'0') & (b <= b'9'))
-        | (b == b'.')
-        | (b == b'_')
-        | (b == b'-')
+    b.is_ascii_alphanumeric() || matches!(b, b'.' | b'_' | b'-')
 }
 
-// One pass: `fresh` says that a segment starts here, where neither a slash nor the end may stand.
+// A byte at least, and none but those of a name's alphabet without `/`.
+fn segment_ok(segment: &[u8]) -> bool
+    ensures { result ≡ (leb 1 (length segment.now) && every_plain segment.now) }
+{
+    !segment.is_empty() && segment.iter().all(|b| plain_byte(*b))
+}
+
+#[tactic(auto, using(crate::proofs::Segments::too_long))]
 pub fn name_ok(bytes: &[u8]) -> bool
     ensures { result ≡ name_ok bytes.now }
 {
     if bytes.len() > NAME {
         return false;
     }
-    let mut fresh = true;
-    for i in 0..bytes.len() {
-        let b = bytes[i];
-        let slash = b == b'/';
-        let fine = plain_byte(b) | (slash & !fresh);
-        if !fine {
-            return false;
-        }
-        fresh = slash;
-    }
-    !fresh
+    bytes
+        .split(|b| *b == b'/')
+        .all(|segment| segment_ok(segment))
 }
 
+#[tactic(auto, using(crate::proofs::Segments::dir_forms))]
 pub fn dir_ok(bytes: &[u8]) -> bool
     ensures { result ≡ dir_ok bytes.now }
 {
-    if bytes.len() == 0 {
+    let Some((last, name)) = bytes.split_last() else {
         return true;
-    }
+    };
     if bytes.len() > NAME {
         return false;
     }
-    let last = bytes.len() - 1;
-    if bytes[last] != b'/' {
+    if *last != b'/' {
         return false;
     }
-    name_ok(&bytes[0..last])
+    name_ok(name)
 }
 
 // A directory longer than the name is not before it.
@@ -68,46 +63,32 @@ pub fn in_dir(dir: &[u8], name: &[u8]) -> bool
 pub fn text_len(bytes: &[u8]) -> usize
     ensures { (result ≡ text_len bytes.now) × (result ≤ length bytes.now) }
 {
-    for i in 0..bytes.len() {
-        if bytes[i] == 0 {
-            return i;
-        }
-    }
-    bytes.len()
+    bytes.iter().position(|b| *b == 0).unwrap_or(bytes.len())
 }
 
 // S-1: the most bytes of a point's name.
 pub const POINT: usize = 16;
 
 // S-1: the name of a point.
+#[tactic(auto, unfolding(crate::specs::Names::point_ok))]
 pub fn point_ok(bytes: &[u8]) -> bool
     ensures { result ≡ point_ok bytes.now }
 {
-    if bytes.len() == 0 {
-        return false;
-    }
-    if bytes.len() > POINT {
-        return false;
-    }
-    for i in 0..bytes.len() {
-        if !plain_byte(bytes[i]) {
-            return false;
-        }
-    }
-    true
+    bytes.len() <= POINT && segment_ok(bytes)
 }
 
-// S-5: a dot name: one of its segments begins with a dot. One pass, as in `name_ok`: `fresh` says that a segment starts here.
+#[tactic(auto, using(crate::proofs::Dots::first_dot))]
+fn begins_dot(segment: &[u8]) -> bool
+    ensures { result ≡ begins_dot segment.now }
+{
+    !segment.is_empty() && segment[0] == b'.'
+}
+
+// S-5: a dot name: one of its segments begins with a dot.
 pub fn dotted(bytes: &[u8]) -> bool
     ensures { result ≡ dotted bytes.now }
 {
-    let mut fresh = true;
-    for i in 0..bytes.len() {
-        let b = bytes[i];
-        if fresh & (b == b'.') {
-            return true;
-        }
-        fresh = b == b'/';
-    }
-    false
+    bytes
+        .split(|b| *b == b'/')
+        .any(|segment| begins_dot(segment))
 }

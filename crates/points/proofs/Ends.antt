@@ -15,8 +15,8 @@ use Rattle.le.proofs.Parts.{length_zeros}
 use Rattle.le.proofs.Choices.{pick_keeps, pick_keeps_by}
 use Rattle.walk.specs.Walk.{Visit, next, stop, after_visit, walk, rest}
 use Rattle.walk.proofs.Laws.{walk_keeps}
+use Rattle.std.specs.Prelude.{Option, Some, None}
 use Rattle.marks.specs.declared.Mark.{Mark}
-use Rattle.marks.specs.declared.Mark.TheVariants.{Nothing, At}
 use Rattle.medium.specs.declared.Medium.{Medium}
 use Rattle.medium.specs.Refusal.{Answer, ok, refused, on_ok}
 use Rattle.medium.specs.Sector.{sectors_of}
@@ -184,11 +184,11 @@ module _ (vol : List ℕ) (m : Medium) (st : Store) where
 
   -- ---- the walk
 
-  module _ (says : List ℕ → Mark) where
-    mark_on : (x : Mark) (rd u : Reader) → after_mark x rd ≡ next u → rd ≡ u
+  module _ (says : List ℕ → Option Mark) where
+    mark_on : (x : Option Mark) (rd u : Reader) → after_mark x rd ≡ next u → rd ≡ u
     unfolding after_mark
-    mark_on Nothing rd u q = cc
-    mark_on (At id number) rd u q = absurd (let z : ◌≡◌ {A = ℕ} 0 1 = cc in omega arith)
+    mark_on None rd u q = cc
+    mark_on (Some said) rd u q = absurd (let z : ◌≡◌ {A = ℕ} 0 1 = cc in omega arith)
 
     on_raised : (n : ℕ) (a : Answer Item) (out : List ℕ) (rd u : Reader) → Raised n a rd → on_ok a (after_item says out rd) (λ k. stop (refused k)) ≡ next u
         → (n < stands_at st u) × (stands_at st u ≤ 1048576)

@@ -13,8 +13,8 @@ use Rattle.le.proofs.Choices.{pick_keeps_by}
 use Rattle.le.proofs.Parts.{length_zeros}
 use Rattle.walk.specs.Walk.{next, stop, rest}
 use Rattle.walk.proofs.Laws.{rest_next, rest_stop, rest_end}
+use Rattle.std.specs.Prelude.{Option, Some, None}
 use Rattle.marks.specs.declared.Mark.{Mark}
-use Rattle.marks.specs.declared.Mark.TheVariants.{Nothing, At}
 use Rattle.marks.specs.Line.{marks_name, says_of}
 use Rattle.medium.specs.declared.Error.{Error}
 use Rattle.medium.specs.declared.Medium.{Medium}
@@ -45,10 +45,10 @@ use Rattle.points.specs.Told.{sought_of, sight_of, sight_visit, visit_of, walked
 
 -- ---- one turn
 
-sight_mark : (k : Mark) (rd : Reader) → sight_visit (sight_of k) rd ≡ after_mark k rd
+sight_mark : (k : Option Mark) (rd : Reader) → sight_visit (sight_of k) rd ≡ after_mark k rd
 unfolding sight_of sight_visit after_mark
-sight_mark Nothing rd = refl
-sight_mark (At id number) rd = refl
+sight_mark None rd = refl
+sight_mark (Some said) rd = refl
 
 -- a reader that gave an answer passes, so what it gave is no longer than a record's payload
 next_passes : (vol : List ℕ) (m : Medium) (st : Store) (rd : Reader) (out : List ℕ) {x : Item} → (next_call vol m st rd out).answer ≡ ok x → reader_ok rd st ≡ true
@@ -67,7 +67,7 @@ next_size vol m st rd r {out} {n} e q =
     let o = next_offered vol m st rd (zeros 486) (next_passes vol m st rd (zeros 486) a) in
     ((o.size n a).1, ap (λ (c : NextCall). length c.out) e ∙ o.kept ∙ length_zeros 486)
 
-module _ (says : List ℕ → Mark) (vol : List ℕ) (m : Medium) (st : Store) (rd : Reader) (r : Read) {out : List ℕ}
+module _ (says : List ℕ → Option Mark) (vol : List ℕ) (m : Medium) (st : Store) (rd : Reader) (r : Read) {out : List ℕ}
     (read : read_answer r out ≡ next_call vol m st rd (zeros 486)) where
   pub turn_refused : {e : Error} → r.next ≡ item.Refused e → visit_of (record { sight = sight.Refused e; reader = r.reader }) ≡ turn_of says vol m st rd
   unfolding sight_visit turn_of on_ok
@@ -88,15 +88,15 @@ module _ (says : List ℕ → Mark) (vol : List ℕ) (m : Medium) (st : Store) (
 
 -- ---- the walk: it has come to turn i with a reader, and what is left gives what the whole walk gives
 
-pub record Walks (says : List ℕ → Mark) (vol : List ℕ) (m : Medium) (st : Store) (rd at : Reader) (i : ℕ) : Type 0 where
+pub record Walks (says : List ℕ → Option Mark) (vol : List ℕ) (m : Medium) (st : Store) (rd at : Reader) (i : ℕ) : Type 0 where
   pub most : i ≤ turns
-  pub same : walk_of says vol m st rd ≡ rest (λ k. turn_of says vol m st) (λ r. ok (record { mark = Nothing; reader = r })) turns i at
+  pub same : walk_of says vol m st rd ≡ rest (λ k. turn_of says vol m st) (λ r. ok (record { mark = None; reader = r })) turns i at
 
-pub walk_start : (says : List ℕ → Mark) (vol : List ℕ) (m : Medium) (st : Store) (rd : Reader) → Walks says vol m st rd rd 0
+pub walk_start : (says : List ℕ → Option Mark) (vol : List ℕ) (m : Medium) (st : Store) (rd : Reader) → Walks says vol m st rd rd 0
 unfolding walk_of
 walk_start says vol m st rd = record { most = omega arith; same = refl }
 
-module _ {says : List ℕ → Mark} {vol : List ℕ} {m : Medium} {st : Store} {rd at : Reader} {i : ℕ} (w : Walks says vol m st rd at i) where
+module _ {says : List ℕ → Option Mark} {vol : List ℕ} {m : Medium} {st : Store} {rd at : Reader} {i : ℕ} (w : Walks says vol m st rd at i) where
   module _ (h : i < turns) (t : Turn) (turned : visit_of t ≡ turn_of says vol m st at) where
     pub walk_next : t.sight ≡ sight.Passed → Walks says vol m st rd t.reader (i + 1)
     unfolding sight_visit
@@ -111,17 +111,17 @@ module _ {says : List ℕ → Mark} {vol : List ℕ} {m : Medium} {st : Store} {
     unfolding sight_visit
     walk_refused q = stopped (sym turned ∙ ap (λ (x : Sight). sight_visit x t.reader) q)
 
-    pub walk_line : {id number : ℕ} (r : Walked) → t.sight ≡ sight.Line id number → walked_answer r ≡ ok (record { mark = At id number; reader = t.reader })
+    pub walk_line : {id number : ℕ} (r : Walked) → t.sight ≡ sight.Line id number → walked_answer r ≡ ok (record { mark = Some (record { id = id; number = number }); reader = t.reader })
         → walked_answer r ≡ walk_of says vol m st rd
     unfolding sight_visit
     walk_line r q e = e ∙ stopped (sym turned ∙ ap (λ (x : Sight). sight_visit x t.reader) q)
 
-    pub walk_end : (r : Walked) → t.sight ≡ sight.End → walked_answer r ≡ ok (record { mark = Nothing; reader = t.reader })
+    pub walk_end : (r : Walked) → t.sight ≡ sight.End → walked_answer r ≡ ok (record { mark = None; reader = t.reader })
         → walked_answer r ≡ walk_of says vol m st rd
     unfolding sight_visit
     walk_end r q e = e ∙ stopped (sym turned ∙ ap (λ (x : Sight). sight_visit x t.reader) q)
 
-  pub walk_over : (r : Walked) → turns ≤ i → walked_answer r ≡ ok (record { mark = Nothing; reader = at }) → walked_answer r ≡ walk_of says vol m st rd
+  pub walk_over : (r : Walked) → turns ≤ i → walked_answer r ≡ ok (record { mark = None; reader = at }) → walked_answer r ≡ walk_of says vol m st rd
   walk_over r h e = e ∙ sym (w.same ∙ rest_end _ _ turns i at h)
 
 -- ---- what `MARKS` says of a point
@@ -145,11 +145,11 @@ module _ (vol : List ℕ) (m : Medium) (st : Store) (p : List ℕ) (r : ReaderAn
     look_no h = rw (← walks_on, ← opened, q, h)
 
     module _ {s : Seen} (h : w ≡ walked.To s) where
-      pub look_unset : s.mark ≡ Nothing → place_answer told.Unset ≡ look_of vol m st p
+      pub look_unset : s.mark ≡ None → place_answer told.Unset ≡ look_of vol m st p
       unfolding look_of on_ok place_of
       look_unset k = rw (← walks_on, ← opened, q, h, k)
 
-      pub look_line : {id number : ℕ} → s.mark ≡ At id number → place_answer (told.Line id number) ≡ look_of vol m st p
+      pub look_line : {id number : ℕ} → s.mark ≡ Some (record { id = id; number = number }) → place_answer (told.Line id number) ≡ look_of vol m st p
       unfolding look_of on_ok place_of
       look_line k = rw (← walks_on, ← opened, q, h, k)
 
@@ -161,7 +161,7 @@ module _ (vol : List ℕ) (m : Medium) (st : Store) (name : List ℕ) (r : Reade
   end_refused q = rw (← opened, q)
 
   module _ (q : r.outcome ≡ Ok tt) (p : List ℕ) (w : Walked) (walks : walked_answer w ≡ walk_of (sought_of false p) vol m st r.reader) where
-    walks_past : walked_answer w ≡ walk_of (λ x. Nothing) vol m st (reader_call vol m st name).reader
+    walks_past : walked_answer w ≡ walk_of (λ x. None) vol m st (reader_call vol m st name).reader
     unfolding sought_of pick
     walks_past = rw (← opened) walks
 

@@ -1,9 +1,8 @@
 -- What the code's answers inside this crate say, in the words of Look. Assumes nothing.
-use Rattle.std.specs.Prelude.{ℕ, Bool, List}
+use Rattle.std.specs.Prelude.{ℕ, Bool, List, Option, Some, None}
 use Rattle.le.specs.Choice.{pick}
 use Rattle.walk.specs.Walk.{Visit, next, stop}
 use Rattle.marks.specs.declared.Mark.{Mark}
-use Rattle.marks.specs.declared.Mark.TheVariants.{Nothing, At}
 use Rattle.marks.specs.Line.{says_of}
 use Rattle.medium.specs.Refusal.{Answer, ok, refused, number_of}
 use Rattle.reader.specs.declared.Reader.{Reader}
@@ -20,18 +19,18 @@ use Rattle.points.specs.declared.Ended.TheVariants as ended
 use Rattle.points.specs.Look.{Place, absent, unset, line}
 
 -- a walk that seeks nothing passes every record
-unfoldable pub sought_of : Bool → List ℕ → List ℕ → Mark
-sought_of seeking p x = pick seeking (says_of p x) Nothing
+unfoldable pub sought_of : Bool → List ℕ → List ℕ → Option Mark
+sought_of seeking p x = pick seeking (says_of p x) None
 
-unfoldable pub sight_of : Mark → Sight
-sight_of Nothing = sight.Passed
-sight_of (At id number) = sight.Line id number
+unfoldable pub sight_of : Option Mark → Sight
+sight_of None = sight.Passed
+sight_of (Some said) = sight.Line said.id said.number
 
 unfoldable pub sight_visit : Sight → Reader → Visit Reader (Answer Seen)
 sight_visit (sight.Refused e) rd = stop (refused (number_of e))
 sight_visit sight.Passed rd = next rd
-sight_visit (sight.Line id number) rd = stop (ok (record { mark = At id number; reader = rd }))
-sight_visit sight.End rd = stop (ok (record { mark = Nothing; reader = rd }))
+sight_visit (sight.Line id number) rd = stop (ok (record { mark = Some (record { id = id; number = number }); reader = rd }))
+sight_visit sight.End rd = stop (ok (record { mark = None; reader = rd }))
 
 abbrev pub visit_of : Turn → Visit Reader (Answer Seen)
 visit_of t = sight_visit t.sight t.reader

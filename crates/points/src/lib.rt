@@ -56,7 +56,7 @@ pub struct Turn {
 // Where a walk came to: what the record there says, or nothing at the file's end.
 #[derive(Clone, Copy)]
 pub struct Seen {
-    pub mark: Mark,
+    pub mark: Option<Mark>,
     pub reader: Reader,
 }
 

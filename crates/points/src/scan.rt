@@ -22,8 +22,8 @@ fn sight_of(seeking: bool, point: &[u8], payload: &[u8]) -> Sight
     }
     let mark = marks::says(point, payload);
     match mark {
-        Mark::Nothing => Sight::Passed,
-        Mark::At { id, number } => Sight::Line { id, number },
+        None => Sight::Passed,
+        Some(Mark { id, number }) => Sight::Line { id, number },
     }
 }
 
@@ -69,7 +69,7 @@ fn turn(
     }
 }
 
-fn seen(mark: Mark, reader: Reader) -> Walked
+fn seen(mark: Option<Mark>, reader: Reader) -> Walked
     ensures { walked_answer result ≡ ok (record { mark = mark; reader = reader }) }
 {
     Walked::To(Seen { mark, reader })
@@ -99,14 +99,14 @@ fn walk(
             }
             Sight::Passed => {}
             Sight::Line { id, number } => {
-                return seen(Mark::At { id, number }, at);
+                return seen(Some(Mark { id, number }), at);
             }
             Sight::End => {
-                return seen(Mark::Nothing, at);
+                return seen(None, at);
             }
         }
     }
-    seen(Mark::Nothing, at)
+    seen(None, at)
 }
 
 // What `MARKS` says of a point: its first line of the name.
@@ -127,8 +127,8 @@ pub(crate) fn look(volume: &[u8], medium: Medium, store: Store, point: &[u8]) ->
         Walked::To(s) => {
             let mark = s.mark;
             match mark {
-                Mark::Nothing => Place::Unset,
-                Mark::At { id, number } => Place::Line { id, number },
+                None => Place::Unset,
+                Some(Mark { id, number }) => Place::Line { id, number },
             }
         }
     }

@@ -3,16 +3,16 @@ use Rattle.std.specs.Prelude.{Err, Ok, Result}
 use mathlib.Core.Path.{◌≡◌, refl, ◌∙◌}
 use mathlib.Core.Bool.{Bool, true, false, not}
 use mathlib.Core.List.{List, []}
-use Prim.Native.Nat.{ℕ, ◌-◌, ◌≤◌}
+use Prim.Native.Nat.{ℕ}
 use borrow.Author.Tests.{not-true, not-false}
-use lib.ListN.{length, take, drop}
+use denote.Ref.{Bor}
+use Rattle.std.specs.Prelude.{Option, Some, None}
+use Rattle.std.specs.Option.{is_some, unwrap_or}
 use Rattle.le.specs.Choice.{pick}
 use Rattle.le.specs.Part.{zeros}
-use Rattle.decimal.proofs.Ends.{tail_part}
 use Rattle.words.specs.declared.Parsed.{Parsed}
 use Rattle.words.specs.declared.Parsed.TheVariants as is
-use Rattle.words.specs.Words.{no_rollover, rollover, list, line_of, meaning, within}
-use Rattle.words.proofs.Forms.{parsed_as}
+use Rattle.words.specs.Words.{no_rollover, rollover, list, line_of, meaning, rollover_in}
 use Rattle.medium.specs.declared.Error.{Error}
 use Rattle.medium.specs.declared.Error.TheVariants.{Range, Uninitialized, Stale}
 use Rattle.medium.specs.Refusal.{number_of, on_ok, outcome_of}
@@ -154,10 +154,10 @@ module _ (vol : List ℕ) (s : Session) (fine : not s.formatted ≡ false) where
 
 -- ---- a line, by its word
 
-module _ (vol rows l : List ℕ) (s : Session) {t : Session} (k : t ≡ allowed_of s) {p : Parsed} (h : (meaning l p ≡ line_of l) × within l p) where
-  by_word : {q : Parsed} → p ≡ q → line_step vol t rows (meaning l q) ≡ step_of vol s rows l
+module _ (vol rows l : List ℕ) (s : Session) {t : Session} (k : t ≡ allowed_of s) {p : Parsed} (h : meaning p ≡ line_of l) where
+  by_word : {q : Parsed} → p ≡ q → line_step vol t rows (meaning q) ≡ step_of vol s rows l
   unfolding step_of
-  by_word e = rw (k, (parsed_as l (line_of l) h e).0)
+  by_word e = rw (k, ← e, h)
 
   pub other_word : p ≡ is.Other → (r : Told) → r ≡ record { session = t; reply = No Range } → (turn_of vol r, rows) ≡ step_of vol s rows l
   unfolding line_step meaning
@@ -167,36 +167,29 @@ module _ (vol rows l : List ℕ) (s : Session) {t : Session} (k : t ≡ allowed_
   unfolding line_step meaning
   format_word_lem e r g = rw g (by_word e)
 
-  pub create_word_lem : {a b d : ℕ} {rolls : Bool} → p ≡ is.Create a b rolls d → (r : Told) {v : List ℕ}
-      → turn_of v r ≡ after_format vol t (create_line vol t (take (b - a) (drop a l)) (pick rolls (rollover (take (length l - d) (drop d l))) no_rollover)) → (turn_of v r, rows) ≡ step_of vol s rows l
+  pub create_word_lem : {name : Bor (List ℕ)} {dir : Option (Bor (List ℕ))} → p ≡ is.Create name dir → (r : Told) {v : List ℕ}
+      → turn_of v r ≡ after_format vol t (create_line vol t name.now (rollover_in dir)) → (turn_of v r, rows) ≡ step_of vol s rows l
   unfolding line_step meaning
-  create_word_lem {d = d} e r g = rw (g, tail_part d l) (by_word e)
+  create_word_lem e r g = rw g (by_word e)
 
-  pub append_word_lem : {a : ℕ} → p ≡ is.Append a → (r : Told) {v : List ℕ} → turn_of v r ≡ after_create vol t (append_line vol t (take (length l - a) (drop a l))) → (turn_of v r, rows) ≡ step_of vol s rows l
+  pub append_word_lem : {text : Bor (List ℕ)} → p ≡ is.Append text → (r : Told) {v : List ℕ} → turn_of v r ≡ after_create vol t (append_line vol t text.now) → (turn_of v r, rows) ≡ step_of vol s rows l
   unfolding line_step meaning
-  append_word_lem {a = a} e r g = rw (g, tail_part a l) (by_word e)
+  append_word_lem e r g = rw g (by_word e)
 
   pub sync_word_lem : p ≡ is.Sync → (r : Told) {v : List ℕ} → turn_of v r ≡ after_create vol t (sync_line vol t) → (turn_of v r, rows) ≡ step_of vol s rows l
   unfolding line_step meaning
   sync_word_lem e r g = rw g (by_word e)
 
-  pub delete_word_lem : {a : ℕ} → p ≡ is.Delete a → (r : Told) {v : List ℕ} → turn_of v r ≡ after_format vol t (delete_line vol t (take (length l - a) (drop a l))) → (turn_of v r, rows) ≡ step_of vol s rows l
+  pub delete_word_lem : {name : Bor (List ℕ)} → p ≡ is.Delete name → (r : Told) {v : List ℕ} → turn_of v r ≡ after_format vol t (delete_line vol t name.now) → (turn_of v r, rows) ≡ step_of vol s rows l
   unfolding line_step meaning
-  delete_word_lem {a = a} e r g = rw (g, tail_part a l) (by_word e)
+  delete_word_lem e r g = rw g (by_word e)
 
   pub list_word_lem : p ≡ is.List → (r : Told) {after : List ℕ} → (turn_of vol r, after) ≡ line_step vol t rows list → (turn_of vol r, after) ≡ step_of vol s rows l
   unfolding meaning
   list_word_lem e r g = g ∙ by_word e
 
-  -- the places of a line's parts
-  pub create_parts : {a b d : ℕ} {rolls : Bool} → p ≡ is.Create a b rolls d → (a ≤ b) × (b ≤ length l) × (d ≤ length l)
-  unfolding within
-  create_parts e = (parsed_as l (line_of l) h e).1
-
-  pub append_part : {a : ℕ} → p ≡ is.Append a → a ≤ length l
-  unfolding within
-  append_part e = (parsed_as l (line_of l) h e).1
-
-  pub delete_part : {a : ℕ} → p ≡ is.Delete a → a ≤ length l
-  unfolding within
-  delete_part e = (parsed_as l (line_of l) h e).1
+-- what the code passes on of a create's directory
+pub rollover_told : (dir : Option (Bor (List ℕ))) (other : Bor (List ℕ)) → pick (is_some dir) (rollover (unwrap_or dir other).now) no_rollover ≡ rollover_in dir
+unfolding rollover_in pick
+rollover_told None other = refl
+rollover_told (Some dir) other = refl

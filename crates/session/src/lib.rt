@@ -296,25 +296,19 @@ pub fn step(volume: &mut [u8], session: Session, line: &[u8], rows: &mut [u8]) -
     ensures { (turn_of volume.new result, rows.new) ≡ step_of volume.old session rows.old line.now }
 {
     let s = allowed(session);
-    let p = words::parse(line);
-    match p {
+    match words::parse(line) {
         Parsed::Other => refused(s, Error::Range),
         Parsed::Format { size, seed } => format_line(volume, s, size, seed),
-        Parsed::Create {
-            name_from,
-            name_to,
-            rollover,
-            dir_from,
-        } => create_line(
+        Parsed::Create { name, rollover } => create_line(
             volume,
             s,
-            &line[name_from..name_to],
-            rollover,
-            &line[dir_from..],
+            name,
+            rollover.is_some(),
+            rollover.unwrap_or(b""),
         ),
-        Parsed::Append { from } => append_line(volume, s, &line[from..]),
+        Parsed::Append { text } => append_line(volume, s, text),
         Parsed::Sync => sync_line(volume, s),
-        Parsed::Delete { from } => delete_line(volume, s, &line[from..]),
+        Parsed::Delete { name } => delete_line(volume, s, name),
         Parsed::List => list_line(&volume[..], s, rows),
     }
 }

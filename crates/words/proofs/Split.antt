@@ -8,7 +8,7 @@ use lib.ListN.{length, take, drop}
 use Rattle.le.specs.Choice.{pick}
 use Rattle.runs.proofs.Splits.{some_part}
 use Rattle.decimal.specs.Fields.{fields, field_len}
-use Rattle.decimal.proofs.Ends.{last_field, next_field}
+use Rattle.decimal.proofs.Ends.{last_field, next_field, tail_part}
 use Rattle.words.specs.Words.{other, alone_of, with_one_of, with_two_of, of_fields, line_of}
 
 pub too_long : (l : List ℕ) → 600 < length l → line_of l ≡ other
@@ -44,3 +44,5 @@ module _ (l : List ℕ) (short : length l ≤ 600) (first : ℕ) (told1 : first 
       pub more_tabs : third < length l → line_of l ≡ other
       unfolding of_fields
       more_tabs h = three ∙ rw (next_field l (second + 1) third told3 h, some_part 9 (drop (third + 1) l))
+
+pub ruleset by_ends = (too_long, no_tab, one_tab, two_tabs, more_tabs, tail_part)

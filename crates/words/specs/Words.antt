@@ -1,10 +1,9 @@
 -- 01, "Hosts": one line of the line program, without its line feed. Its fields are parted by tabs, and numbers are decimal. A line of another form, of
 -- over 600 bytes or with a number past its width (size 32 bits, seed 64) is `other`: the program answers it with 2. Assumes nothing.
-use Rattle.std.specs.Prelude.{ℕ, ◌-◌, ◌≤◌, List, [], ◌∷◌, leb, length, take, drop}
+use Rattle.std.specs.Prelude.{ℕ, List, [], ◌∷◌, leb, length, Option, Some, None}
+use denote.Ref.{Bor}
 use Rattle.le.specs.Choice.{pick}
 use Rattle.runs.specs.Run.{same_bytes}
-use Rattle.decimal.specs.declared.Number.{Number}
-use Rattle.decimal.specs.declared.Number.TheVariants.{Nothing, Value}
 use Rattle.decimal.specs.Fields.{fields}
 use Rattle.decimal.specs.Decimal.{decimal_of}
 use Rattle.words.specs.declared.Parsed.{Parsed}
@@ -59,10 +58,10 @@ unfoldable pub with_one_of : List ℕ → List ℕ → Line
 with_one_of w a = pick (same_bytes w append_word) (append a) (pick (same_bytes w delete_word) (delete a) other)
 
 -- both numbers, or another form
-unfoldable pub both_of : Number → Number → Line
-both_of (Value size) (Value seed) = format size seed
-both_of (Value size) Nothing = other
-both_of Nothing seed = other
+unfoldable pub both_of : Option ℕ → Option ℕ → Line
+both_of (Some size) (Some seed) = format size seed
+both_of (Some size) None = other
+both_of None seed = other
 
 -- a size of 32 bits and a seed of 64
 unfoldable pub format_of : List ℕ → List ℕ → Line
@@ -84,23 +83,18 @@ of_fields (w ∷ a ∷ b ∷ c ∷ fs) = other
 unfoldable pub line_of : List ℕ → Line
 line_of l = pick (leb (length l) 600) (of_fields (fields l)) other
 
--- ---- what the code's answer says of a line: its parts by their places
+-- ---- what the code's answer says
 
-unfoldable pub meaning : List ℕ → Parsed → Line
-meaning l Other = other
-meaning l (Format size seed) = format size seed
-meaning l (Create from to rolls dir) = create (take (to - from) (drop from l)) (pick rolls (rollover (drop dir l)) no_rollover)
-meaning l (Append from) = append (drop from l)
-meaning l Sync = sync
-meaning l (Delete from) = delete (drop from l)
-meaning l Listed = list
+-- a create's directory, where it has one
+unfoldable pub rollover_in : Option (Bor (List ℕ)) → Rollover
+rollover_in None = no_rollover
+rollover_in (Some dir) = rollover dir.now
 
--- the places lie within the line, so that a caller can cut there
-unfoldable pub within : List ℕ → Parsed → Type 0
-within l Other = Unit {0}
-within l (Format size seed) = Unit {0}
-within l (Create from to rolls dir) = (from ≤ to) × (to ≤ length l) × (dir ≤ length l)
-within l (Append from) = from ≤ length l
-within l Sync = Unit {0}
-within l (Delete from) = from ≤ length l
-within l Listed = Unit {0}
+unfoldable pub meaning : Parsed → Line
+meaning Other = other
+meaning (Format size seed) = format size seed
+meaning (Create name dir) = create name.now (rollover_in dir)
+meaning (Append text) = append text.now
+meaning Sync = sync
+meaning (Delete name) = delete name.now
+meaning Listed = list

@@ -1,116 +1,101 @@
-// One line of the line program, read: its word, its numbers, and where its other parts lie.
+// One line of the line program, read: its word, its numbers, and its other parts, lent from the line.
 #![tactic(auto)]
 
-ghost use Rattle.std.specs.Prelude.{◌≡◌, ◌+◌, ◌-◌, ◌≤◌, ◌<◌, length, take, drop};
-ghost use Rattle.words.specs.Words.{alone_of, with_one_of, format_of, with_two_of, line_of, meaning, within};
-
-use decimal::Number;
+ghost use Rattle.std.specs.Prelude.{◌≡◌};
+ghost use Rattle.words.specs.Words.{alone_of, with_one_of, format_of, with_two_of, line_of, meaning};
 
 // The most bytes of a line, without its line feed.
 pub const LINE: usize = 600;
 
-// What a line says. A part of it is given by the places where it starts and ends, or by its start alone where it ends with the line.
+// What a line says. A create with no directory has no rollover.
 #[derive(Clone, Copy)]
-pub enum Parsed {
+pub enum Parsed<'a> {
     Other,
     Format {
         size: u32,
         seed: u64,
     },
     Create {
-        name_from: usize,
-        name_to: usize,
-        rollover: bool,
-        dir_from: usize,
+        name: &'a [u8],
+        rollover: Option<&'a [u8]>,
     },
     Append {
-        from: usize,
+        text: &'a [u8],
     },
     Sync,
     Delete {
-        from: usize,
+        name: &'a [u8],
     },
     List,
 }
 
 // A line with no tab.
-fn alone(line: &[u8]) -> Parsed
-    ensures { (meaning line.now result ≡ alone_of line.now) × within line.now result }
+#[tactic(auto, unfolding(crate::specs::Words::alone_of, crate::specs::Words::meaning, le::specs::Choice::pick))]
+fn alone(word: &[u8]) -> Parsed<'static>
+    ensures { meaning result ≡ alone_of word.now }
 {
-    if runs::same(line, b"sync") {
+    if runs::same(word, b"sync") {
         return Parsed::Sync;
     }
-    if runs::same(line, b"list") {
+    if runs::same(word, b"list") {
         return Parsed::List;
     }
     Parsed::Other
 }
 
 // A line with one tab.
-fn with_one(line: &[u8], tab: usize) -> Parsed
-    requires { tab < length line.now }
-    ensures { (meaning line.now result ≡ with_one_of (take tab line.now) (drop (tab + 1) line.now))
-        × within line.now result }
+#[tactic(auto, unfolding(crate::specs::Words::with_one_of, crate::specs::Words::meaning, le::specs::Choice::pick))]
+fn with_one<'a>(word: &[u8], part: &'a [u8]) -> Parsed<'a>
+    ensures { meaning result ≡ with_one_of word.now part.now }
 {
-    let word = &line[0..tab];
-    let from = tab + 1;
     if runs::same(word, b"append") {
-        return Parsed::Append { from };
+        return Parsed::Append { text: part };
     }
     if runs::same(word, b"delete") {
-        return Parsed::Delete { from };
+        return Parsed::Delete { name: part };
     }
     Parsed::Other
 }
 
 // The two numbers of a format, each within its width.
-fn format_line(line: &[u8], from: usize, tab: usize) -> Parsed
-    requires { (from ≤ tab) × (tab < length line.now) }
-    ensures { (meaning line.now result ≡ format_of (take (tab - from) (drop from line.now)) (drop (tab + 1) line.now))
-        × within line.now result }
+#[tactic(auto, unfolding(crate::specs::Words::both_of, crate::specs::Words::format_of, crate::specs::Words::meaning), using(decimal::proofs::Digits::decimal_most))]
+fn format_line(size: &[u8], seed: &[u8]) -> Parsed<'static>
+    ensures { meaning result ≡ format_of size.now seed.now }
 {
-    let last = tab + 1;
-    let Number::Value(size) = decimal::read(&line[from..tab], 0xffff_ffff) else {
+    let Some(bytes) = decimal::read(size, 0xffff_ffff) else {
         return Parsed::Other;
     };
-    let Number::Value(seed) = decimal::read(&line[last..], 0xffff_ffff_ffff_ffff) else {
+    let Some(seed) = decimal::read(seed, 0xffff_ffff_ffff_ffff) else {
         return Parsed::Other;
     };
     Parsed::Format {
-        size: size as u32,
+        size: bytes as u32,
         seed,
     }
 }
 
 // A line with two tabs.
-fn with_two(line: &[u8], first: usize, second: usize) -> Parsed
-    requires { (first < second) × (second < length line.now) }
-    ensures { (meaning line.now result
-        ≡ with_two_of (take first line.now) (take (second - (first + 1)) (drop (first + 1) line.now))
-        (drop (second + 1) line.now))
-        × within line.now result }
+#[tactic(auto, unfolding(crate::specs::Words::with_two_of, crate::specs::Words::meaning, crate::specs::Words::rollover_in, crate::specs::Words::rollover_of, le::specs::Choice::pick))]
+fn with_two<'a>(word: &[u8], first: &'a [u8], second: &'a [u8]) -> Parsed<'a>
+    ensures { meaning result ≡ with_two_of word.now first.now second.now }
 {
-    let word = &line[0..first];
-    let from = first + 1;
-    let last = second + 1;
     if runs::same(word, b"format") {
-        return format_line(line, from, second);
+        return format_line(first, second);
     }
     if !runs::same(word, b"create") {
         return Parsed::Other;
     }
-    let none = runs::same(&line[last..], b"-");
+    let none = runs::same(second, b"-");
     Parsed::Create {
-        name_from: from,
-        name_to: second,
-        rollover: !none,
-        dir_from: last,
+        name: first,
+        rollover: (!none).then_some(second),
     }
 }
 
 // A line of any bytes and any length.
-pub fn parse(line: &[u8]) -> Parsed
-    ensures { (meaning line.now result ≡ line_of line.now) × within line.now result }
+#[tactic(auto, unfolding(crate::specs::Words::meaning), using(crate::proofs::Split::by_ends))]
+pub fn parse(line: &[u8]) -> Parsed<'_>
+    ensures { meaning result ≡ line_of line.now }
 {
     if line.len() > LINE {
         return Parsed::Other;
@@ -119,13 +104,14 @@ pub fn parse(line: &[u8]) -> Parsed
     if first == line.len() {
         return alone(line);
     }
+    let word = &line[..first];
     let second = decimal::field_end(line, first + 1);
     if second == line.len() {
-        return with_one(line, first);
+        return with_one(word, &line[first + 1..]);
     }
     let third = decimal::field_end(line, second + 1);
     if third < line.len() {
         return Parsed::Other;
     }
-    with_two(line, first, second)
+    with_two(word, &line[first + 1..second], &line[second + 1..])
 }

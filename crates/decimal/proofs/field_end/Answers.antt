@@ -1,26 +1,23 @@
 use borrow.Author.Rules.{rules}
-use mathlib.Core.Path.{refl}
+use borrow.Author.Tests.{tests}
+use Prim.Native.Nat.{◌-◌}
 use native.Mathlib.Omega.{arith}
-use Rattle.decimal.proofs.Ends.{field_stop, field_next, field_none}
+use lib.Dec.{eqb}
+use lib.ListN.{length, take, drop, length-drop}
+use Rattle.std.proofs.lemmas.Iterator.{YieldsList-from_slice}
+use Rattle.std.proofs.lemmas.Iterator.Search.{position_from_yields_List}
+use Rattle.decimal.proofs.Ends.{tab_found, tab_none, tail_part}
 use Rattle.decimal.proofs.field_end.Goals as goal
 
-pub loop-i-init : goal.loop-i-init
-loop-i-init c = (search rules, search rules, refl, refl)
+pub returns-in-Some : goal.returns-in-Some
+returns-in-Some c =
+    let rest = take (length c.args.line.now - c.args.from) (drop c.args.from c.args.line.now) in
+    let said = position_from_yields_List (λ b. eqb b 9) _ _ c.position.result c.position.ensures.ran (YieldsList-from_slice rest c.iter.ensures.rest) (λ x b q k. search (rules, tests)) in
+    let found = simp tail_part at (tab_found rest said c.in-Some.is) in
+    omega (arith, found.0, found.1, length-drop c.args.from c.args.line.now)
 
-pub returns-then-line-i-eq9 : goal.returns-then-line-i-eq9
-returns-then-line-i-eq9 c = (
-  omega (arith, field_stop c.args.line.now c.loop-i.i (omega arith) c.if-line-i-eq9.true),
-  search rules,
-  search rules,
-)
-
-pub loop-i-preserved : goal.loop-i-preserved
-loop-i-preserved c = (
-  search rules,
-  search rules,
-  refl,
-  omega (arith, field_next c.args.line.now c.loop-i.i (omega arith) c.if-line-i-eq9.false),
-)
-
-pub returns : goal.returns
-returns c = (omega (arith, field_none c.args.line.now c.loop-i.i (omega arith)), search rules, search rules)
+pub returns-in-None : goal.returns-in-None
+returns-in-None c =
+    let rest = take (length c.args.line.now - c.args.from) (drop c.args.from c.args.line.now) in
+    let said = position_from_yields_List (λ b. eqb b 9) _ _ c.position.result c.position.ensures.ran (YieldsList-from_slice rest c.iter.ensures.rest) (λ x b q k. search (rules, tests)) in
+    omega (arith, simp tail_part at (tab_none rest said c.in-None.is), length-drop c.args.from c.args.line.now)

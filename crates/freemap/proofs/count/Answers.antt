@@ -12,27 +12,27 @@ use Rattle.freemap.specs.Map.{marks}
 use Rattle.freemap.proofs.Counts.{count_turn}
 use Rattle.freemap.proofs.count.Goals as goal
 
-pub loop-j-init : goal.loop-j-init
-loop-j-init c = (omega arith, sym (tally_start _))
+pub loop-w-init : goal.loop-w-init
+loop-w-init c = sym (tally_start _)
 
 pub overflow_add-n : goal.overflow_add-n
 overflow_add-n c =
-    let l = c.loop-j in
+    let l = c.loop-w in
     let ws = c.args.words in
-    let fits : Fits w64 (get_or ws l.j 0) = search (rules, c.well_formed) in
-    let most = ones-le 64 (get_or ws l.j 0) fits.fits in
-    let all = tally_le (marks ws) (64 * l.j) in
-    search (rules, most, all, l.invariant.1)
+    let fits : Fits w64 (get_or ws l.w-index 0) = search (rules, c.well_formed) in
+    let most = ones-le 64 (get_or ws l.w-index 0) fits.fits in
+    let all = tally_le (marks ws) (64 * l.w-index) in
+    search (rules, most, all, l.invariant)
 
-pub loop-j-preserved : goal.loop-j-preserved
-loop-j-preserved c =
-    let l = c.loop-j in
+pub loop-w-preserved : goal.loop-w-preserved
+loop-w-preserved c =
+    let l = c.loop-w in
     let ws = c.args.words in
-    let fits : Fits w64 (get_or ws l.j 0) = search (rules, c.well_formed) in
-    (omega arith, ap (λ (n : ℕ). n + ones (get_or ws l.j 0)) l.invariant.1 ∙ count_turn ws l.j fits.fits)
+    let fits : Fits w64 (get_or ws l.w-index 0) = search (rules, c.well_formed) in
+    ap (λ (n : ℕ). n + ones (get_or ws l.w-index 0)) l.invariant ∙ count_turn ws l.w-index fits.fits
 
 pub returns : goal.returns
 returns c =
-    let l = c.loop-j in
-    let e : 64 * l.j ≡ 2048 = omega arith in
-    l.invariant.1 ∙ ap (tally (marks c.args.words)) e
+    let l = c.loop-w in
+    let e : 64 * l.w-index ≡ 2048 = omega arith in
+    l.invariant ∙ ap (tally (marks c.args.words)) e

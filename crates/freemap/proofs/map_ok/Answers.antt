@@ -11,8 +11,8 @@ returns-then-map c =
     let a = c.args in
     c.none_from.ensures ∙ ap (λ (n : ℕ). eqb (first_from a.map.words n) 2048) (sym (pick_true a.chunks 0 c.if-map.true))
 
-pub returns : goal.returns
+pub returns-else-map : goal.returns-else-map
 unfolding map_ok
-returns c =
+returns-else-map c =
     let a = c.args in
-    c.none_from-2.ensures ∙ ap (λ (n : ℕ). eqb (first_from a.map.words n) 2048) (sym (pick_false a.chunks 0 c.if-map.false))
+    c.none_from-else-map.ensures ∙ ap (λ (n : ℕ). eqb (first_from a.map.words n) 2048) (sym (pick_false a.chunks 0 c.if-map.false))

@@ -1,24 +1,13 @@
-use mathlib.Core.Path.{refl}
-use native.Mathlib.Omega.{arith}
 use borrow.Author.Rules.{rules}
-use Rattle.names.proofs.Scan.{text_stop, text_next, text_end}
+use borrow.Author.Tests.{tests}
+use lib.Dec.{eqb}
+use Rattle.std.proofs.lemmas.Iterator.{YieldsList-from_slice}
+use Rattle.std.proofs.lemmas.Iterator.Search.{position_from_yields_List}
+use Rattle.names.proofs.Zeros.{zero_found}
 use Rattle.names.proofs.text_len.Goals as goal
 
-pub loop-i-init : goal.loop-i-init
-loop-i-init c = (search rules, refl, omega arith)
-
-pub returns-then-bytes-i-eq0 : goal.returns-then-bytes-i-eq0
-returns-then-bytes-i-eq0 c = (
-  omega (arith, text_stop c.args.bytes.now c.loop-i.i (omega arith) c.if-bytes-i-eq0.true),
-  search rules,
-)
-
-pub loop-i-preserved : goal.loop-i-preserved
-loop-i-preserved c = (
-  search rules,
-  refl,
-  omega (arith, text_next c.args.bytes.now c.loop-i.i (omega arith) c.if-bytes-i-eq0.false),
-)
-
 pub returns : goal.returns
-returns c = (omega (arith, text_end c.args.bytes.now c.loop-i.i (omega arith)), search rules)
+returns c =
+    let bytes = c.args.bytes.now in
+    let said = position_from_yields_List (λ b. eqb b 0) _ _ c.position.result c.position.ensures.ran (YieldsList-from_slice bytes c.iter.ensures.rest) (λ x b q k. search (rules, tests)) in
+    rw c.unwrap_or.ensures (zero_found bytes said)

@@ -20,14 +20,14 @@ returns-in-Refused c =
     look_no a.volume.now a.medium a.store a.point.now c.reader-r.result c.reader-r.ensures
     c.in_default.is _ c.walk-w.ensures c.in-Refused.is
 
-pub returns-in-Nothing : goal.returns-in-Nothing
-returns-in-Nothing c =
+pub returns-in-None : goal.returns-in-None
+returns-in-None c =
     let a = c.args in
     look_unset a.volume.now a.medium a.store a.point.now c.reader-r.result c.reader-r.ensures
-    c.in_default.is _ c.walk-w.ensures c.in-To.is c.in-Nothing.is
+    c.in_default.is _ c.walk-w.ensures c.in-To.is c.in-None.is
 
-pub returns-in-At : goal.returns-in-At
-returns-in-At c =
+pub returns-in-Some : goal.returns-in-Some
+returns-in-Some c =
     let a = c.args in
     look_line a.volume.now a.medium a.store a.point.now c.reader-r.result c.reader-r.ensures
-    c.in_default.is _ c.walk-w.ensures c.in-To.is c.in-At.is
+    c.in_default.is _ c.walk-w.ensures c.in-To.is c.in-Some.is

@@ -7,12 +7,12 @@ pub returns-then-not-seeking : goal.returns-then-not-seeking
 unfolding sought_of sight_of pick
 returns-then-not-seeking c = rw c.if-not-seeking.true
 
-pub returns-in-Nothing : goal.returns-in-Nothing
+pub returns-in-None : goal.returns-in-None
 unfolding sought_of sight_of pick
-returns-in-Nothing c =
-    rw (c.if-not-seeking.false, told c.says-mark.ensures c.in-Nothing.is)
+returns-in-None c =
+    rw (c.if-not-seeking.false, told c.says-mark.ensures c.in-None.is)
 
-pub returns-in-At : goal.returns-in-At
+pub returns-in-Some : goal.returns-in-Some
 unfolding sought_of sight_of pick
-returns-in-At c =
-    rw (c.if-not-seeking.false, told c.says-mark.ensures c.in-At.is)
+returns-in-Some c =
+    rw (c.if-not-seeking.false, told c.says-mark.ensures c.in-Some.is)

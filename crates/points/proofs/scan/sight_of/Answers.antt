@@ -1,18 +1,17 @@
-use Rattle.le.specs.Choice.{pick}
 use Rattle.le.proofs.Turns.{told}
 use Rattle.points.specs.Told.{sought_of, sight_of}
 use Rattle.points.proofs.scan.sight_of.Goals as goal
 
-pub returns-then-not-seeking : goal.returns-then-not-seeking
-unfolding sought_of sight_of pick
-returns-then-not-seeking c = rw c.if-not-seeking.true
+pub returns-in-None : goal.returns-in-None
+unfolding sought_of sight_of
+returns-in-None c = rw c.in-None.is
 
 pub returns-in-Nothing : goal.returns-in-Nothing
-unfolding sought_of sight_of pick
+unfolding sought_of sight_of
 returns-in-Nothing c =
-    rw (c.if-not-seeking.false, told c.says-mark.ensures c.in-Nothing.is)
+    rw (c.in-Some.is, told c.says.ensures c.in-Nothing.is)
 
 pub returns-in-At : goal.returns-in-At
-unfolding sought_of sight_of pick
+unfolding sought_of sight_of
 returns-in-At c =
-    rw (c.if-not-seeking.false, told c.says-mark.ensures c.in-At.is)
+    rw (c.in-Some.is, told c.says.ensures c.in-At.is)

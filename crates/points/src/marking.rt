@@ -10,7 +10,7 @@ use append::Handed;
 use handles::Store;
 use medium::{Error, Medium};
 
-// Refused before `MARKS` is opened: all handles as given, and no appender.
+// Refused, and `MARKS` is not opened: the handles as they stand, and no appender.
 pub(crate) fn not_set(e: Error, medium: Medium, store: Store) -> Marked
     ensures { marked_answer result ≡ (not_set [] medium store (number_of e)).call }
 {

@@ -1,8 +1,9 @@
 -- 02, S-1: reading up to a point. It opens a reader up to the point's number, of the file with the point's id. An unknown point is 9, and so is one of a
 -- store without `MARKS`; where no file has the id it is 15. Order: 3, 13, then state. Assumes nothing.
-use Rattle.std.specs.Prelude.{ℕ, true, List}
+use Rattle.std.specs.Prelude.{ℕ, true, List, Result, Ok, Err}
+use Rattle.medium.specs.declared.Error.{Error}
 use Rattle.medium.specs.declared.Medium.{Medium}
-use Rattle.medium.specs.Refusal.{Answer, refused, number_of, on_done, on_ok, outcome_of}
+use Rattle.medium.specs.Refusal.{Answer, ok, refused, number_of, on_done, on_ok}
 use Rattle.handles.specs.declared.Store.{Store}
 use Rattle.reader.specs.declared.Upto.{Upto}
 use Rattle.reader.specs.Reader.{no_reader}
@@ -16,12 +17,16 @@ pub record PointCall : Type 0 where
   pub upto : Upto
   pub medium : Medium
 
-abbrev pub point_answer : UptoAnswer → PointCall
-point_answer r = record { answer = outcome_of r.outcome; upto = r.upto; medium = r.medium }
-
 -- refused, a reader that no call accepts
 abbrev pub no_point : Medium → ℕ → PointCall
 no_point m n = record { answer = refused n; upto = record { reader = no_reader; limit = 0 }; medium = m }
+
+abbrev pub upto_answer : Result Upto Error → Medium → PointCall
+upto_answer (Ok u) m = record { answer = ok tt; upto = u; medium = m }
+upto_answer (Err e) m = no_point m (number_of e)
+
+abbrev pub point_answer : UptoAnswer → PointCall
+point_answer r = upto_answer r.upto r.medium
 
 -- the reader of the file, up to the number
 abbrev pub upto_of : ℕ → ReaderCall → PointCall

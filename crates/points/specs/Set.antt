@@ -1,10 +1,12 @@
 -- 02, S-1: setting a point. Tests and reads come first; then `MARKS` is made if absent, else opened, with no rollover, and the line is appended and
 -- synced. It is made of the definitions of the calls that it makes, and nothing else. Assumes nothing.
-use Rattle.std.specs.Prelude.{ℕ, Bool, true, false, List, []}
+use Rattle.std.specs.Prelude.{ℕ, Bool, true, false, List, [], Result, Ok, Err, is_some, unwrap_or}
+use Rattle.std.specs.Result.{result_unwrap_or}
 use Rattle.le.specs.Choice.{pick}
 use Rattle.marks.specs.Line.{marks_name, line_of}
+use Rattle.medium.specs.declared.Error.{Error}
 use Rattle.medium.specs.declared.Medium.{Medium}
-use Rattle.medium.specs.Refusal.{Answer, refused, number_of, on_done, on_ok, outcome_of}
+use Rattle.medium.specs.Refusal.{Answer, ok, refused, number_of, on_done, on_ok}
 use Rattle.handles.specs.declared.Store.{Store}
 use Rattle.append.specs.declared.Appender.{Appender}
 use Rattle.append.specs.Appender.{no_appender}
@@ -23,15 +25,20 @@ pub record SetTold : Type 0 where
   pub store : Store
   pub appender : Appender
 
+-- an accepted setting has the number set, and one that opened `MARKS` its appender
+abbrev pub set_answer : Result ℕ Error → Answer Unit
+set_answer (Ok n) = ok tt
+set_answer (Err e) = refused (number_of e)
+
 abbrev pub marked_answer : Marked → SetTold
 marked_answer r =
     record {
-      answer = outcome_of r.outcome;
-      number = r.number;
-      opened = r.opened;
+      answer = set_answer r.outcome;
+      number = result_unwrap_or r.outcome 0;
+      opened = is_some r.appender;
       medium = r.medium;
       store = r.store;
-      appender = r.appender;
+      appender = unwrap_or r.appender no_appender;
     }
 
 pub record SetCall : Type 0 where

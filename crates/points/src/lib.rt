@@ -5,12 +5,10 @@ mod marking;
 mod scan;
 
 ghost use Rattle.std.specs.Prelude.{◌≡◌, ◌≤◌, length};
-ghost use Rattle.medium.specs.Refusal.{number_of};
 ghost use Rattle.store.specs.Asked.{asked_of};
-ghost use Rattle.store.specs.Reading.{reader_answer};
 ghost use Rattle.points.specs.Look.{asked_point};
 ghost use Rattle.points.specs.Set.{marked_answer, set_from, set_call};
-ghost use Rattle.points.specs.Reading.{point_answer, no_point, upto_of, point_call};
+ghost use Rattle.points.specs.Reading.{point_answer, upto_answer, point_call};
 
 use append::Appender;
 use handles::Store;
@@ -18,30 +16,26 @@ use marks::Mark;
 use medium::{Error, Medium};
 use reader::{Reader, Upto};
 use scan::{end_of, look};
-use store::ReaderAnswer;
 
-// What setting hands back. `opened`: `MARKS` was opened, and `appender` is its own; an appender from before is stale. Else the caller keeps its own.
+// What setting hands back: the number set, or the refusal. `appender`: that of `MARKS`, where it was opened, and an appender from before is stale. Else
+// the caller keeps its own.
 #[derive(Clone, Copy)]
 pub struct Marked {
-    pub outcome: Result<(), Error>,
-    pub number: u32,
-    pub opened: bool,
+    pub outcome: Result<u32, Error>,
     pub medium: Medium,
     pub store: Store,
-    pub appender: Appender,
+    pub appender: Option<Appender>,
 }
 
 #[derive(Clone, Copy)]
 pub struct UptoAnswer {
-    pub outcome: Result<(), Error>,
-    pub upto: Upto,
+    pub upto: Result<Upto, Error>,
     pub medium: Medium,
 }
 
-// What one turn of a walk over a file met.
+// What one turn of a walk over a file met, and the reader behind it.
 #[derive(Clone, Copy)]
 pub enum Sight {
-    Refused(Error),
     Passed,
     Line { id: u32, number: u32 },
     End,
@@ -60,26 +54,19 @@ pub struct Seen {
     pub reader: Reader,
 }
 
-#[derive(Clone, Copy)]
-pub enum Walked {
-    Refused(Error),
-    To(Seen),
-}
-
 // What `MARKS` says of a point.
 #[derive(Clone, Copy)]
 pub enum Place {
-    Refused(Error),
     Absent,
     Unset,
     Line { id: u32, number: u32 },
 }
 
-// Where a file ends.
+// Where a file ends: its id, and the number of the record at which its reader found the end.
 #[derive(Clone, Copy)]
-pub enum Ended {
-    Refused(Error),
-    At { id: u32, number: u32 },
+pub struct Ended {
+    pub id: u32,
+    pub number: u32,
 }
 
 // Refusals 3, 1 and 13; `named`: the file's name passes, where there is one.
@@ -111,12 +98,9 @@ fn set_from(
     ensures { (volume.new ≡ (set_from fresh volume.old medium store point.now name.now).vol)
         × (marked_answer result ≡ (set_from fresh volume.old medium store point.now name.now).call) }
 {
-    let e = end_of(&volume[..], medium, store, name);
-    match e {
-        Ended::Refused(e) => marking::not_set(e, medium, store),
-        Ended::At { id, number } => {
-            marking::mark(volume, medium, store, point, id, number, fresh)
-        }
+    match end_of(&volume[..], medium, store, name) {
+        Err(e) => marking::not_set(e, medium, store),
+        Ok(end) => marking::mark(volume, medium, store, point, end, fresh),
     }
 }
 
@@ -131,71 +115,40 @@ pub fn set_point(
     ensures { (volume.new ≡ (set_call volume.old medium store point.now name.now).vol)
         × (marked_answer result ≡ (set_call volume.old medium store point.now name.now).call) }
 {
-    let o = asked(&volume[..], store, names::name_ok(name), point);
-    if let Err(e) = o {
+    if let Err(e) = asked(&volume[..], store, names::name_ok(name), point) {
         return marking::not_set(e, medium, store);
     }
-    let p = look(&volume[..], medium, store, point);
-    match p {
-        Place::Refused(e) => marking::not_set(e, medium, store),
-        Place::Absent => set_from(volume, medium, store, point, name, true),
-        Place::Unset => set_from(volume, medium, store, point, name, false),
-        Place::Line { id: _, number: _ } => marking::not_set(Error::Known, medium, store),
+    match look(&volume[..], medium, store, point) {
+        Err(e) => marking::not_set(e, medium, store),
+        Ok(Place::Absent) => set_from(volume, medium, store, point, name, true),
+        Ok(Place::Unset) => set_from(volume, medium, store, point, name, false),
+        Ok(Place::Line { .. }) => marking::not_set(Error::Known, medium, store),
     }
 }
 
-// A refused reading hands back a reader that no call accepts.
-fn no_upto(e: Error, medium: Medium) -> UptoAnswer
-    ensures { point_answer result ≡ no_point medium (number_of e) }
+// A reader of a point's file, up to the point, which its place in `MARKS` gives.
+fn upto_at(volume: &[u8], medium: Medium, store: Store, point: &[u8]) -> Result<Upto, Error>
+    ensures { upto_answer result medium ≡ point_call volume.now medium store point.now }
 {
-    let reader = reader::no_reader();
-    UptoAnswer {
-        outcome: Err(e),
-        upto: Upto { reader, limit: 0 },
-        medium,
-    }
-}
-
-// The reader of a point's file, up to its number.
-fn up_to(r: ReaderAnswer, number: u32) -> UptoAnswer
-    ensures { point_answer result ≡ upto_of number (reader_answer r) }
-{
-    let outcome = r.outcome;
-    let reader = r.reader;
-    let medium = r.medium;
-    match outcome {
-        Ok(()) => UptoAnswer {
-            outcome: Ok(()),
-            upto: Upto {
-                reader,
+    asked(volume, store, true, point)?;
+    match look(volume, medium, store, point)? {
+        Place::Absent => Err(Error::NotFound),
+        Place::Unset => Err(Error::NotFound),
+        Place::Line { id, number } => {
+            let r = store::reader_of_id(volume, medium, store, id);
+            r.outcome?;
+            Ok(Upto {
+                reader: r.reader,
                 limit: number,
-            },
-            medium,
-        },
-        Err(e) => UptoAnswer {
-            outcome: Err(e),
-            upto: Upto { reader, limit: 0 },
-            medium,
-        },
+            })
+        }
     }
 }
 
-// A reader of a point's file, up to the point.
+// The same, with the medium record, which reading leaves as it was.
 pub fn read_point(volume: &[u8], medium: Medium, store: Store, point: &[u8]) -> UptoAnswer
     ensures { point_answer result ≡ point_call volume.now medium store point.now }
 {
-    let o = asked(volume, store, true, point);
-    if let Err(e) = o {
-        return no_upto(e, medium);
-    }
-    let p = look(volume, medium, store, point);
-    match p {
-        Place::Refused(e) => no_upto(e, medium),
-        Place::Absent => no_upto(Error::NotFound, medium),
-        Place::Unset => no_upto(Error::NotFound, medium),
-        Place::Line { id, number } => {
-            let r = store::reader_of_id(volume, medium, store, id);
-            up_to(r, number)
-        }
-    }
+    let upto = upto_at(volume, medium, store, point);
+    UptoAnswer { upto, medium }
 }

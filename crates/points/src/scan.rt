@@ -1,10 +1,10 @@
 // A file read record by record: `MARKS` for the line of a point, any file for its end.
 ghost use Rattle.std.specs.Prelude.{◌≡◌};
-ghost use Rattle.medium.specs.Refusal.{ok};
+ghost use Rattle.std.specs.Option.{option_copied};
 ghost use Rattle.points.specs.Look.{turn_of, walk_of, look_of, end_of};
 ghost use Rattle.points.specs.Told.{sought_of, sight_of, visit_of, walked_answer, place_answer, ended_answer};
 
-use super::{Ended, Place, Seen, Sight, Turn, Walked};
+use super::{Ended, Place, Seen, Sight, Turn};
 use handles::Store;
 use marks::Mark;
 use medium::{Error, Medium};
@@ -14,16 +14,15 @@ use reader::{Next, Numbered, Reader};
 const TURNS: u32 = 1_048_577;
 
 // A record: the line of the point, where one is sought, or one that is passed over.
-fn sight_of(seeking: bool, point: &[u8], payload: &[u8]) -> Sight
-    ensures { result ≡ sight_of (sought_of seeking point.now payload.now) }
+fn sight_of(sought: Option<&[u8]>, payload: &[u8]) -> Sight
+    ensures { result ≡ sight_of (sought_of (option_copied sought.entry) payload.now) }
 {
-    if !seeking {
-        return Sight::Passed;
-    }
-    let mark = marks::says(point, payload);
-    match mark {
+    match sought {
         None => Sight::Passed,
-        Some(Mark { id, number }) => Sight::Line { id, number },
+        Some(point) => match marks::says(point, payload) {
+            None => Sight::Passed,
+            Some(Mark { id, number }) => Sight::Line { id, number },
+        },
     }
 }
 
@@ -33,46 +32,22 @@ fn turn(
     medium: Medium,
     store: Store,
     reader: Reader,
-    seeking: bool,
-    point: &[u8],
-) -> Turn
-    ensures { visit_of result ≡ turn_of (sought_of seeking point.now) volume.now medium store reader }
+    sought: Option<&[u8]>,
+) -> Result<Turn, Error>
+    ensures { visit_of result ≡ turn_of (sought_of (option_copied sought.entry)) volume.now medium store reader }
 {
     let mut out = [0u8; 486];
     let r = reader.next(volume, medium, store, &mut out);
-    let n = r.next;
-    let behind = r.reader;
-    match n {
-        Next::Refused(e) => Turn {
-            sight: Sight::Refused(e),
-            reader: behind,
-        },
-        Next::Payload(length) => {
-            let sight = sight_of(seeking, point, &out[0..length]);
-            Turn {
-                sight,
-                reader: behind,
-            }
-        }
-        Next::Hole {
-            from: _,
-            to: _,
-            blank: _,
-        } => Turn {
-            sight: Sight::Passed,
-            reader: behind,
-        },
-        Next::End => Turn {
-            sight: Sight::End,
-            reader: behind,
-        },
-    }
-}
-
-fn seen(mark: Option<Mark>, reader: Reader) -> Walked
-    ensures { walked_answer result ≡ ok (record { mark = mark; reader = reader }) }
-{
-    Walked::To(Seen { mark, reader })
+    let sight = match r.next {
+        Next::Refused(e) => return Err(e),
+        Next::Payload(length) => sight_of(sought, &out[..length]),
+        Next::Hole { .. } => Sight::Passed,
+        Next::End => Sight::End,
+    };
+    Ok(Turn {
+        sight,
+        reader: r.reader,
+    })
 }
 
 // Turn by turn to the line sought, or to the file's end.
@@ -81,81 +56,70 @@ fn walk(
     medium: Medium,
     store: Store,
     reader: Reader,
-    seeking: bool,
-    point: &[u8],
-) -> Walked
-    ensures { walked_answer result ≡ walk_of (sought_of seeking point.now) volume.now medium store reader }
+    sought: Option<&[u8]>,
+) -> Result<Seen, Error>
+    ensures { walked_answer result ≡ walk_of (sought_of (option_copied sought.entry)) volume.now medium store reader }
 {
-    let mut at = reader;
-    let mut turns: u32 = 0;
-    while turns < TURNS {
-        let t = turn(volume, medium, store, at, seeking, point);
-        turns += 1;
-        let s = t.sight;
-        at = t.reader;
-        match s {
-            Sight::Refused(e) => {
-                return Walked::Refused(e);
-            }
+    let mut reader = reader;
+    for _ in 0..TURNS {
+        let t = turn(volume, medium, store, reader, sought)?;
+        reader = t.reader;
+        match t.sight {
             Sight::Passed => {}
             Sight::Line { id, number } => {
-                return seen(Some(Mark { id, number }), at);
+                let mark = Some(Mark { id, number });
+                return Ok(Seen { mark, reader });
             }
             Sight::End => {
-                return seen(None, at);
+                let mark = None;
+                return Ok(Seen { mark, reader });
             }
         }
     }
-    seen(None, at)
+    let mark = None;
+    Ok(Seen { mark, reader })
 }
 
 // What `MARKS` says of a point: its first line of the name.
-pub(crate) fn look(volume: &[u8], medium: Medium, store: Store, point: &[u8]) -> Place
+pub(crate) fn look(
+    volume: &[u8],
+    medium: Medium,
+    store: Store,
+    point: &[u8],
+) -> Result<Place, Error>
     ensures { place_answer result ≡ look_of volume.now medium store point.now }
 {
     let r = store::reader(volume, medium, store, b"MARKS");
-    let o = r.outcome;
-    if let Err(e) = o {
-        if medium::number(e) == 9 {
-            return Place::Absent;
-        }
-        return Place::Refused(e);
+    if let Err(e) = r.outcome {
+        return match e {
+            Error::NotFound => Ok(Place::Absent),
+            _ => Err(e),
+        };
     }
-    let w = walk(volume, medium, store, r.reader, true, point);
-    match w {
-        Walked::Refused(e) => Place::Refused(e),
-        Walked::To(s) => {
-            let mark = s.mark;
-            match mark {
-                None => Place::Unset,
-                Some(Mark { id, number }) => Place::Line { id, number },
-            }
-        }
+    let seen = walk(volume, medium, store, r.reader, Some(point))?;
+    match seen.mark {
+        None => Ok(Place::Unset),
+        Some(Mark { id, number }) => Ok(Place::Line { id, number }),
     }
 }
 
 // Where a file's reader finds the end.
-pub(crate) fn end_of(volume: &[u8], medium: Medium, store: Store, name: &[u8]) -> Ended
+pub(crate) fn end_of(
+    volume: &[u8],
+    medium: Medium,
+    store: Store,
+    name: &[u8],
+) -> Result<Ended, Error>
     ensures { ended_answer result ≡ end_of volume.now medium store name.now }
 {
     let r = store::reader(volume, medium, store, name);
-    let o = r.outcome;
-    if let Err(e) = o {
-        return Ended::Refused(e);
-    }
-    let w = walk(volume, medium, store, r.reader, false, name);
-    match w {
-        Walked::Refused(e) => Ended::Refused(e),
-        Walked::To(s) => {
-            let behind = s.reader;
-            let n = behind.record(store);
-            match n {
-                Numbered::Refused(e) => Ended::Refused(e),
-                Numbered::Is(number) => Ended::At {
-                    id: behind.id,
-                    number,
-                },
-            }
-        }
+    r.outcome?;
+    let seen = walk(volume, medium, store, r.reader, None)?;
+    match seen.reader.record(store) {
+        Numbered::Refused(e) => Err(e),
+        Numbered::Is(number) => Ok(Ended {
+            id: seen.reader.id,
+            number,
+        }),
     }
 }

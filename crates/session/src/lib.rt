@@ -1,303 +1,177 @@
 // The line program between its input and its output: what it holds from line to line, what a line does to that and to the volume, and its answer.
 #![tactic(auto)]
 
-ghost use Rattle.std.specs.Prelude.{◌≡◌};
-ghost use Rattle.words.specs.Words.{no_rollover, rollover, list};
-ghost use Rattle.medium.specs.Refusal.{on_ok, outcome_of};
+ghost use Rattle.std.specs.Prelude.{◌≡◌, Some};
+ghost use Rattle.words.specs.Words.{no_rollover, rollover, list, line_of};
+ghost use Rattle.medium.specs.Refusal.{outcome_of};
 ghost use Rattle.append.specs.Calls.{room_call};
 ghost use Rattle.le.specs.Choice.{pick};
-ghost use Rattle.session.specs.declared.Reply.TheVariants.{No};
-ghost use Rattle.session.specs.Session.{ok, listed, no, said_of, start_of, allowed_of, held_of, turn_of, format_line, create_line, room_said};
-ghost use Rattle.session.specs.Session.{append_line, sync_line, delete_line, after_format, after_create, line_step, step_of};
+ghost use Rattle.session.specs.Session.{said_of, start_of, allowed_of, held_of, turn, turn_of, format_line, create_line, room_said};
+ghost use Rattle.session.specs.Session.{append_line, sync_line, delete_line, handles_of, after_format, after_create, line_step, step_of};
 
 use append::{Appender, Handed, Room};
 use handles::Store;
 use medium::{Error, Medium};
 use words::Parsed;
 
-// What is held from line to line, beside the volume. `formatted`, `created`: a format, a create was accepted.
+// What is held from line to line, beside the volume: the store of an accepted format, the appender of an accepted create.
 #[derive(Clone, Copy)]
 pub struct Session {
-    pub store: Store,
-    pub appender: Appender,
+    pub store: Option<Store>,
+    pub appender: Option<Appender>,
     pub medium: Medium,
-    pub formatted: bool,
-    pub created: bool,
 }
 
-// What a line is answered: `ok` and a number, for a list with so many rows after it, or `no` and a refusal.
+// What an accepted line is answered: `ok` and a number, for a list with so many rows after it.
 #[derive(Clone, Copy)]
 pub enum Reply {
     Number(u64),
     Rows(usize),
-    No(Error),
 }
 
 #[derive(Clone, Copy)]
 pub struct Told {
     pub session: Session,
-    pub reply: Reply,
+    pub reply: Result<Reply, Error>,
 }
 
 // Before the first line. No sector is unreadable: none has the last number.
+#[tactic(auto, unfolding(crate::specs::Session::start_of))]
 pub fn start() -> Session
     ensures { result ≡ start_of }
 {
-    let store = handles::no_store();
-    let appender = append::no_appender();
     Session {
-        store,
-        appender,
+        store: None,
+        appender: None,
         medium: Medium {
             left: 0xffff_ffff,
             unreadable: 0xffff_ffff_ffff_ffff,
             entropy: 0,
             token: 0,
         },
-        formatted: false,
-        created: false,
     }
 }
 
 // All writes allowed, for each line anew.
+#[tactic(auto, unfolding(crate::specs::Session::allowed_of))]
 fn allowed(s: Session) -> Session
     ensures { result ≡ allowed_of s }
 {
-    let store = s.store;
-    let appender = s.appender;
-    let m = s.medium;
     Session {
-        store,
-        appender,
         medium: Medium {
             left: 0xffff_ffff,
-            unreadable: m.unreadable,
-            entropy: m.entropy,
-            token: m.token,
+            ..s.medium
         },
-        formatted: s.formatted,
-        created: s.created,
-    }
-}
-
-fn refused(s: Session, e: Error) -> Told
-    ensures { result ≡ record { session = s; reply = No e } }
-{
-    Told {
-        session: s,
-        reply: Reply::No(e),
+        ..s
     }
 }
 
 // A refused format leaves the store of the one before it.
-fn format_line(volume: &mut [u8], s: Session, size: u32, seed: u64) -> Told
-    ensures { turn_of volume.new result ≡ format_line volume.old s size seed }
+fn format_line(volume: &mut [u8], s: &mut Session, size: u32, seed: u64) -> Result<Reply, Error>
+    ensures { turn volume.new s.new (said_of result) ≡ format_line volume.old s.old size seed }
 {
     let r = store::format(volume, s.medium, size, seed);
-    let o = r.outcome;
-    let medium = r.medium;
-    let made = r.store;
-    let old = s.store;
-    let appender = s.appender;
-    if let Err(e) = o {
-        return Told {
-            session: Session {
-                store: old,
-                appender,
-                medium,
-                formatted: s.formatted,
-                created: s.created,
-            },
-            reply: Reply::No(e),
-        };
-    }
-    Told {
-        session: Session {
-            store: made,
-            appender,
-            medium,
-            formatted: true,
-            created: s.created,
-        },
-        reply: Reply::Number(made.chunks() as u64),
-    }
+    s.medium = r.medium;
+    r.outcome?;
+    s.store = Some(r.store);
+    Ok(Reply::Number(r.store.chunks() as u64))
 }
 
 // A refused create leaves the appender of the one before it, beside the store that a rollover may have left.
-fn create_line(volume: &mut [u8], s: Session, name: &[u8], rolls: bool, dir: &[u8]) -> Told
-    ensures { turn_of volume.new result
-        ≡ after_format volume.old s (create_line volume.old s name.now (pick rolls (rollover dir.now) no_rollover)) }
+fn create_line(
+    volume: &mut [u8],
+    s: &mut Session,
+    name: &[u8],
+    rolls: bool,
+    dir: &[u8],
+) -> Result<Reply, Error>
+    ensures { turn volume.new s.new (said_of result)
+        ≡ after_format volume.old s.old (create_line volume.old s.old name.now (pick rolls (rollover dir.now) no_rollover)) }
 {
-    if !s.formatted {
-        return refused(s, Error::Uninitialized);
-    }
-    let r = store::create(volume, s.medium, s.store, name, rolls, dir);
-    let o = r.outcome;
-    let medium = r.medium;
-    let store = r.store;
-    let made = r.appender;
-    let old = s.appender;
-    if let Err(e) = o {
-        return Told {
-            session: Session {
-                store,
-                appender: old,
-                medium,
-                formatted: s.formatted,
-                created: s.created,
-            },
-            reply: Reply::No(e),
-        };
-    }
-    Told {
-        session: Session {
-            store,
-            appender: made,
-            medium,
-            formatted: s.formatted,
-            created: true,
-        },
-        reply: Reply::Number(made.id as u64),
+    let store = s.store.ok_or(Error::Uninitialized)?;
+    let r = store::create(volume, s.medium, store, name, rolls, dir);
+    s.medium = r.medium;
+    s.store = Some(r.store);
+    r.outcome?;
+    s.appender = Some(r.appender);
+    Ok(Reply::Number(r.appender.id as u64))
+}
+
+// What stands after an append or a sync is held, refused or not; it is answered the bytes until a record.
+fn flushed(s: &mut Session, f: Handed) -> Result<Reply, Error>
+    ensures { (s.new ≡ held_of (Some f.store) (Some f.appender) f.medium)
+        × (said_of result ≡ room_said (outcome_of f.outcome) (room_call f.appender)) }
+{
+    *s = Session {
+        store: Some(f.store),
+        appender: Some(f.appender),
+        medium: f.medium,
+    };
+    f.outcome?;
+    match f.appender.room() {
+        Room::Refused(e) => Err(e),
+        Room::Is(n) => Ok(Reply::Number(n as u64)),
     }
 }
 
-// Bytes until a record, or the refusal.
-fn room_reply(o: Result<(), Error>, appender: Appender) -> Reply
-    ensures { said_of result ≡ room_said (outcome_of o) (room_call appender) }
+// The handles of append and sync: before an accepted format the word is refused with 5, before an accepted create with 11.
+#[tactic(auto, unfolding(crate::specs::Session::handles_of))]
+fn handles(s: &Session) -> Result<(Store, Appender), Error>
+    ensures { result ≡ handles_of s.now }
 {
-    if let Err(e) = o {
-        return Reply::No(e);
-    }
-    let room = appender.room();
-    match room {
-        Room::Refused(e) => Reply::No(e),
-        Room::Is(n) => Reply::Number(n as u64),
-    }
+    let store = s.store.ok_or(Error::Uninitialized)?;
+    let appender = s.appender.ok_or(Error::Stale)?;
+    Ok((store, appender))
 }
 
-// What stands after an append or a sync is held, refused or not.
-fn flushed(s: Session, f: Handed) -> Told
-    ensures { (result.session ≡ held_of s f.store f.appender f.medium)
-        × (said_of result.reply ≡ room_said (outcome_of f.outcome) (room_call f.appender)) }
+fn append_line(volume: &mut [u8], s: &mut Session, text: &[u8]) -> Result<Reply, Error>
+    ensures { turn volume.new s.new (said_of result) ≡ after_create volume.old s.old (append_line volume.old s.old text.now) }
 {
-    let o = f.outcome;
-    let store = f.store;
-    let appender = f.appender;
-    let medium = f.medium;
-    let reply = room_reply(o, appender);
-    Told {
-        session: Session {
-            store,
-            appender,
-            medium,
-            formatted: s.formatted,
-            created: s.created,
-        },
-        reply,
-    }
+    let (store, appender) = handles(s)?;
+    flushed(s, appender.append(volume, s.medium, store, text))
 }
 
-fn append_line(volume: &mut [u8], s: Session, text: &[u8]) -> Told
-    ensures { turn_of volume.new result ≡ after_create volume.old s (append_line volume.old s text.now) }
+fn sync_line(volume: &mut [u8], s: &mut Session) -> Result<Reply, Error>
+    ensures { turn volume.new s.new (said_of result) ≡ after_create volume.old s.old (sync_line volume.old s.old) }
 {
-    if !s.formatted {
-        return refused(s, Error::Uninitialized);
-    }
-    if !s.created {
-        return refused(s, Error::Stale);
-    }
-    let a = s.appender;
-    flushed(s, a.append(volume, s.medium, s.store, text))
+    let (store, appender) = handles(s)?;
+    flushed(s, appender.sync(volume, s.medium, store))
 }
 
-fn sync_line(volume: &mut [u8], s: Session) -> Told
-    ensures { turn_of volume.new result ≡ after_create volume.old s (sync_line volume.old s) }
+fn delete_line(volume: &mut [u8], s: &mut Session, name: &[u8]) -> Result<Reply, Error>
+    ensures { turn volume.new s.new (said_of result) ≡ after_format volume.old s.old (delete_line volume.old s.old name.now) }
 {
-    if !s.formatted {
-        return refused(s, Error::Uninitialized);
-    }
-    if !s.created {
-        return refused(s, Error::Stale);
-    }
-    let a = s.appender;
-    flushed(s, a.sync(volume, s.medium, s.store))
-}
-
-fn number_reply(o: Result<(), Error>, n: u64) -> Reply
-    ensures { said_of result ≡ on_ok (outcome_of o) (λ _. ok n) no }
-{
-    match o {
-        Ok(()) => Reply::Number(n),
-        Err(e) => Reply::No(e),
-    }
-}
-
-fn delete_line(volume: &mut [u8], s: Session, name: &[u8]) -> Told
-    ensures { turn_of volume.new result ≡ after_format volume.old s (delete_line volume.old s name.now) }
-{
-    if !s.formatted {
-        return refused(s, Error::Uninitialized);
-    }
-    let r = store::delete(volume, s.medium, s.store, name);
-    let o = r.outcome;
-    let medium = r.medium;
-    let store = r.store;
-    let appender = s.appender;
-    let reply = number_reply(o, 0);
-    Told {
-        session: Session {
-            store,
-            appender,
-            medium,
-            formatted: s.formatted,
-            created: s.created,
-        },
-        reply,
-    }
-}
-
-fn rows_reply(o: Result<(), Error>, n: usize) -> Reply
-    ensures { said_of result ≡ on_ok (outcome_of o) (λ _. listed n) no }
-{
-    match o {
-        Ok(()) => Reply::Rows(n),
-        Err(e) => Reply::No(e),
-    }
+    let store = s.store.ok_or(Error::Uninitialized)?;
+    let r = store::delete(volume, s.medium, store, name);
+    s.medium = r.medium;
+    s.store = Some(r.store);
+    r.outcome?;
+    Ok(Reply::Number(0))
 }
 
 // Every file: the root's.
-fn list_line(volume: &[u8], s: Session, rows: &mut [u8]) -> Told
-    ensures { (turn_of volume.now result, rows.new) ≡ line_step volume.now s rows.old list }
+fn list_line(volume: &[u8], s: &mut Session, rows: &mut [u8]) -> Result<Reply, Error>
+    ensures { (turn volume.now s.new (said_of result), rows.new) ≡ line_step volume.now s.old rows.old list }
 {
-    if !s.formatted {
-        return refused(s, Error::Uninitialized);
-    }
+    let store = s.store.ok_or(Error::Uninitialized)?;
     let mut counts = [0u16; 64];
-    let l = store::list(volume, s.medium, s.store, b"", &mut counts, rows);
-    let o = l.outcome;
-    let medium = l.medium;
-    let store = s.store;
-    let appender = s.appender;
-    let reply = rows_reply(o, l.count);
-    Told {
-        session: Session {
-            store,
-            appender,
-            medium,
-            formatted: s.formatted,
-            created: s.created,
-        },
-        reply,
-    }
+    let l = store::list(volume, s.medium, store, b"", &mut counts, rows);
+    s.medium = l.medium;
+    l.outcome?;
+    Ok(Reply::Rows(l.count))
 }
 
-// One line of any bytes and any length, without its line feed. A list fills `rows`; no other line touches them.
-pub fn step(volume: &mut [u8], session: Session, line: &[u8], rows: &mut [u8]) -> Told
-    ensures { (turn_of volume.new result, rows.new) ≡ step_of volume.old session rows.old line.now }
+// A line by its word, with all writes allowed.
+fn line_reply(
+    volume: &mut [u8],
+    s: &mut Session,
+    line: &[u8],
+    rows: &mut [u8],
+) -> Result<Reply, Error>
+    ensures { (turn volume.new s.new (said_of result), rows.new) ≡ line_step volume.old s.old rows.old (line_of line.now) }
 {
-    let s = allowed(session);
     match words::parse(line) {
-        Parsed::Other => refused(s, Error::Range),
+        Parsed::Other => Err(Error::Range),
         Parsed::Format { size, seed } => format_line(volume, s, size, seed),
         Parsed::Create { name, rollover } => create_line(
             volume,
@@ -311,4 +185,13 @@ pub fn step(volume: &mut [u8], session: Session, line: &[u8], rows: &mut [u8]) -
         Parsed::Delete { name } => delete_line(volume, s, name),
         Parsed::List => list_line(&volume[..], s, rows),
     }
+}
+
+// One line of any bytes and any length, without its line feed. A list fills `rows`; no other line touches them.
+pub fn step(volume: &mut [u8], session: Session, line: &[u8], rows: &mut [u8]) -> Told
+    ensures { (turn_of volume.new result, rows.new) ≡ step_of volume.old session rows.old line.now }
+{
+    let mut session = allowed(session);
+    let reply = line_reply(volume, &mut session, line, rows);
+    Told { session, reply }
 }

@@ -13,3 +13,4 @@ pub mod Stale
 pub mod Dots
 pub mod Widths
 pub mod Mounts
+pub mod Refused

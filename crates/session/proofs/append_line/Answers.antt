@@ -1,20 +1,14 @@
-use Rattle.session.proofs.Ways.{no_format, no_create, append_told}
-use Rattle.session.specs.Session.{after_create}
+use Rattle.std.proofs.Common.{◌≡◌, Err, rules}
+use Rattle.session.proofs.Ways.{no_handles, append_told}
 use Rattle.session.proofs.append_line.Goals as goal
 
-pub returns-then-not-s : goal.returns-then-not-s
-unfolding after_create
-returns-then-not-s c =
-    let args = c.args in
-    no_format args.volume.now args.s _ c.if-not-s.true c.refused.ensures _
-
-pub returns-then-not-s-2 : goal.returns-then-not-s-2
-returns-then-not-s-2 c =
-    let args = c.args in
-    no_create args.volume.now args.s _ c.if-not-s.false c.if-not-s-2.true c.refused-then-not-s-2.ensures _
+pub returns-in_err-store : goal.returns-in_err-store
+returns-in_err-store c =
+    let a = c.args in
+    let e : c.from_residual.result ≡ Err c.in_err-store.field-0.0 = search rules in
+    rw e (no_handles a.volume.now a.s.now _ c.handles.ensures c.in_err-store.was)
 
 pub returns : goal.returns
 returns c =
-    let args = c.args in
-    append_told args.volume.now args.s c.if-not-s.false c.if-not-s-2.false c.append.result c.flushed.result
-    c.flushed.ensures args.text.now c.append.ensures
+    let a = c.args in
+    append_told a.volume.now a.s.now c.handles.ensures c.in_ok-store.was c.append.result c.flushed.result c.flushed.ensures a.text.now c.append.ensures

@@ -1,12 +1,14 @@
+use Rattle.std.proofs.Common.{◌≡◌, Err, rules}
 use Rattle.session.proofs.Ways.{format_refused, format_done}
 use Rattle.session.proofs.format_line.Goals as goal
 
-pub returns-in-Err : goal.returns-in-Err
-returns-in-Err c =
-    let args = c.args in
-    format_refused args.volume.now args.s _ _ c.format-r.result c.format-r.ensures c.in-Err.is
+pub returns-in_err-r : goal.returns-in_err-r
+returns-in_err-r c =
+    let a = c.args in
+    let e : c.from_residual.result ≡ Err c.in_err-r.field-0.0 = search rules in
+    rw e (format_refused a.volume.now a.s.now a.size a.seed c.format-r.result c.format-r.ensures c.in_err-r.was)
 
 pub returns : goal.returns
 returns c =
-    let args = c.args in
-    format_done args.volume.now args.s _ _ c.format-r.result c.format-r.ensures c.in_default.is c.chunks.ensures
+    let a = c.args in
+    format_done a.volume.now a.s.now a.size a.seed c.format-r.result c.format-r.ensures c.in_ok-r.was c.chunks.ensures

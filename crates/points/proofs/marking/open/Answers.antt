@@ -7,7 +7,7 @@ returns-then-fresh c =
     opens_fresh a.volume.now a.medium a.store c.create.result c.if-fresh.true c.create.ensures.0
     c.create.ensures.1
 
-pub returns : goal.returns
-returns c =
+pub returns-else-fresh : goal.returns-else-fresh
+returns-else-fresh c =
     let a = c.args in
     opens_there a.volume.now a.medium a.store c.open_append.result c.if-fresh.false c.open_append.ensures

@@ -1,12 +1,7 @@
-use Rattle.medium.specs.Refusal.{on_ok}
+use Rattle.points.proofs.Offers.{told_set}
 use Rattle.points.proofs.marking.told_by.Goals as goal
 
-pub returns-in-Ok : goal.returns-in-Ok
-unfolding on_ok
-returns-in-Ok c =
-    rw c.in-Ok.is
-
-pub returns-in-Err : goal.returns-in-Err
-unfolding on_ok
-returns-in-Err c =
-    rw c.in-Err.is
+pub returns : goal.returns
+returns c =
+    let h = c.args.c in
+    rw c.and.ensures (told_set c.args.number h.outcome h.medium h.store h.appender)

@@ -1,41 +1,36 @@
-use native.Mathlib.Nat.{sub-zero}
-use native.Mathlib.Omega.{arith}
+use Rattle.std.proofs.Common.{sym, arith}
+use lib.Seq.{length-take-le}
 use Rattle.le.specs.Part.{zeros}
 use Rattle.points.proofs.Scans.{turn_refused, turn_hole, turn_end, turn_payload, next_size}
-use Rattle.points.specs.Told.{sought_of}
+use Rattle.points.proofs.scan.turn.Goals.{in-Payload, in-Hole, in-End}
 use Rattle.points.proofs.scan.turn.Goals as goal
-
-pub slice_bounds-sight_of-end : goal.slice_bounds-sight_of-end
-unfolding zeros
-slice_bounds-sight_of-end c =
-    let h = (let a = c.args in
-    next_size a.volume.now a.medium a.store a.reader c.next-r.result c.next-r.ensures c.in-Payload.is) in
-    omega (arith, h.0, h.1)
 
 pub returns-in-Refused : goal.returns-in-Refused
 unfolding zeros
 returns-in-Refused c =
     let a = c.args in
-    turn_refused (sought_of a.seeking a.point.now) a.volume.now a.medium a.store a.reader c.next-r.result c.next-r.ensures
-    c.in-Refused.is
+    turn_refused _ a.volume.now a.medium a.store a.reader c.next-r.result c.next-r.ensures c.in-Refused.is
 
-pub returns-in-Payload : goal.returns-in-Payload
+pub slice_bounds-out-end : goal.slice_bounds-out-end
 unfolding zeros
-returns-in-Payload c =
+slice_bounds-out-end c =
     let a = c.args in
-    turn_payload (sought_of a.seeking a.point.now) a.volume.now a.medium a.store a.reader c.next-r.result c.next-r.ensures
-    c.in-Payload.is (simp sub-zero at c.sight_of-sight.ensures)
+    omega (arith, next_size a.volume.now a.medium a.store a.reader c.next-r.result c.next-r.ensures c.in-Payload.is)
 
-pub returns-in-Hole : goal.returns-in-Hole
+pub slice_bounds-sight_of-end : goal.slice_bounds-sight_of-end
 unfolding zeros
-returns-in-Hole c =
+slice_bounds-sight_of-end c =
     let a = c.args in
-    turn_hole (sought_of a.seeking a.point.now) a.volume.now a.medium a.store a.reader c.next-r.result c.next-r.ensures
-    c.in-Hole.is
+    let h = next_size a.volume.now a.medium a.store a.reader c.next-r.result c.next-r.ensures c.in-Payload.is in
+    sym (length-take-le c.in-Payload.length _ (omega (arith, h.0, h.1)))
 
-pub returns-in-End : goal.returns-in-End
+pub returns : goal.returns
 unfolding zeros
-returns-in-End c =
+returns c =
     let a = c.args in
-    turn_end (sought_of a.seeking a.point.now) a.volume.now a.medium a.store a.reader c.next-r.result c.next-r.ensures
-    c.in-End.is
+    let r = c.next-r in
+    elim c.match-r.branch [
+      | in-Payload w ↦ rw w.sight-is (turn_payload _ a.volume.now a.medium a.store a.reader r.result r.ensures w.in-Payload.is w.sight_of-sight.ensures)
+      | in-Hole w ↦ rw w.sight-is (turn_hole _ a.volume.now a.medium a.store a.reader r.result r.ensures w.in-Hole.is)
+      | in-End w ↦ rw w.sight-is (turn_end _ a.volume.now a.medium a.store a.reader r.result r.ensures w.in-End.is)
+    ]

@@ -1,10 +1,7 @@
-use Prim.Native.Nat.{◌-◌}
+use Rattle.std.specs.Option.{option_copied}
 use Rattle.points.proofs.Scans.{Walks}
 use Rattle.points.specs.Told.{sought_of}
 use Rattle.points.proofs.scan.walk.Given as goal
 
-abbrev pub invariant-loop-turns : goal.invariant-loop-turns
-invariant-loop-turns l = Walks (sought_of l.seeking l.point) l.volume l.medium l.store l.initial.at l.at l.turns
-
-abbrev pub decreases-loop-turns : goal.decreases-loop-turns
-decreases-loop-turns l = 1048577 - l.turns
+abbrev pub invariant-loop : goal.invariant-loop
+invariant-loop l = Walks (sought_of (option_copied l.sought)) l.volume l.medium l.store l.initial.reader l.reader l.counter

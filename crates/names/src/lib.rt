@@ -7,11 +7,12 @@ ghost use Rattle.names.specs.Names.{plain_byte, every_plain, name_ok, dir_ok, in
 // The most bytes of a name, and of a directory with its `/`.
 pub const NAME: usize = 40;
 
+// By `|`: as one `matches!` over ranges, with jumps, a name of 40 bytes took twice the time.
 #[tactic(auto, unfolding(crate::specs::Names::plain_byte), using(crate::proofs::Segments::in_turn))]
 fn plain_byte(b: u8) -> bool
     ensures { result ≡ plain_byte b }
 {
-    b.is_ascii_alphanumeric() || matches!(b, b'.' | b'_' | b'-')
+    b.is_ascii_alphanumeric() | (b == b'.') | (b == b'_') | (b == b'-')
 }
 
 // A byte at least, and none but those of a name's alphabet without `/`.

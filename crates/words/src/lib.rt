@@ -7,7 +7,7 @@ ghost use Rattle.words.specs.Words.{alone_of, with_one_of, format_of, with_two_o
 // The most bytes of a line, without its line feed.
 pub const LINE: usize = 600;
 
-// What a line says. A create with no directory has no rollover.
+// What a line says. A create's `rollover` is the directory of its rollover; there is none for `-`.
 #[derive(Clone, Copy)]
 pub enum Parsed<'a> {
     Other,

@@ -26,9 +26,10 @@ on_judged_keeps P (Ok None) f g a p q r = r refl
 
 -- ---- a value that may be refused
 
-pub on_result_keeps : {A B : Type 0} (P : A → Type 0) (r : Result B Error) (f : Error → A) (g : B → A) → ((e : Error) → P (f e)) → ((b : B) → r ≡ Ok b → P (g b)) → P (on_result r f g)
+pub on_result_keeps : {A B : Type 0} (P : A → Type 0) (r : Result B Error) (f : Error → A) (g : B → A) → ((e : Error) → r ≡ Err e → P (f e)) → ((b : B) → r ≡ Ok b → P (g b))
+    → P (on_result r f g)
 unfolding on_result
-on_result_keeps P (Err e) f g p q = p e
+on_result_keeps P (Err e) f g p q = p e refl
 on_result_keeps P (Ok b) f g p q = q b refl
 
 -- ---- the place of a record: chunk × size + index

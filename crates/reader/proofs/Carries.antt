@@ -1,7 +1,9 @@
 -- S-4: the count that an answer carries. It is of the hole's own sectors, each of which the call has read: those of the chunk at which the reader
 -- arrived, from its index to before the hole's end; of a hole that a number cuts short (S-1), to before that number. Assumes nothing.
-use mathlib.Core.Path.{◌≡◌, refl, sym, ◌∙◌, subst}
-use mathlib.Core.Bool.{Bool}
+use Rattle.std.specs.Prelude.{Result, Ok, Err}
+use Rattle.medium.specs.declared.Error.{Error}
+use mathlib.Core.Path.{◌≡◌, refl, sym, ap, ◌∙◌, subst}
+use mathlib.Core.Bool.{Bool, true}
 use mathlib.Core.List.{List}
 use Prim.Native.Nat.{ℕ, ◌+◌, ◌-◌, ◌*◌, ◌≤◌, ◌<◌}
 use native.Mathlib.Nat.{le_refl}
@@ -20,7 +22,7 @@ use Rattle.medium.specs.Sector.{sector_at}
 use Rattle.medium.proofs.Laws.{on_done_keeps}
 use Rattle.handles.specs.declared.Store.{Store}
 use Rattle.record.specs.Record.{is_blank, data_at, number_at}
-use Rattle.record.proofs.Laws.{on_judged_keeps}
+use Rattle.record.proofs.Laws.{on_judged_keeps, on_result_keeps}
 use Rattle.reader.specs.declared.Reader.{Reader}
 use Rattle.reader.specs.declared.Arrived.{Arrived}
 use Rattle.reader.specs.declared.Found.{Found}
@@ -34,7 +36,6 @@ use Rattle.reader.specs.Calls.{usable_of, hole, next_answer, NextCall, next_call
 use Rattle.reader.specs.Upto.{stands_at, cut_at, cut_out, below_of, UptoCall, below_call}
 use Rattle.reader.proofs.Facts.{Reads, reader_facts, usable_facts, limit_most}
 use Rattle.reader.proofs.Moves.{arrive_reads}
-use Rattle.reader.proofs.Finds.{on_searched_keeps}
 use Rattle.reader.proofs.Holes.{HoleIs, Tells, take_tells, next_hole}
 
 -- ---- by places
@@ -73,42 +74,41 @@ pub record Cut (vol : List ℕ) (m : Medium) (st : Store) (rd : Reader) (from to
 
 module _ (vol : List ℕ) (m : Medium) (st : Store) (limit : ℕ) where
   -- an answer that is no hole
-  clash : (rd : Reader) (t : Taken) (x : Found) {from to : ℕ} → (x ≡ found.Hole from to → ⊥) → t.next ≡ x → t.next ≡ found.Hole from to → Cut vol m st rd from to
+  clash : (rd : Reader) (t : Taken) (x : Result Found Error) {from to : ℕ} → (x ≡ Ok (found.Hole from to) → ⊥) → t.next ≡ x → t.next ≡ Ok (found.Hole from to) → Cut vol m st rd from to
   clash rd t x n p q = absurd (n (sym p ∙ q))
 
-  cut_tells : (rd : Reader) (more : Bool) (t : Taken) (x : Found) {from to : ℕ} → t.next ≡ x → Tells vol m st rd more x → (cut_at limit st rd t x).next ≡ found.Hole from to
+  cut_tells : (rd : Reader) (more : Result Bool Error) (t : Taken) (x : Result Found Error) {from to : ℕ} → t.next ≡ x → Tells vol m st rd more x → (cut_at limit st rd t x).next ≡ Ok (found.Hole from to)
       → Cut vol m st rd from to
   unfolding cut_at
-  cut_tells rd more t (found.Refused e) p w = clash rd t (found.Refused e) (λ r. let z : ◌≡◌ {A = ℕ} 0 1 = cc in omega arith) p
-  cut_tells rd more t (found.Payload n) p w = clash rd t (found.Payload n) (λ r. let z : ◌≡◌ {A = ℕ} 0 1 = cc in omega arith) p
-  cut_tells rd more t found.End p w = clash rd t found.End (λ r. let z : ◌≡◌ {A = ℕ} 0 1 = cc in omega arith) p
-  cut_tells rd more t (found.Hole a b) {from} {to} p w =
-      pick_keeps_by (λ (u : Taken). u.next ≡ found.Hole from to → Cut vol m st rd from to) (ltb limit b) _ _
+  cut_tells rd more t (Err e) p w = clash rd t (Err e) (λ r. let z : ◌≡◌ {A = ℕ} 0 1 = cc in omega arith) p
+  cut_tells rd more t (Ok (found.Payload n)) p w = clash rd t (Ok (found.Payload n)) (λ r. let z : ◌≡◌ {A = ℕ} 0 1 = cc in omega arith) p
+  cut_tells rd more t (Ok found.End) p w = clash rd t (Ok found.End) (λ r. let z : ◌≡◌ {A = ℕ} 0 1 = cc in omega arith) p
+  cut_tells rd more t (Ok (found.Hole a b)) {from} {to} p w =
+      pick_keeps_by (λ (u : Taken). u.next ≡ Ok (found.Hole from to) → Cut vol m st rd from to) (ltb limit b) _ _
       (λ h q.
       let f : a ≡ from = cc in
       let e : limit ≡ to = cc in
       record { whole = b; is = subst (λ (k : ℕ). HoleIs vol m st rd k b) f w; most = omega (arith, e, ltb-true limit b h) })
       (λ h q.
-      let r : found.Hole a b ≡ found.Hole from to = sym p ∙ q in
+      let r : (Ok (found.Hole a b)) ≡ Ok (found.Hole from to) = sym p ∙ q in
       let f : a ≡ from = cc in
       let e : b ≡ to = cc in
       record { whole = b; is = subst (λ (k : ℕ). HoleIs vol m st rd k b) f w; most = omega (arith, e) })
 
   abbrev CutGoal : Reader → ℕ → ℕ → NextOut → Type 0
-  CutGoal came from to o = o.ans.next ≡ found.Hole from to → Cut vol m st came from to
+  CutGoal came from to o = o.ans.next ≡ Ok (found.Hole from to) → Cut vol m st came from to
 
   below_cut : (rd : Reader) (out : List ℕ) (from to : ℕ) → Reads rd st → CutGoal (arrive_of vol m st rd).reader from to (below_of limit vol m st rd out)
   unfolding below_of cut_out
   below_cut rd out from to r =
       let came : Arrived = arrive_of vol m st rd in
       pick_keeps (CutGoal came.reader from to) (leb limit (stands_at st rd)) _ _ (λ q. absurd (let z : ◌≡◌ {A = ℕ} 0 1 = cc in omega arith))
-      (on_done_keeps (CutGoal came.reader from to) _ _ _
-      (λ d. pick_keeps_by (CutGoal came.reader from to) _ _ _
+      (on_result_keeps (CutGoal came.reader from to) _ _ _ (λ e d q. absurd (let z : ◌≡◌ {A = ℕ} 0 1 = cc in omega arith))
+      (λ b o. pick_keeps_by (CutGoal came.reader from to) _ _ _
       (λ t q.
-      let there = (and_true _ _ t).0 in
+      let there : came.more ≡ Ok true = o ∙ ap Ok (and_true _ _ t).0 in
       cut_tells came.reader came.more _ _ refl (take_tells vol m st came.reader came.more ((arrive_reads vol m st rd r).below there) out) q)
-      (λ t q. absurd (let z : ◌≡◌ {A = ℕ} 0 1 = cc in omega arith)))
-      (λ e d q. absurd (let z : ◌≡◌ {A = ℕ} 0 1 = cc in omega arith)))
+      (λ t q. absurd (let z : ◌≡◌ {A = ℕ} 0 1 = cc in omega arith))))
 
 -- ---- the reader behind a hole is in the chunk at which it arrived
 
@@ -116,7 +116,7 @@ module _ (vol : List ℕ) (m : Medium) (st : Store) where
   hole_chunk : (rd : Reader) → (hole_of vol m st rd).reader.chunk ≡ rd.chunk
   unfolding hole_of moved_to
   hole_chunk rd =
-      on_searched_keeps (λ (t : Taken). t.reader.chunk ≡ rd.chunk) _ _ _ (λ e. refl)
+      on_result_keeps (λ (t : Taken). t.reader.chunk ≡ rd.chunk) _ _ _ (λ e _. refl)
       (λ to q. pick_keeps (λ (t : Taken). t.reader.chunk ≡ rd.chunk) _ _ _ refl refl)
 
   take_chunk : (rd : Reader) (out : List ℕ) → (take_of vol m st rd out).ans.reader.chunk ≡ rd.chunk
@@ -127,43 +127,41 @@ module _ (vol : List ℕ) (m : Medium) (st : Store) where
   next_chunk : (rd : Reader) (out : List ℕ) → (next_of vol m st rd out).ans.reader.chunk ≡ (arrive_of vol m st rd).reader.chunk
   unfolding next_of
   next_chunk rd out =
-      on_done_keeps (λ (o : NextOut). o.ans.reader.chunk ≡ (arrive_of vol m st rd).reader.chunk) _ _ _
-      (λ d. pick_keeps (λ (o : NextOut). o.ans.reader.chunk ≡ (arrive_of vol m st rd).reader.chunk) _ _ _ (take_chunk _ out) refl)
-      (λ e d. refl)
+      on_result_keeps (λ (o : NextOut). o.ans.reader.chunk ≡ (arrive_of vol m st rd).reader.chunk) _ _ _ (λ e d. refl)
+      (λ b d. pick_keeps (λ (o : NextOut). o.ans.reader.chunk ≡ (arrive_of vol m st rd).reader.chunk) _ _ _ (take_chunk _ out) refl)
 
-  cut_chunk : (limit : ℕ) (rd : Reader) (t : Taken) (x : Found) → t.reader.chunk ≡ rd.chunk → (cut_at limit st rd t x).reader.chunk ≡ rd.chunk
+  cut_chunk : (limit : ℕ) (rd : Reader) (t : Taken) (x : Result Found Error) → t.reader.chunk ≡ rd.chunk → (cut_at limit st rd t x).reader.chunk ≡ rd.chunk
   unfolding cut_at moved_to
-  cut_chunk limit rd t (found.Refused e) h = h
-  cut_chunk limit rd t (found.Payload n) h = h
-  cut_chunk limit rd t (found.Hole from to) h = pick_keeps (λ (u : Taken). u.reader.chunk ≡ rd.chunk) _ _ _ refl h
-  cut_chunk limit rd t found.End h = h
+  cut_chunk limit rd t (Err e) h = h
+  cut_chunk limit rd t (Ok (found.Payload n)) h = h
+  cut_chunk limit rd t (Ok (found.Hole from to)) h = pick_keeps (λ (u : Taken). u.reader.chunk ≡ rd.chunk) _ _ _ refl h
+  cut_chunk limit rd t (Ok found.End) h = h
 
   -- only of a hole: where all below the number was given the reader has not moved
   abbrev Behind : Reader → ℕ → ℕ → NextOut → Type 0
-  Behind came from to o = o.ans.next ≡ found.Hole from to → o.ans.reader.chunk ≡ came.chunk
+  Behind came from to o = o.ans.next ≡ Ok (found.Hole from to) → o.ans.reader.chunk ≡ came.chunk
 
   below_chunk : (limit : ℕ) (rd : Reader) (out : List ℕ) {from to : ℕ} → Behind (arrive_of vol m st rd).reader from to (below_of limit vol m st rd out)
   unfolding below_of cut_out
   below_chunk limit rd out {from} {to} =
       pick_keeps (Behind (arrive_of vol m st rd).reader from to) (leb limit (stands_at st rd)) _ _ (λ q. absurd (let z : ◌≡◌ {A = ℕ} 0 1 = cc in omega arith))
-      (on_done_keeps (Behind (arrive_of vol m st rd).reader from to) _ _ _
-      (λ d. pick_keeps (Behind (arrive_of vol m st rd).reader from to) _ _ _ (λ q. cut_chunk limit _ _ _ (take_chunk _ out)) (λ q. refl))
-      (λ e d q. refl))
+      (on_result_keeps (Behind (arrive_of vol m st rd).reader from to) _ _ _ (λ e d q. refl)
+      (λ b d. pick_keeps (Behind (arrive_of vol m st rd).reader from to) _ _ _ (λ q. cut_chunk limit _ _ _ (take_chunk _ out)) (λ q. refl)))
 
 -- ---- the answers
 
 -- a hole that is told was found, and its count is that of its sectors
-told_hole : (vol : List ℕ) (st : Store) (rd : Reader) (x : Found) {from to blank : ℕ} → next_answer (counted_of vol st rd x) ≡ ok (hole from to blank)
-    → (x ≡ found.Hole from to) × (blank ≡ blanks_of vol st rd from to)
+told_hole : (vol : List ℕ) (st : Store) (rd : Reader) (x : Result Found Error) {from to blank : ℕ} → next_answer (counted_of vol st rd x) ≡ ok (hole from to blank)
+    → (x ≡ Ok (found.Hole from to)) × (blank ≡ blanks_of vol st rd from to)
 unfolding counted_of
-told_hole vol st rd (found.Refused e) q = absurd (let z : ◌≡◌ {A = ℕ} 0 1 = cc in omega arith)
-told_hole vol st rd (found.Payload n) q = absurd (let z : ◌≡◌ {A = ℕ} 0 1 = cc in omega arith)
-told_hole vol st rd (found.Hole a b) {from} {to} {blank} q =
+told_hole vol st rd (Err e) q = absurd (let z : ◌≡◌ {A = ℕ} 0 1 = cc in omega arith)
+told_hole vol st rd (Ok (found.Payload n)) q = absurd (let z : ◌≡◌ {A = ℕ} 0 1 = cc in omega arith)
+told_hole vol st rd (Ok (found.Hole a b)) {from} {to} {blank} q =
     let f : a ≡ from = cc in
     let t : b ≡ to = cc in
     let k : blanks_of vol st rd a b ≡ blank = cc in
     (rw (f, t), rw (← f, ← t) (sym k))
-told_hole vol st rd found.End q = absurd (let z : ◌≡◌ {A = ℕ} 0 1 = cc in omega arith)
+told_hole vol st rd (Ok found.End) q = absurd (let z : ◌≡◌ {A = ℕ} 0 1 = cc in omega arith)
 
 module _ (vol : List ℕ) (m : Medium) (st : Store) (rd : Reader) (out : List ℕ) (from to blank : ℕ) where
   abbrev came : Reader

@@ -22,12 +22,12 @@ use Rattle.reader.specs.Calls.{usable_of, next_answer, next_call}
 use Rattle.reader.specs.Upto.{below_of, below_call}
 use Rattle.reader.specs.Earlier.{item_answer, next_earlier, below_earlier, uncounted, next_forgot, below_forgot}
 
-forgets : (vol : List ℕ) (st : Store) (rd : Reader) (x : Found) → uncounted (next_answer (counted_of vol st rd x)) ≡ item_answer x
+forgets : (vol : List ℕ) (st : Store) (rd : Reader) (x : Result Found Error) → uncounted (next_answer (counted_of vol st rd x)) ≡ item_answer x
 unfolding counted_of uncounted
-forgets vol st rd (found.Refused e) = refl
-forgets vol st rd (found.Payload n) = refl
-forgets vol st rd (found.Hole from to) = refl
-forgets vol st rd found.End = refl
+forgets vol st rd (Err e) = refl
+forgets vol st rd (Ok (found.Payload n)) = refl
+forgets vol st rd (Ok (found.Hole from to)) = refl
+forgets vol st rd (Ok found.End) = refl
 
 -- both calls choose alike
 through : {A B : Type 0} (f : A → B) (b : Bool) (o : Result Unit Error) (x y : A) (g : Error → A) → f (pick b x (on_done o y g)) ≡ pick b (f x) (on_done o (f y) (λ e. f (g e)))

@@ -1,5 +1,5 @@
 -- What a reader that passes refusal 3 tells, and the moves that keep it so. Assumes nothing.
-use Rattle.std.specs.Prelude.{Err, Ok, Result}
+use Rattle.std.specs.Prelude.{Err, Ok, Result, Option, Some, None}
 use Rattle.medium.specs.declared.Error.{Error}
 use mathlib.Core.Path.{◌≡◌, refl}
 use mathlib.Core.Bool.{Bool, true, false}
@@ -25,8 +25,6 @@ use Rattle.table.specs.declared.ChainParts.{ChainParts}
 use Rattle.table.specs.declared.Chained.TheVariants.{Whole}
 use Rattle.table.specs.Table.{chain_of}
 use Rattle.table.proofs.Walks.{chain_range}
-use Rattle.reader.specs.declared.End.{End}
-use Rattle.reader.specs.declared.End.TheVariants.{Last, Records}
 use Rattle.reader.specs.declared.Reader.{Reader}
 use Rattle.reader.specs.Reader.{end_ok, reader_ok, no_reader, end_of, start_of, moved_to, inside_of}
 use Rattle.reader.specs.Next.{passed_end, limit_of}
@@ -90,19 +88,19 @@ usable_facts vol st rd p q = and_true _ _ (used _ _ (told p q))
 pub end_within : (chunks position size : ℕ) (partial : Bool) (records : ℕ) → records ≤ size → end_ok (end_of chunks position size partial records) size ≡ true
 unfolding end_of
 end_within chunks position size partial records h =
-    pick_keeps (λ (e : End). end_ok e size ≡ true) (ltb (position + 1) chunks) _ _
+    pick_keeps (λ (e : Option ℕ). end_ok e size ≡ true) (ltb (position + 1) chunks) _ _
     (pick_keeps (λ (n : ℕ). leb n size ≡ true) partial records size (le-leb _ _ h) (le-leb size size (le_refl size))) refl
 
-pub limit_most : (e : End) (size : ℕ) → end_ok e size ≡ true → limit_of e size ≤ size
+pub limit_most : (e : Option ℕ) (size : ℕ) → end_ok e size ≡ true → limit_of e size ≤ size
 unfolding limit_of
-limit_most Last size h = le_refl size
-limit_most (Records n) size h = leb-true _ _ h
+limit_most None size h = le_refl size
+limit_most (Some n) size h = leb-true _ _ h
 
 -- in a chunk that is not passed, and not at the size
-pub below_limit : (e : End) (index size : ℕ) → passed_end e index ≡ false → index ≤ size → (index ≡ size → ⊥) → index < limit_of e size
+pub below_limit : (e : Option ℕ) (index size : ℕ) → passed_end e index ≡ false → index ≤ size → (index ≡ size → ⊥) → index < limit_of e size
 unfolding passed_end limit_of
-below_limit Last index size p h n = omega arith
-below_limit (Records k) index size p h n = leb-false _ _ p
+below_limit None index size p h n = omega arith
+below_limit (Some k) index size p h n = leb-false _ _ p
 
 -- ---- moves
 
@@ -155,8 +153,10 @@ start_ok vol m st slot id {p} ok s i e =
 
 -- ---- numbers
 
+pub number_fits : (st : Store) (rd : Reader) (i : ℕ) → st.head.chunk ≤ 512 → Reads rd st → i ≤ st.head.chunk
+    → (rd.position ≤ 32767) × (st.head.chunk ≤ 512) × (i ≤ 512)
+number_fits st rd i s r h = (omega (arith, r.position, r.chunks_most), s, omega arith)
+
 pub number_needs : (st : Store) (rd : Reader) (sectors i : ℕ) → store_ok st sectors ≡ true → Reads rd st → i ≤ st.head.chunk
     → (rd.position ≤ 32767) × (st.head.chunk ≤ 512) × (i ≤ 512)
-number_needs st rd sectors i ok r h =
-    let s : st.head.chunk ≤ 512 = (store_facts st sectors ok).head.size_most in
-    (omega (arith, r.position, r.chunks_most), s, omega arith)
+number_needs st rd sectors i ok r h = number_fits st rd i (store_facts st sectors ok).head.size_most r h

@@ -1,7 +1,9 @@
 -- S-1, S-12: a reader goes forward: behind a payload or a hole the number of the record that comes next is larger. So a walk over the items of a file
 -- ends. Assumes nothing.
-use Rattle.std.specs.Prelude.{Err, Ok}
-use mathlib.Core.Path.{◌≡◌, refl, subst, ◌∙◌}
+use Rattle.std.specs.Prelude.{Err, Ok, Result}
+use Rattle.medium.specs.declared.Error.{Error}
+use mathlib.Core.Path.{◌≡◌, refl, ap, subst, ◌∙◌}
+use mathlib.Core.Bool.{Bool}
 use mathlib.Core.List.{List}
 use Prim.Native.Nat.{ℕ, ◌+◌, ◌*◌, ◌≤◌, ◌<◌}
 use native.Mathlib.Nat.{le_refl, add-mul, one-mul}
@@ -10,14 +12,12 @@ use Rattle.le.proofs.Choices.{pick_keeps, pick_keeps_by}
 use Rattle.walk.specs.Walk.{Visit, next, stop}
 use Rattle.walk.proofs.Laws.{walk_keeps}
 use Rattle.medium.specs.declared.Medium.{Medium}
-use Rattle.medium.proofs.Laws.{on_done_keeps}
 use Rattle.handles.specs.declared.Store.{Store}
 use Rattle.table.specs.Table.{locate_of}
 use Rattle.table.proofs.Decides.{on_place_keeps}
 use Rattle.record.specs.Record.{number_at}
-use Rattle.record.proofs.Laws.{on_judged_keeps}
+use Rattle.record.proofs.Laws.{on_judged_keeps, on_result_keeps}
 use Rattle.reader.specs.declared.Reader.{Reader}
-use Rattle.reader.specs.declared.Entered.{Entered}
 use Rattle.reader.specs.declared.Arrived.{Arrived}
 use Rattle.reader.specs.declared.Found.{Found}
 use Rattle.reader.specs.declared.Found.TheVariants as found
@@ -26,8 +26,8 @@ use Rattle.reader.specs.Reader.{moved_to, inside_of, enter_of}
 use Rattle.reader.specs.Next.{passed_end, limit_of, arrive_step, arrive_of, record_here, search_of, hole_of, NextOut, take_of, next_of}
 use Rattle.reader.specs.Upto.{stands_at}
 use Rattle.reader.proofs.Facts.{Reads}
-use Rattle.reader.proofs.Moves.{enter_reads, enter_inside, Arrives, arrive_reads}
-use Rattle.reader.proofs.Finds.{on_searched_keeps, search_range}
+use Rattle.reader.proofs.Moves.{moved_same, moved_none, enter_reads, enter_inside, Arrives, arrive_reads}
+use Rattle.reader.proofs.Finds.{search_range}
 
 -- ---- numbers
 
@@ -49,13 +49,11 @@ number_more k size i j h = go (k * size)
 -- ---- passing chunks
 
 module _ (vol : List ℕ) (m : Medium) (st : Store) where
-  abbrev Starts : Entered → Type 0
-  Starts s = s.outcome ≡ Ok tt → s.reader.index ≡ 0
-
-  enter_starts : (rd : Reader) (position : ℕ) → Starts (enter_of vol m st rd position 0)
+  enter_starts : (rd : Reader) (position : ℕ) {r : Reader} → enter_of vol m st rd position 0 ≡ Ok r → r.index ≡ 0
   unfolding enter_of inside_of
-  enter_starts rd position =
-      on_place_keeps Starts (locate_of vol m st rd.slot position) _ _ (λ e q z. absurd (let z : ◌≡◌ {A = ℕ} 0 1 = cc in omega arith)) (λ c l q z. refl)
+  enter_starts rd position {r} =
+      on_place_keeps (λ (s : Result Reader Error). s ≡ Ok r → r.index ≡ 0) (locate_of vol m st rd.slot position) _ _ (λ e q z. moved_none z)
+      (λ c l q z. moved_same (λ (v : Reader). v.index ≡ 0) z refl)
 
   record On (k : ℕ) (rd : Reader) (chunks n : ℕ) : Type 0 where
     pub reads : Reads rd st
@@ -64,7 +62,7 @@ module _ (vol : List ℕ) (m : Medium) (st : Store) where
     pub from : n ≤ stands_at st rd
 
   module _ (chunks n k : ℕ) (rd : Reader) (h : k < chunks) (p : On k rd chunks n) where
-    on : (enter_of vol m st rd (k + 1) 0).outcome ≡ Ok tt → On (k + 1) (enter_of vol m st rd (k + 1) 0).reader chunks n
+    on : {r : Reader} → enter_of vol m st rd (k + 1) 0 ≡ Ok r → On (k + 1) r chunks n
     unfolding stands_at
     on o =
         let i = enter_inside vol m st rd (k + 1) 0 o in
@@ -72,7 +70,7 @@ module _ (vol : List ℕ) (m : Medium) (st : Store) where
         let s : number_at k st.head.chunk rd.index ≤ number_at (k + 1) st.head.chunk 0 = number_step k st.head.chunk rd.index p.reads.index in
         let f : n ≤ number_at k st.head.chunk rd.index = rw (← p.at) p.from in
         record {
-          reads = enter_reads vol m st rd (k + 1) 0 p.reads (omega (arith, p.all)) (omega arith);
+          reads = enter_reads vol m st rd (k + 1) 0 p.reads (omega (arith, p.all)) (omega arith) o;
           at = i.0;
           all = i.1 ∙ p.all;
           from = rw (i.0, z) (omega (arith, s, f));
@@ -82,43 +80,43 @@ module _ (vol : List ℕ) (m : Medium) (st : Store) where
     unfolding arrive_step
     goes u =
         pick_keeps_by (λ (s : Visit Reader Arrived). s ≡ next u → On (k + 1) u chunks n) (passed_end rd.end rd.index) _ _
-        (λ t. on_done_keeps (λ (s : Visit Reader Arrived). s ≡ next u → On (k + 1) u chunks n) (enter_of vol m st rd (k + 1) 0).outcome _ _
-        (λ o q. let z : (enter_of vol m st rd (k + 1) 0).reader ≡ u = cc in subst (λ (v : Reader). On (k + 1) v chunks n) z (on o))
-        (λ x o q. absurd (let z : ◌≡◌ {A = ℕ} 0 1 = cc in omega arith)))
+        (λ t. on_result_keeps (λ (s : Visit Reader Arrived). s ≡ next u → On (k + 1) u chunks n) (enter_of vol m st rd (k + 1) 0) _ _
+        (λ x o q. absurd (let z : ◌≡◌ {A = ℕ} 0 1 = cc in omega arith))
+        (λ r o q. let z : r ≡ u = cc in subst (λ (v : Reader). On (k + 1) v chunks n) z (on o)))
         (λ t q. absurd (let z : ◌≡◌ {A = ℕ} 0 1 = cc in omega arith))
 
     -- only where it is not refused
     abbrev Further : Arrived → Type 0
-    Further a = a.outcome ≡ Ok tt → n ≤ stands_at st a.reader
+    Further a = (b : Bool) → a.more ≡ Ok b → n ≤ stands_at st a.reader
 
-    stops : (a : Arrived) → arrive_step vol m st k rd ≡ stop a → a.outcome ≡ Ok tt → n ≤ stands_at st a.reader
+    stops : (a : Arrived) → arrive_step vol m st k rd ≡ stop a → (b : Bool) → a.more ≡ Ok b → n ≤ stands_at st a.reader
     unfolding arrive_step
     stops a =
         pick_keeps_by (λ (s : Visit Reader Arrived). s ≡ stop a → Further a) (passed_end rd.end rd.index) _ _
-        (λ t. on_done_keeps (λ (s : Visit Reader Arrived). s ≡ stop a → Further a) (enter_of vol m st rd (k + 1) 0).outcome _ _
-        (λ o q. absurd (let z : ◌≡◌ {A = ℕ} 0 1 = cc in omega arith))
+        (λ t. on_result_keeps (λ (s : Visit Reader Arrived). s ≡ stop a → Further a) (enter_of vol m st rd (k + 1) 0) _ _
         (λ x o q.
-        let z : Err x ≡ a.outcome = cc in
-        λ d. absurd (let y : Err x ≡ (Ok tt) = z ∙ d in let w : ◌≡◌ {A = ℕ} 0 1 = cc in omega arith)))
+        let z : ◌≡◌ {A = Result Bool Error} (Err x) a.more = cc in
+        λ b d. absurd (let y : ◌≡◌ {A = Result Bool Error} (Err x) (Ok b) = z ∙ d in let w : ◌≡◌ {A = ℕ} 0 1 = cc in omega arith))
+        (λ r o q. absurd (let z : ◌≡◌ {A = ℕ} 0 1 = cc in omega arith)))
         (λ t q.
         let z : rd ≡ a.reader = cc in
-        λ d. subst (λ (v : Reader). n ≤ stands_at st v) z p.from)
+        λ b d. subst (λ (v : Reader). n ≤ stands_at st v) z p.from)
 
-  pub arrive_forward : (rd : Reader) → Reads rd st → (arrive_of vol m st rd).outcome ≡ Ok tt → stands_at st rd ≤ stands_at st (arrive_of vol m st rd).reader
+  pub arrive_forward : (rd : Reader) → Reads rd st → (b : Bool) → (arrive_of vol m st rd).more ≡ Ok b → stands_at st rd ≤ stands_at st (arrive_of vol m st rd).reader
   unfolding arrive_of
   arrive_forward rd r =
-      walk_keeps (arrive_step vol m st) _ rd.chunks (λ k t. On k t rd.chunks (stands_at st rd)) (λ (a : Arrived). a.outcome ≡ Ok tt → stands_at st rd ≤ stands_at st a.reader)
+      walk_keeps (arrive_step vol m st) _ rd.chunks (λ k t. On k t rd.chunks (stands_at st rd)) (λ (a : Arrived). (b : Bool) → a.more ≡ Ok b → stands_at st rd ≤ stands_at st a.reader)
       (λ k t u h p. goes rd.chunks (stands_at st rd) k t h p u) (λ k t a h p. stops rd.chunks (stands_at st rd) k t h p a)
-      (λ t p d. p.from)
+      (λ t p b d. p.from)
       rd.position rd r.position (record { reads = r; at = refl; all = refl; from = le_refl (stands_at st rd) })
 
   -- ---- next
 
-  abbrev Passes : ℕ → Found → Reader → Type 0
-  Passes n (found.Refused e) rd = Unit {0}
-  Passes n (found.Payload k) rd = n < stands_at st rd
-  Passes n (found.Hole a b) rd = n < stands_at st rd
-  Passes n found.End rd = Unit {0}
+  abbrev Passes : ℕ → Result Found Error → Reader → Type 0
+  Passes n (Err e) rd = Unit {0}
+  Passes n (Ok (found.Payload k)) rd = n < stands_at st rd
+  Passes n (Ok (found.Hole a b)) rd = n < stands_at st rd
+  Passes n (Ok found.End) rd = Unit {0}
 
   abbrev Goes : ℕ → Taken → Type 0
   Goes n t = Passes n t.next t.reader
@@ -133,7 +131,7 @@ module _ (vol : List ℕ) (m : Medium) (st : Store) where
     hole_goes : Goes n (hole_of vol m st rd)
     unfolding hole_of
     hole_goes =
-        on_searched_keeps (Goes n) (search_of vol m st rd (rd.index + 1) (limit_of rd.end st.head.chunk)) _ _ (λ e. tt)
+        on_result_keeps (Goes n) (search_of vol m st rd (rd.index + 1) (limit_of rd.end st.head.chunk)) _ _ (λ e _. tt)
         (λ to q. pick_keeps (Goes n) _ _ _ tt
         (let w = search_range vol m st rd (rd.index + 1) (limit_of rd.end st.head.chunk) (omega arith) q in later to (omega (arith, w.passed.low))))
 
@@ -146,9 +144,8 @@ module _ (vol : List ℕ) (m : Medium) (st : Store) where
   unfolding next_of
   next_forward rd out r =
       let a : Arrives st (arrive_of vol m st rd) = arrive_reads vol m st rd r in
-      on_done_keeps (λ (o : NextOut). Goes (stands_at st rd) o.ans) (arrive_of vol m st rd).outcome _ _
-      (λ o.
-      pick_keeps_by (λ (x : NextOut). Goes (stands_at st rd) x.ans) (arrive_of vol m st rd).more _ _
-      (λ t. take_goes (stands_at st rd) (arrive_of vol m st rd).reader (a.below t) (arrive_forward rd r o) out)
+      on_result_keeps (λ (o : NextOut). Goes (stands_at st rd) o.ans) (arrive_of vol m st rd).more _ _ (λ e o. tt)
+      (λ more o.
+      pick_keeps_by (λ (x : NextOut). Goes (stands_at st rd) x.ans) more _ _
+      (λ t. take_goes (stands_at st rd) (arrive_of vol m st rd).reader (a.below (o ∙ ap Ok t)) (arrive_forward rd r more o) out)
       (λ t. tt))
-      (λ e o. tt)

@@ -1,5 +1,7 @@
 -- What a reader gives goes by the volume's length, by the table of its store value and by the data sectors: volumes that agree there give the same.
 -- Assumes nothing.
+use Rattle.std.specs.Prelude.{Result, Ok, Err}
+use Rattle.medium.specs.declared.Error.{Error}
 use mathlib.Core.Path.{◌≡◌, refl, ap}
 use mathlib.Core.List.{List}
 use Prim.Native.Nat.{ℕ, ◌+◌, ◌-◌, ◌*◌, ◌/◌, ◌%◌, ◌<◌, ◌≤◌}
@@ -64,12 +66,12 @@ module _ (vol v : List ℕ) (m : Medium) (st : Store) (size : length v ≡ lengt
   unfolding take_of hole_of
   took rd out = rw (judged rd rd.index, held rd.chunk rd.index, sought rd (rd.index + 1) (limit_of rd.end st.head.chunk))
 
-  counted : (rd : Reader) (x : Found) → counted_of v st rd x ≡ counted_of vol st rd x
+  counted : (rd : Reader) (x : Result Found Error) → counted_of v st rd x ≡ counted_of vol st rd x
   unfolding counted_of blanks_of blank_at
-  counted rd (found.Refused e) = refl
-  counted rd (found.Payload n) = refl
-  counted rd (found.Hole from to) = ap (Hole from to) (tally_ext _ _ (to - from) (λ i _. ap is_blank (held rd.chunk ((from + i) % st.head.chunk))))
-  counted rd found.End = refl
+  counted rd (Err e) = refl
+  counted rd (Ok (found.Payload n)) = refl
+  counted rd (Ok (found.Hole from to)) = ap (λ (k : ℕ). Ok (Hole from to k)) (tally_ext _ _ (to - from) (λ i _. ap is_blank (held rd.chunk ((from + i) % st.head.chunk))))
+  counted rd (Ok found.End) = refl
 
   pub next_frame : (rd : Reader) (out : List ℕ) → next_call v m st rd out ≡ next_call vol m st rd out
   unfolding next_call next_of usable_of

@@ -1,7 +1,7 @@
 -- S-1: what a reader up to a number hands back passes refusal 3 again. Assumes nothing.
-use Rattle.std.specs.Prelude.{Ok, Result}
+use Rattle.std.specs.Prelude.{Ok, Result, Err, Option, Some, None}
 use Rattle.medium.specs.declared.Error.{Error}
-use mathlib.Core.Path.{◌≡◌, refl, subst}
+use mathlib.Core.Path.{◌≡◌, refl, ap, subst, ◌∙◌}
 use mathlib.Core.Bool.{true}
 use mathlib.Core.List.{List}
 use Prim.Native.Nat.{ℕ, ◌+◌, ◌-◌, ◌*◌, ◌≤◌, ◌<◌}
@@ -17,7 +17,7 @@ use Rattle.medium.proofs.Laws.{on_done_keeps}
 use Rattle.handles.specs.declared.Store.{Store}
 use Rattle.handles.specs.Handles.{store_ok}
 use Rattle.record.specs.Record.{number_at}
-use Rattle.record.proofs.Laws.{on_judged_keeps}
+use Rattle.record.proofs.Laws.{on_judged_keeps, on_result_keeps}
 use Rattle.reader.specs.declared.Reader.{Reader}
 use Rattle.reader.specs.declared.Found.{Found}
 use Rattle.reader.specs.declared.Found.TheVariants as found
@@ -26,14 +26,14 @@ use Rattle.reader.specs.declared.Upto.{Upto}
 use Rattle.reader.specs.Reader.{reader_ok}
 use Rattle.reader.specs.Next.{limit_of, record_here, search_of, arrive_of, hole_of, NextOut, take_of}
 use Rattle.reader.specs.Calls.{usable_of}
-use Rattle.reader.specs.Upto.{stands_at, cut_at, cut_out, below_of, UptoCall, below_call}
+use Rattle.reader.specs.Upto.{stands_at, cut_at, cut_out, below_of, next_upto, UptoCall, below_call}
 use Rattle.reader.proofs.Facts.{Reads, reader_facts, reader_ok_lem, usable_facts, moved_reads}
 use Rattle.reader.proofs.Moves.{Arrives, arrive_reads}
-use Rattle.reader.proofs.Finds.{on_searched_keeps, hole_within, take_finds}
+use Rattle.reader.proofs.Finds.{hole_within, take_finds, next_finds}
 
 -- a hole ends within its chunk
-abbrev Ends : Store → Reader → Found → Type 0
-Ends st rd n = (x y : ℕ) → n ≡ found.Hole x y → y ≤ number_at rd.position st.head.chunk st.head.chunk
+abbrev Ends : Store → Reader → Result Found Error → Type 0
+Ends st rd n = (x y : ℕ) → n ≡ Ok (found.Hole x y) → y ≤ number_at rd.position st.head.chunk st.head.chunk
 
 number_most : (p size i : ℕ) → i ≤ size → number_at p size i ≤ number_at p size size
 unfolding number_at
@@ -46,8 +46,8 @@ module _ (vol : List ℕ) (m : Medium) (st : Store) (rd : Reader) (r : Reads rd 
   hole_ends : Ends st rd (hole_of vol m st rd).next
   unfolding hole_of
   hole_ends =
-      on_searched_keeps (λ (t : Taken). Ends st rd t.next) (search_of vol m st rd (rd.index + 1) (limit_of rd.end st.head.chunk)) _ _
-      (λ e x y q. absurd (let z : ◌≡◌ {A = ℕ} 0 1 = cc in omega arith))
+      on_result_keeps (λ (t : Taken). Ends st rd t.next) (search_of vol m st rd (rd.index + 1) (limit_of rd.end st.head.chunk)) _ _
+      (λ e _ x y q. absurd (let z : ◌≡◌ {A = ℕ} 0 1 = cc in omega arith))
       (λ to q.
       pick_keeps (λ (t : Taken). Ends st rd t.next) _ _ _
       (λ x y w. absurd (let z : ◌≡◌ {A = ℕ} 0 1 = cc in omega arith))
@@ -71,15 +71,15 @@ cut_index p size limit to h k = go (p * size) k
     go : (b : ℕ) → to ≤ b + size → limit - (b + 0) ≤ size
     go b q = omega (arith, h, q)
 
-cut_reads : (limit : ℕ) (st : Store) (rd : Reader) (t : Taken) (n : Found) → Reads rd st → Reads t.reader st → Ends st rd n → Reads (cut_at limit st rd t n).reader st
+cut_reads : (limit : ℕ) (st : Store) (rd : Reader) (t : Taken) (n : Result Found Error) → Reads rd st → Reads t.reader st → Ends st rd n → Reads (cut_at limit st rd t n).reader st
 unfolding cut_at
-cut_reads limit st rd t (found.Refused e) r k ends = k
-cut_reads limit st rd t (found.Payload n) r k ends = k
-cut_reads limit st rd t (found.Hole from to) r k ends =
+cut_reads limit st rd t (Err e) r k ends = k
+cut_reads limit st rd t (Ok (found.Payload n)) r k ends = k
+cut_reads limit st rd t (Ok (found.Hole from to)) r k ends =
     pick_keeps_by (λ (x : Taken). Reads x.reader st) (ltb limit to) _ _
     (λ h. moved_reads st rd rd.position _ r r.position (cut_index rd.position st.head.chunk limit to (ltb-true limit to h) (ends from to refl)))
     (λ h. k)
-cut_reads limit st rd t found.End r k ends = k
+cut_reads limit st rd t (Ok found.End) r k ends = k
 
 module _ (limit : ℕ) (vol : List ℕ) (m : Medium) (st : Store) (out : List ℕ) (ok : store_ok st (sectors_of vol) ≡ true) (enough : 486 ≤ length out) where
   below_reads : (rd : Reader) → Reads rd st → Reads (below_of limit vol m st rd out).ans.reader st
@@ -87,23 +87,21 @@ module _ (limit : ℕ) (vol : List ℕ) (m : Medium) (st : Store) (out : List �
   below_reads rd r =
       let a : Arrives st (arrive_of vol m st rd) = arrive_reads vol m st rd r in
       pick_keeps (λ (o : NextOut). Reads o.ans.reader st) (leb limit (stands_at st rd)) _ _ r
-      (on_done_keeps (λ (o : NextOut). Reads o.ans.reader st) (arrive_of vol m st rd).outcome _ _
-      (λ o.
+      (on_result_keeps (λ (o : NextOut). Reads o.ans.reader st) (arrive_of vol m st rd).more _ _ (λ e o. a.reads)
+      (λ b o.
       pick_keeps_by (λ (x : NextOut). Reads x.ans.reader st) _ _ _
       (λ t.
-      let more = (and_true _ _ t).0 in
+      let more : (arrive_of vol m st rd).more ≡ Ok true = o ∙ ap Ok (and_true _ _ t).0 in
       let there = (arrive_of vol m st rd).reader in
       cut_reads limit st there _ _ a.reads (take_finds vol m st out ok enough there a.reads (a.below more)).reads (take_ends vol m st there a.reads (a.below more) out))
-      (λ t. a.reads))
-      (λ e o. a.reads))
+      (λ t. a.reads)))
 
 -- the reader behind what was found passes
-pub upto_passes : (vol : List ℕ) (m : Medium) (st : Store) (u : Upto) (out : List ℕ) {o : Result Unit Error} {t : Taken} → 486 ≤ length out
-    → o ≡ usable_of vol st u.reader → o ≡ Ok tt → t ≡ (below_of u.limit vol m st u.reader out).ans
-    → (store_ok st (sectors_of vol) ≡ true) × (reader_ok t.reader st ≡ true)
-upto_passes vol m st u out enough asked q e =
-    let p = usable_facts vol st u.reader asked q in
-    (p.0, rw e (reader_ok_lem _ st (below_reads u.limit vol m st out p.0 enough u.reader (reader_facts u.reader st p.1))))
+pub upto_passes : (limit : Option ℕ) (vol : List ℕ) (m : Medium) (st : Store) (rd : Reader) (out : List ℕ) {t : Taken} → store_ok st (sectors_of vol) ≡ true → reader_ok rd st ≡ true
+    → 486 ≤ length out → t ≡ (next_upto limit vol m st rd out).ans → reader_ok t.reader st ≡ true
+unfolding next_upto
+upto_passes None vol m st rd out ok r enough e = rw e (reader_ok_lem _ st (next_finds vol m st out ok enough rd (reader_facts rd st r)).reads)
+upto_passes (Some limit) vol m st rd out ok r enough e = rw e (reader_ok_lem _ st (below_reads limit vol m st out ok enough rd (reader_facts rd st r)))
 
 pub below_passes : (vol : List ℕ) (m : Medium) (st : Store) (u : Upto) (out : List ℕ) → reader_ok u.reader st ≡ true → reader_ok (below_call vol m st u out).upto.reader st ≡ true
 unfolding below_call

@@ -3,78 +3,59 @@ use Rattle.std.specs.Prelude.{Err, Ok, Result}
 use mathlib.Core.Path.{◌≡◌, refl, ap}
 use mathlib.Core.Bool.{true}
 use mathlib.Core.List.{List}
-use Prim.Native.Nat.{ℕ, ◌≤◌, ◌<◌}
+use Prim.Native.Nat.{ℕ, ◌≤◌}
 use native.Mathlib.Omega.{arith}
-use borrow.Author.Tests.{ltb-false, lt-ltb, le-ltb}
+use borrow.Author.Tests.{ltb-false}
 use lib.Dec.{ltb}
 use lib.ListN.{length}
-use Rattle.le.specs.Choice.{pick}
 use Rattle.le.proofs.Choices.{pick_keeps_by}
 use Rattle.medium.specs.declared.Error.{Error}
-use Rattle.medium.specs.declared.Error.TheVariants.{Range}
 use Rattle.medium.specs.declared.Medium.{Medium}
 use Rattle.medium.specs.Refusal.{number_of, ok, refused, on_done}
 use Rattle.medium.specs.Sector.{sectors_of}
 use Rattle.medium.proofs.Laws.{on_done_keeps}
+use Rattle.record.specs.Record.{on_result}
+use Rattle.record.proofs.Laws.{on_result_keeps}
 use Rattle.handles.specs.declared.Store.{Store}
-use Rattle.handles.specs.Handles.{store_ok}
 use Rattle.handles.proofs.Laws.{store_facts}
 use Rattle.reader.specs.declared.Reader.{Reader}
-use Rattle.reader.specs.declared.Entered.{Entered}
-use Rattle.reader.specs.declared.Next.{Next}
-use Rattle.reader.specs.declared.Next.TheVariants as item
 use Rattle.reader.specs.declared.Found.{Found}
 use Rattle.reader.specs.declared.Found.TheVariants as found
-use Rattle.reader.specs.declared.Taken.{Taken}
 use Rattle.reader.specs.Reader.{reader_ok, seek_of}
 use Rattle.reader.specs.Next.{next_of}
 use Rattle.reader.specs.Blank.{counted_of}
-use Rattle.reader.specs.Calls.{usable_of, payload, next_answer, NextCall, read_answer, next_call, SeekCall, sought_answer, seek_call}
+use Rattle.reader.specs.Calls.{usable_of, payload, next_answer, NextCall, next_call, SeekCall, sought_answer, seek_call}
 use Rattle.reader.proofs.Facts.{reader_facts, reader_ok_lem, usable_facts}
 use Rattle.reader.proofs.Moves.{seek_reads}
 use Rattle.reader.proofs.Finds.{Finds, next_finds}
 
 -- ---- seek
 
-module _ (vol : List ℕ) (m : Medium) (st : Store) (rd : Reader) (number : ℕ) {o : Result Unit Error} (asked : o ≡ usable_of vol st rd) where
-  pub seek_refused : {e : Error} → o ≡ Err e → sought_answer (record { outcome = Err e; reader = rd; medium = m }) ≡ seek_call vol m st rd number
-  unfolding seek_call on_done
-  seek_refused q = rw (← asked, q)
+-- what seeking answers: the reader moved, or the one that was given
+module _ (vol : List ℕ) (m : Medium) (st : Store) (rd : Reader) (number : ℕ) {d : Result Reader Error} (asked : d ≡ on_done (usable_of vol st rd) (seek_of vol m st rd number) Err) where
+  through : (o : Result Unit Error) (s : Result Reader Error) (f : Error → SeekCall) (g : Reader → SeekCall) → on_done o (on_result s f g) f ≡ on_result (on_done o s Err) f g
+  unfolding on_done on_result
+  through (Ok tt) s f g = refl
+  through (Err e) s f g = refl
 
-  pub seek_done : {d : Entered} → o ≡ Ok tt → d ≡ seek_of vol m st rd number → sought_answer (record { outcome = d.outcome; reader = d.reader; medium = m }) ≡ seek_call vol m st rd number
-  unfolding seek_call on_done
-  seek_done q e = rw (← asked, q, e)
+  pub seek_refused : {e : Error} → d ≡ Err e → sought_answer (record { outcome = Err e; reader = rd; medium = m }) ≡ seek_call vol m st rd number
+  unfolding seek_call on_result
+  seek_refused q = rw (through (usable_of vol st rd) (seek_of vol m st rd number) _ _, ← asked, q)
+
+  pub seek_done : {r : Reader} → d ≡ Ok r → sought_answer (record { outcome = Ok tt; reader = r; medium = m }) ≡ seek_call vol m st rd number
+  unfolding seek_call on_result
+  seek_done q = rw (through (usable_of vol st rd) (seek_of vol m st rd number) _ _, ← asked, q)
 
 -- the reader handed back passes refusal 3 again
 pub seek_ok : (vol : List ℕ) (m : Medium) (st : Store) (rd : Reader) (number : ℕ) → reader_ok rd st ≡ true → reader_ok (seek_call vol m st rd number).reader st ≡ true
 unfolding seek_call
 seek_ok vol m st rd number r =
     on_done_keeps (λ (c : SeekCall). reader_ok c.reader st ≡ true) (usable_of vol st rd) _ _
-    (λ q. reader_ok_lem _ st (seek_reads vol m st rd number (store_facts st (sectors_of vol) (usable_facts vol st rd refl q).0).head.size_least (reader_facts rd st r)))
+    (λ q. on_result_keeps (λ (c : SeekCall). reader_ok c.reader st ≡ true) (seek_of vol m st rd number) _ _ (λ e o. r)
+    (λ b o. reader_ok_lem b st (seek_reads vol m st rd number (store_facts st (sectors_of vol) (usable_facts vol st rd refl q).0).head.size_least (reader_facts rd st r) o)))
     (λ e q. r)
 
 -- ---- next
-
-module _ (vol : List ℕ) (m : Medium) (st : Store) (rd : Reader) (out : List ℕ) where
-  pub next_short : length out < 486 → read_answer (record { next = item.Refused Range; reader = rd; medium = m }) out ≡ next_call vol m st rd out
-  unfolding next_call pick
-  next_short h = rw (lt-ltb _ _ h)
-
-  module _ (enough : 486 ≤ length out) {o : Result Unit Error} (asked : o ≡ usable_of vol st rd) where
-    pub next_no : {e : Error} → o ≡ Err e → read_answer (record { next = item.Refused e; reader = rd; medium = m }) out ≡ next_call vol m st rd out
-    unfolding next_call pick on_done
-    next_no q = rw (le-ltb _ _ enough, ← asked, q)
-
-    -- the reader behind what was found passes
-    pub next_passes : {t : Taken} → o ≡ Ok tt → t ≡ (next_of vol m st rd out).ans → (store_ok st (sectors_of vol) ≡ true) × (reader_ok t.reader st ≡ true)
-    next_passes q e =
-        let u = usable_facts vol st rd asked q in
-        (u.0, rw e (reader_ok_lem _ st (next_finds vol m st out u.0 enough rd (reader_facts rd st u.1)).reads))
-
-    pub next_done : {t : Taken} {l : List ℕ} {n : Next} → o ≡ Ok tt → l ≡ (next_of vol m st rd out).out → t ≡ (next_of vol m st rd out).ans
-        → n ≡ counted_of vol st t.reader t.next → read_answer (record { next = n; reader = t.reader; medium = m }) l ≡ next_call vol m st rd out
-    unfolding next_call pick on_done
-    next_done q e f k = rw (le-ltb _ _ enough, ← asked, q, e, k, f)
 
 -- what it hands back: a reader that passes, an output of the same length, and no more payload than a record has
 pub record Offered (st : Store) (out : List ℕ) (c : NextCall) : Type 0 where
@@ -82,12 +63,12 @@ pub record Offered (st : Store) (out : List ℕ) (c : NextCall) : Type 0 where
   pub kept : length c.out ≡ length out
   pub size : (n : ℕ) → c.answer ≡ ok (payload n) → (1 ≤ n) × (n ≤ 486)
 
-payload_only : (vol : List ℕ) (st : Store) (rd : Reader) (x : Found) (n : ℕ) → next_answer (counted_of vol st rd x) ≡ ok (payload n) → x ≡ found.Payload n
+payload_only : (vol : List ℕ) (st : Store) (rd : Reader) (x : Result Found Error) (n : ℕ) → next_answer (counted_of vol st rd x) ≡ ok (payload n) → x ≡ Ok (found.Payload n)
 unfolding counted_of
-payload_only vol st rd (found.Refused e) n q = absurd (let z : ◌≡◌ {A = ℕ} 0 1 = cc in omega arith)
-payload_only vol st rd (found.Payload k) n q = let z : k ≡ n = cc in ap found.Payload z
-payload_only vol st rd (found.Hole a b) n q = absurd (let z : ◌≡◌ {A = ℕ} 0 1 = cc in omega arith)
-payload_only vol st rd found.End n q = absurd (let z : ◌≡◌ {A = ℕ} 0 1 = cc in omega arith)
+payload_only vol st rd (Err e) n q = absurd (let z : ◌≡◌ {A = ℕ} 0 1 = cc in omega arith)
+payload_only vol st rd (Ok (found.Payload k)) n q = let z : k ≡ n = cc in ap (λ (x : ℕ). Ok (found.Payload x)) z
+payload_only vol st rd (Ok (found.Hole a b)) n q = absurd (let z : ◌≡◌ {A = ℕ} 0 1 = cc in omega arith)
+payload_only vol st rd (Ok found.End) n q = absurd (let z : ◌≡◌ {A = ℕ} 0 1 = cc in omega arith)
 
 module _ (vol : List ℕ) (m : Medium) (st : Store) (rd : Reader) (out : List ℕ) (r : reader_ok rd st ≡ true) where
   declined : (n : ℕ) → Offered st out (record { answer = refused n; reader = rd; out = out; medium = m })

@@ -10,15 +10,12 @@ use Rattle.medium.specs.Refusal.{number_of, Answer, ok, refused, on_done, outcom
 use Rattle.medium.specs.Sector.{sectors_of}
 use Rattle.handles.specs.declared.Store.{Store}
 use Rattle.handles.specs.Handles.{store_ok}
-use Rattle.record.specs.Record.{number_at}
+use Rattle.record.specs.Record.{on_result, number_at}
 use Rattle.reader.specs.declared.Reader.{Reader}
 use Rattle.reader.specs.declared.Read.{Read}
 use Rattle.reader.specs.declared.Sought.{Sought}
-use Rattle.reader.specs.declared.Entered.{Entered}
 use Rattle.reader.specs.declared.Next.{Next}
 use Rattle.reader.specs.declared.Next.TheVariants as item
-use Rattle.reader.specs.declared.Numbered.{Numbered}
-use Rattle.reader.specs.declared.Numbered.TheVariants as numbered
 use Rattle.reader.specs.Reader.{reader_ok, seek_of}
 use Rattle.reader.specs.Next.{NextOut, next_of}
 use Rattle.reader.specs.Blank.{counted_of}
@@ -37,11 +34,11 @@ pub data Item : Type 0 where
   hole : ℕ → ℕ → ℕ → Item
   end : Item
 
-abbrev pub next_answer : Next → Answer Item
-next_answer (item.Refused e) = refused (number_of e)
-next_answer (item.Payload n) = ok (payload n)
-next_answer (item.Hole from to blank) = ok (hole from to blank)
-next_answer item.End = ok end
+abbrev pub next_answer : Result Next Error → Answer Item
+next_answer (Err e) = refused (number_of e)
+next_answer (Ok (item.Payload n)) = ok (payload n)
+next_answer (Ok (item.Hole from to blank)) = ok (hole from to blank)
+next_answer (Ok item.End) = ok end
 
 pub record NextCall : Type 0 where
   pub answer : Answer Item
@@ -74,16 +71,16 @@ sought_answer r = record { answer = outcome_of r.outcome; reader = r.reader; med
 
 unfoldable pub seek_call : List ℕ → Medium → Store → Reader → ℕ → SeekCall
 seek_call vol m st rd number =
-    let s : Entered = seek_of vol m st rd number in
+    let no : Error → SeekCall = λ e. record { answer = refused (number_of e); reader = rd; medium = m } in
     on_done (usable_of vol st rd)
-    (record { answer = outcome_of s.outcome; reader = s.reader; medium = m })
-    (λ e. record { answer = refused (number_of e); reader = rd; medium = m })
+    (on_result (seek_of vol m st rd number) no (λ r. record { answer = ok tt; reader = r; medium = m }))
+    no
 
 -- ---- record: the number of the record that comes next. A reader whose number does not fit 32 bits is none that a call gave
 
-abbrev pub numbered_answer : Numbered → Answer ℕ
-numbered_answer (numbered.Refused e) = refused (number_of e)
-numbered_answer (numbered.Is n) = ok n
+abbrev pub numbered_answer : Result ℕ Error → Answer ℕ
+numbered_answer (Err e) = refused (number_of e)
+numbered_answer (Ok n) = ok n
 
 unfoldable pub record_call : Store → Reader → Answer ℕ
 record_call st rd =

@@ -1,6 +1,7 @@
 -- S-4: "Reopening and reading keep their earlier results in all else." The two calls that read, as they were before it, when a hole had two numbers;
 -- and a call of today with the third forgotten. Assumes nothing.
-use Rattle.std.specs.Prelude.{ℕ, List, ltb, length}
+use Rattle.std.specs.Prelude.{ℕ, List, ltb, length, Result, Ok, Err}
+use Rattle.medium.specs.declared.Error.{Error}
 use Rattle.le.specs.Choice.{pick}
 use Rattle.medium.specs.declared.Medium.{Medium}
 use Rattle.medium.specs.Refusal.{number_of, Answer, ok, refused, on_done}
@@ -21,11 +22,11 @@ pub data Item : Type 0 where
   hole : ℕ → ℕ → Item
   end : Item
 
-abbrev pub item_answer : Found → Answer Item
-item_answer (found.Refused e) = refused (number_of e)
-item_answer (found.Payload n) = ok (payload n)
-item_answer (found.Hole from to) = ok (hole from to)
-item_answer found.End = ok end
+abbrev pub item_answer : Result Found Error → Answer Item
+item_answer (Err e) = refused (number_of e)
+item_answer (Ok (found.Payload n)) = ok (payload n)
+item_answer (Ok (found.Hole from to)) = ok (hole from to)
+item_answer (Ok found.End) = ok end
 
 pub record NextEarlier : Type 0 where
   pub answer : Answer Item

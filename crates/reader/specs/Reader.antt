@@ -1,21 +1,19 @@
 -- 01, "Record" and refusal 3: a reader of one file, where its chunk ends, and the entering of a chunk. Assumes nothing.
-use Rattle.std.specs.Prelude.{Err, Ok}
+use Rattle.std.specs.Prelude.{Err, Ok, Option, Some, None, Result}
 use Rattle.std.specs.Prelude.{ℕ, ◌+◌, ◌/◌, ◌%◌, Bool, true, not, ◌&&◌, List, ltb, leb, eqb}
+use Rattle.medium.specs.declared.Error.{Error}
 use Rattle.le.specs.Choice.{pick}
 use Rattle.medium.specs.declared.Medium.{Medium}
 use Rattle.handles.specs.declared.Store.{Store}
 use Rattle.table.specs.declared.Link.{Link}
 use Rattle.table.specs.declared.ChainParts.{ChainParts}
 use Rattle.table.specs.Table.{locate_of, on_place}
-use Rattle.reader.specs.declared.End.{End}
-use Rattle.reader.specs.declared.End.TheVariants.{Last, Records}
 use Rattle.reader.specs.declared.Reader.{Reader}
-use Rattle.reader.specs.declared.Entered.{Entered}
 
 -- the end of a chunk that is not the last lies within a chunk
-abbrev pub end_ok : End → ℕ → Bool
-end_ok Last size = true
-end_ok (Records n) size = leb n size
+abbrev pub end_ok : Option ℕ → ℕ → Bool
+end_ok None size = true
+end_ok (Some n) size = leb n size
 
 -- a reader that passes refusal 3, beside a store value
 unfoldable pub reader_ok : Reader → Store → Bool
@@ -26,11 +24,11 @@ reader_ok rd st =
 
 -- what a refused call holds in the place of a reader: its id is 0, so no call accepts it
 unfoldable pub no_reader : Reader
-no_reader = record { store = 0; generation = 0; slot = 0; id = 0; chunks = 0; chunk = 0; end = Last; position = 0; index = 0 }
+no_reader = record { store = 0; generation = 0; slot = 0; id = 0; chunks = 0; chunk = 0; end = None; position = 0; index = 0 }
 
 -- a chunk other than the file's last ends at its partial count, else at the size
-unfoldable pub end_of : ℕ → ℕ → ℕ → Bool → ℕ → End
-end_of chunks position size partial records = pick (ltb (position + 1) chunks) (Records (pick partial records size)) Last
+unfoldable pub end_of : ℕ → ℕ → ℕ → Bool → ℕ → Option ℕ
+end_of chunks position size partial records = pick (ltb (position + 1) chunks) (Some (pick partial records size)) None
 
 -- a reader from the first record of the file `id` in a slot, with its chain
 unfoldable pub start_of : Store → ℕ → ℕ → ChainParts → Reader
@@ -48,7 +46,7 @@ start_of st slot id p =
     }
 
 -- the same reader, elsewhere in its file: in a chunk that ends so, at a position and an index
-abbrev pub standing : Reader → ℕ → End → ℕ → ℕ → Reader
+abbrev pub standing : Reader → ℕ → Option ℕ → ℕ → ℕ → Reader
 standing rd chunk end position index =
     record {
       store = rd.store;
@@ -71,18 +69,18 @@ unfoldable pub inside_of : Store → Reader → ℕ → ℕ → ℕ → Link →
 inside_of st rd position index chunk l =
     standing rd chunk (end_of rd.chunks position st.head.chunk l.partial l.records) position index
 
--- entering the chunk at a position: the table says where it is. Refused, the reader has not moved
-unfoldable pub enter_of : List ℕ → Medium → Store → Reader → ℕ → ℕ → Entered
+-- entering the chunk at a position: the table says where it is
+unfoldable pub enter_of : List ℕ → Medium → Store → Reader → ℕ → ℕ → Result Reader Error
 enter_of vol m st rd position index =
     on_place (locate_of vol m st rd.slot position)
-    (λ e. record { outcome = Err e; reader = rd })
-    (λ chunk l. record { outcome = Ok tt; reader = inside_of st rd position index chunk l })
+    Err
+    (λ chunk l. Ok (inside_of st rd position index chunk l))
 
 -- seeking a record by its number. Past the chunks nothing is read; in the reader's own chunk neither
-unfoldable pub seek_of : List ℕ → Medium → Store → Reader → ℕ → Entered
+unfoldable pub seek_of : List ℕ → Medium → Store → Reader → ℕ → Result Reader Error
 seek_of vol m st rd number =
     let position : ℕ = number / st.head.chunk in
     let index : ℕ = number % st.head.chunk in
-    pick (leb rd.chunks position) (record { outcome = Ok tt; reader = moved_to rd rd.chunks 0 })
-    (pick (eqb position rd.position) (record { outcome = Ok tt; reader = moved_to rd position index })
+    pick (leb rd.chunks position) (Ok (moved_to rd rd.chunks 0))
+    (pick (eqb position rd.position) (Ok (moved_to rd position index))
     (enter_of vol m st rd position index))

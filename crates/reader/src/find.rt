@@ -3,127 +3,96 @@ ghost use Rattle.std.specs.Prelude.{◌≡◌, true, ◌≤◌, ◌<◌, length}
 ghost use Rattle.medium.specs.Sector.{sectors_of};
 ghost use Rattle.handles.specs.Handles.{store_ok};
 ghost use Rattle.reader.specs.Reader.{reader_ok};
-ghost use Rattle.reader.specs.Next.{limit_of, search_of, hole_of, take_of, next_of};
+ghost use Rattle.reader.specs.Next.{limit_of, search_of, hole_of, take_of};
 
-use super::ends::{is_last, limit_of};
-use super::{Found, Reader, Searched, Taken};
+use super::{Found, Reader, Taken};
 use handles::Store;
 use medium::{Error, Medium};
-use record::Judged;
 
 impl Reader {
+    // The index at which the reader's chunk ends.
+    #[tactic(auto, unfolding(crate::specs::Next::limit_of))]
+    fn limit(self, store: Store) -> u32
+        ensures { result ≡ limit_of self.end store.head.chunk }
+    {
+        self.end.unwrap_or(store.head.chunk)
+    }
+
     // The first valid record of the chunk from `after` on, or `limit`.
-    fn search(self, volume: &[u8], medium: Medium, store: Store, after: u32, limit: u32) -> Searched
+    fn search(
+        self,
+        volume: &[u8],
+        medium: Medium,
+        store: Store,
+        after: u32,
+        limit: u32,
+    ) -> Result<u32, Error>
         requires { (store_ok store (sectors_of volume.now) ≡ true) × (reader_ok self store ≡ true) × (after ≤ limit) × (limit ≤ store.head.chunk) }
         ensures { result ≡ search_of volume.now medium store self after limit }
     {
-        let size = store.head.chunk;
-        let mut next = after;
-        while next < limit {
-            let i = next;
-            let n = record::number_at(self.position, size, i);
-            let j = record::record(volume, medium, store, self.id, self.chunk, i, n);
-            next += 1;
-            match j {
-                Judged::Refused(e) => {
-                    return Searched::Refused(e);
-                }
-                Judged::Valid(_) => {
-                    return Searched::At(i);
-                }
-                Judged::Other => {}
+        for index in after..limit {
+            let number = record::number_at(self.position, store.head.chunk, index);
+            let read = record::record(volume, medium, store, self.id, self.chunk, index, number)?;
+            if read.is_some() {
+                return Ok(index);
             }
         }
-        Searched::At(limit)
+        Ok(limit)
     }
 
     // Records are written once and in order: one that reads back after this one means this one was lost.
+    #[tactic(auto, unfolding(crate::specs::Next::hole_of, crate::specs::Next::is_last, record::specs::Record::on_result, le::specs::Choice::pick))]
     fn hole(self, volume: &[u8], medium: Medium, store: Store) -> Taken
         requires { (store_ok store (sectors_of volume.now) ≡ true) × (reader_ok self store ≡ true)
             × (self.index < limit_of self.end store.head.chunk) }
         ensures { result ≡ hole_of volume.now medium store self }
     {
-        let size = store.head.chunk;
-        let end = self.end;
-        let limit = limit_of(end, size);
-        let s = self.search(volume, medium, store, self.index + 1, limit);
-        match s {
-            Searched::Refused(e) => Taken {
-                next: Found::Refused(e),
+        let limit = self.limit(store);
+        match self.search(volume, medium, store, self.index + 1, limit) {
+            Err(e) => Taken {
+                next: Err(e),
                 reader: self,
             },
-            Searched::At(to) => {
-                if is_last(end) & (to == limit) {
-                    return Taken {
-                        next: Found::End,
-                        reader: self,
-                    };
-                }
-                let from = record::number_at(self.position, size, self.index);
-                let past = record::number_at(self.position, size, to);
-                let reader = self.moved_to(self.position, to);
+            Ok(to) if self.end.is_none() && to == limit => Taken {
+                next: Ok(Found::End),
+                reader: self,
+            },
+            Ok(to) => {
+                let from = record::number_at(self.position, store.head.chunk, self.index);
+                let past = record::number_at(self.position, store.head.chunk, to);
                 Taken {
-                    next: Found::Hole { from, to: past },
-                    reader,
+                    next: Ok(Found::Hole { from, to: past }),
+                    reader: self.moved_to(self.position, to),
                 }
             }
         }
     }
 
     // The record at the reader's index, or the hole or the end there.
+    #[tactic(auto, using(crate::proofs::Finds::take_placed, crate::proofs::Finds::take_length, crate::proofs::Finds::take_refused, crate::proofs::Finds::take_hole))]
     pub(crate) fn take(self, volume: &[u8], medium: Medium, store: Store, out: &mut [u8]) -> Taken
         requires { (store_ok store (sectors_of volume.now) ≡ true) × (reader_ok self store ≡ true)
             × (self.index < limit_of self.end store.head.chunk) × (486 ≤ length out.old) }
         ensures { (out.new ≡ (take_of volume.now medium store self out.old).out)
             × (result ≡ (take_of volume.now medium store self out.old).ans) }
     {
-        let n = record::number_at(self.position, store.head.chunk, self.index);
-        let j = record::record(volume, medium, store, self.id, self.chunk, self.index, n);
-        match j {
-            Judged::Refused(e) => Taken {
-                next: Found::Refused(e),
+        let number = record::number_at(self.position, store.head.chunk, self.index);
+        match record::record(
+            volume, medium, store, self.id, self.chunk, self.index, number,
+        ) {
+            Err(e) => Taken {
+                next: Err(e),
                 reader: self,
             },
-            Judged::Valid(length) => {
-                let a = 512 * (record::data(store, self.chunk, self.index) as usize) + 22;
-                runs::put_bytes(out, 0, &volume[a..a + length]);
-                let reader = self.moved_to(self.position, self.index + 1);
+            Ok(Some(length)) => {
+                let start = 512 * (record::data(store, self.chunk, self.index) as usize) + 22;
+                runs::put_bytes(out, 0, &volume[start..start + length]);
                 Taken {
-                    next: Found::Payload(length),
-                    reader,
+                    next: Ok(Found::Payload(length)),
+                    reader: self.moved_to(self.position, self.index + 1),
                 }
             }
-            Judged::Other => self.hole(volume, medium, store),
+            Ok(None) => self.hole(volume, medium, store),
         }
-    }
-
-    // What `next` does for a reader that passes.
-    pub(crate) fn advance(
-        self,
-        volume: &[u8],
-        medium: Medium,
-        store: Store,
-        out: &mut [u8],
-    ) -> Taken
-        requires { (store_ok store (sectors_of volume.now) ≡ true) × (reader_ok self store ≡ true) × (486 ≤ length out.old) }
-        ensures { (out.new ≡ (next_of volume.now medium store self out.old).out)
-            × (result ≡ (next_of volume.now medium store self out.old).ans) }
-    {
-        let a = self.arrive(volume, medium, store);
-        let o = a.outcome;
-        let reader = a.reader;
-        if let Err(e) = o {
-            return Taken {
-                next: Found::Refused(e),
-                reader,
-            };
-        }
-        if !a.more {
-            return Taken {
-                next: Found::End,
-                reader,
-            };
-        }
-        reader.take(volume, medium, store, out)
     }
 }

@@ -1,4 +1,5 @@
 -- The sector of a record, and what the functions' answers are, over plain values. Assumes nothing.
+use Rattle.std.specs.Prelude.{Option, Some, None, Result, Ok, Err}
 use mathlib.Core.Path.{◌≡◌, refl, sym, ap, ◌∙◌}
 use mathlib.Core.List.{List, ◌++◌}
 use Prim.Native.Nat.{ℕ, ◌+◌, ◌-◌, ◌*◌, ◌/◌, ◌%◌, ◌^◌, ◌≤◌, ◌<◌}
@@ -12,18 +13,24 @@ use Rattle.le.proofs.Parts.{length_zeros, over_over, over_whole}
 use Rattle.seal.specs.Seal.{sealed}
 use Rattle.medium.specs.declared.Error.{Error}
 use Rattle.handles.specs.declared.Store.{Store}
-use Rattle.record.specs.declared.Judged.{Judged}
-use Rattle.record.specs.declared.Judged.TheVariants as judged
-use Rattle.record.specs.Record.{mark, unsealed_of, record_of, on_judged, data_at, number_at}
+use Rattle.record.specs.Record.{mark, unsealed_of, record_of, on_judged, on_result, data_at, number_at}
 
 -- ---- a judged record
 
-pub on_judged_keeps : {A : Type 0} (P : A → Type 0) (j : Judged) (f : Error → A) (g : ℕ → A) (a : A) → ((e : Error) → P (f e)) → ((n : ℕ) → j ≡ judged.Valid n → P (g n))
-    → (j ≡ judged.Other → P a) → P (on_judged j f g a)
+pub on_judged_keeps : {A : Type 0} (P : A → Type 0) (j : Result (Option ℕ) Error) (f : Error → A) (g : ℕ → A) (a : A) → ((e : Error) → P (f e)) → ((n : ℕ) → j ≡ Ok (Some n) → P (g n))
+    → (j ≡ Ok None → P a) → P (on_judged j f g a)
 unfolding on_judged
-on_judged_keeps P (judged.Refused e) f g a p q r = p e
-on_judged_keeps P (judged.Valid n) f g a p q r = q n refl
-on_judged_keeps P judged.Other f g a p q r = r refl
+on_judged_keeps P (Err e) f g a p q r = p e
+on_judged_keeps P (Ok (Some n)) f g a p q r = q n refl
+on_judged_keeps P (Ok None) f g a p q r = r refl
+
+-- ---- a value that may be refused
+
+pub on_result_keeps : {A B : Type 0} (P : A → Type 0) (r : Result B Error) (f : Error → A) (g : B → A) → ((e : Error) → r ≡ Err e → P (f e)) → ((b : B) → r ≡ Ok b → P (g b))
+    → P (on_result r f g)
+unfolding on_result
+on_result_keeps P (Err e) f g p q = p e refl
+on_result_keeps P (Ok b) f g p q = q b refl
 
 -- ---- the place of a record: chunk × size + index
 

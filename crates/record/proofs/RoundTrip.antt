@@ -1,5 +1,5 @@
 -- What was made is judged valid, at its own store, file and number only, and its payload is read back. Assumes nothing.
-use Rattle.std.specs.Prelude.{Err, Ok, Result}
+use Rattle.std.specs.Prelude.{Option, Some, None, Result, Ok, Err}
 use Rattle.medium.specs.declared.Error.{Error}
 use mathlib.Core.Path.{◌≡◌, refl, ap, ◌∙◌}
 use mathlib.Core.Bool.{Bool, true, false, ◌&&◌}
@@ -28,8 +28,6 @@ use Rattle.medium.specs.declared.Medium.{Medium}
 use Rattle.medium.specs.Refusal.{on_done}
 use Rattle.medium.specs.Sector.{sector_at, read_of}
 use Rattle.handles.specs.declared.Store.{Store}
-use Rattle.record.specs.declared.Judged.{Judged}
-use Rattle.record.specs.declared.Judged.TheVariants.{Refused, Valid, Other}
 use Rattle.record.specs.Record.{mark, fields_of, unsealed_of, record_of, matches_of, judge_of, carries_of, payload_of, data_at, read_record_of}
 
 -- ---- what a valid sector is
@@ -44,13 +42,13 @@ pub record Passes (id file number : ℕ) (s : List ℕ) (n : ℕ) : Type 0 where
   pub most : n ≤ 486
   pub whole : is_sealed s ≡ true
 
-picked : (b : Bool) (x n : ℕ) → pick b (Valid x) Other ≡ Valid n → (b ≡ true) × (x ≡ n)
+picked : (b : Bool) (x n : ℕ) → pick b (Some x) None ≡ Some n → (b ≡ true) × (x ≡ n)
 unfolding pick
 picked true x n e = (refl, cc)
 picked false x n e = absurd (let z : ◌≡◌ {A = ℕ} 0 1 = cc in omega arith)
 
 module _ (id file number : ℕ) (s : List ℕ) where
-  pub judge_facts : {n : ℕ} → judge_of id file number s ≡ Valid n → Passes id file number s n
+  pub judge_facts : {n : ℕ} → judge_of id file number s ≡ Some n → Passes id file number s n
   unfolding judge_of matches_of
   judge_facts {n} e =
       let p = picked (matches_of id file number s && is_sealed s) (get_le 2 20 s) n e in
@@ -75,21 +73,21 @@ module _ (id file number : ℕ) (s : List ℕ) where
   unfolding matches_of
   matches_by p = rw (p.marked, eq-eqb _ _ p.store, eq-eqb _ _ p.owner, eq-eqb _ _ p.place, p.size, le-leb _ _ p.least, le-leb _ _ p.most)
 
-  pub judge_by : {n : ℕ} → Passes id file number s n → judge_of id file number s ≡ Valid n
+  pub judge_by : {n : ℕ} → Passes id file number s n → judge_of id file number s ≡ Some n
   unfolding judge_of pick
   judge_by p = rw (matches_by p, p.whole, p.size)
 
   -- a valid length is one that a record has
-  pub judge_length : {n : ℕ} → judge_of id file number s ≡ Valid n → (1 ≤ n) × (n ≤ 486)
+  pub judge_length : {n : ℕ} → judge_of id file number s ≡ Some n → (1 ≤ n) × (n ≤ 486)
   judge_length e = ((judge_facts e).least, (judge_facts e).most)
 
   -- a valid record of a file and number is a record of the store
-  pub judge_carries : {n : ℕ} → judge_of id file number s ≡ Valid n → carries_of id s ≡ true
+  pub judge_carries : {n : ℕ} → judge_of id file number s ≡ Some n → carries_of id s ≡ true
   unfolding carries_of
   judge_carries e = let p = judge_facts e in rw (p.owner, p.place, matches_by p, p.whole)
 
 -- and a record of the store is valid at its own file and number
-pub carries_judge : (id : ℕ) (s : List ℕ) → carries_of id s ≡ true → judge_of id (get_le 4 12 s) (get_le 4 16 s) s ≡ Valid (get_le 2 20 s)
+pub carries_judge : (id : ℕ) (s : List ℕ) → carries_of id s ≡ true → judge_of id (get_le 4 12 s) (get_le 4 16 s) s ≡ Some (get_le 2 20 s)
 unfolding carries_of judge_of pick
 carries_judge id s e = rw e
 
@@ -166,7 +164,7 @@ module _ (id file number : ℕ) (payload : List ℕ) (short : length payload ≤
     size_back = back 3 (lit< tt) (put 2 20 (length payload)) refl (lit≤ tt) (omega arith)
 
     -- what was made passes
-    pub judge_made : 1 ≤ length payload → judge_of id file number (record_of id file number payload) ≡ Valid (length payload)
+    pub judge_made : 1 ≤ length payload → judge_of id file number (record_of id file number payload) ≡ Some (length payload)
     judge_made least =
         judge_by id file number (record_of id file number payload) record {
           marked = mark_back;
@@ -180,7 +178,7 @@ module _ (id file number : ℕ) (payload : List ℕ) (short : length payload ≤
         }
 
     -- and at no other store, file or number
-    pub judge_other : (id' file' number' : ℕ) {n : ℕ} → judge_of id' file' number' (record_of id file number payload) ≡ Valid n
+    pub judge_other : (id' file' number' : ℕ) {n : ℕ} → judge_of id' file' number' (record_of id file number payload) ≡ Some n
         → (id' ≡ id) × ((file' ≡ file) × ((number' ≡ number) × (n ≡ length payload)))
     judge_other id' file' number' e =
         let p = judge_facts id' file' number' (record_of id file number payload) e in
@@ -188,14 +186,14 @@ module _ (id file number : ℕ) (payload : List ℕ) (short : length payload ≤
 
 -- ---- what was read
 
-judged : (o : Result Unit Error) (j : Judged) (n : ℕ) → on_done o j Refused ≡ Valid n → (o ≡ Ok tt) × (j ≡ Valid n)
+judged : (o : Result Unit Error) (j : Option ℕ) (n : ℕ) → on_done o (Ok j) Err ≡ Ok (Some n) → (o ≡ Ok tt) × (j ≡ Some n)
 unfolding on_done
-judged (Ok tt) j n e = (refl, e)
+judged (Ok tt) j n e = (refl, cc)
 judged (Err x) j n e = absurd (let z : ◌≡◌ {A = ℕ} 0 1 = cc in omega arith)
 
 -- a record that was read is a valid sector of the volume
-pub read_judged : (vol : List ℕ) (m : Medium) (st : Store) (id chunk index number : ℕ) {n : ℕ} → read_record_of vol m st id chunk index number ≡ Valid n
-    → (read_of m (data_at st chunk index) ≡ Ok tt) × (judge_of st.head.id id number (sector_at vol (data_at st chunk index)) ≡ Valid n)
+pub read_judged : (vol : List ℕ) (m : Medium) (st : Store) (id chunk index number : ℕ) {n : ℕ} → read_record_of vol m st id chunk index number ≡ Ok (Some n)
+    → (read_of m (data_at st chunk index) ≡ Ok tt) × (judge_of st.head.id id number (sector_at vol (data_at st chunk index)) ≡ Some n)
 unfolding read_record_of
 read_judged vol m st id chunk index number {n} e = judged (read_of m (data_at st chunk index)) (judge_of st.head.id id number (sector_at vol (data_at st chunk index))) n e
 

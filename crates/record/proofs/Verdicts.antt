@@ -1,4 +1,5 @@
 -- S-4: the judge's answer: blank exactly where the bytes are, and all else as 01 has it. Assumes nothing.
+use Rattle.std.specs.Prelude.{Some, None}
 use mathlib.Core.Path.{◌≡◌, refl, sym, ◌∙◌}
 use mathlib.Core.Bool.{Bool, true, false, not, ◌&&◌, ◌||◌, true≢false, false≢true, or-false}
 use mathlib.Core.List.{List}
@@ -13,7 +14,6 @@ use Rattle.le.proofs.Bools.{and_true, or_right}
 use Rattle.runs.specs.Run.{starts_with, all_same}
 use Rattle.runs.proofs.Tests.{all_first, all_starts}
 use Rattle.seal.specs.Seal.{is_sealed}
-use Rattle.record.specs.declared.Judged.TheVariants as judged
 use Rattle.record.specs.declared.Verdict.TheVariants.{Valid, Blank, Other}
 use Rattle.record.specs.Record.{mark, matches_of, judge_of, is_blank, verdict_of, heard_of}
 
@@ -82,7 +82,7 @@ module _ (id file number : ℕ) (s : List ℕ) where
   unfolding verdict_of judge_of heard_of pick
   heard_judged = go (get_le 2 20 s) (matches_of id file number s && is_sealed s) (is_blank s)
     where
-      go : (n : ℕ) (b c : Bool) → heard_of (pick b (Valid n) (pick c Blank Other)) ≡ pick b (judged.Valid n) judged.Other
+      go : (n : ℕ) (b c : Bool) → heard_of (pick b (Valid n) (pick c Blank Other)) ≡ pick b (Some n) None
       go n true c = refl
       go n false true = refl
       go n false false = refl

@@ -8,20 +8,25 @@ ghost use Rattle.record.specs.Record.{record_of, matches_of, is_blank, verdict_o
 use handles::Store;
 use medium::{Error, Medium, Written};
 
-// What a data sector is found to be: unread, a record with so many bytes of payload, or anything else.
-#[derive(Clone, Copy)]
-pub enum Judged {
-    Refused(Error),
-    Valid(usize),
-    Other,
-}
-
 // S-4: what the bytes of a data sector are: a record with so many bytes of payload, blank, or anything else.
-#[derive(Clone, Copy)]
+#[derive(Clone, Copy, PartialEq, Eq)]
 pub enum Verdict {
     Valid(usize),
     Blank,
     Other,
+}
+
+impl Verdict {
+    // Reading and reopening ask only for a valid record.
+    #[tactic(auto, unfolding(crate::specs::Record::heard_of))]
+    fn heard(self) -> Option<usize>
+        ensures { result ≡ heard_of self }
+    {
+        match self {
+            Verdict::Valid(length) => Some(length),
+            _ => None,
+        }
+    }
 }
 
 // The sector of a record.
@@ -40,56 +45,45 @@ pub fn number_at(position: u32, size: u32, index: u32) -> u32
 }
 
 // Every test of a record but its checksum, so that a sector that holds another costs no checksum.
+#[tactic(auto, unfolding(crate::specs::Record::matches_of))]
 fn matches(sector: &[u8], id: u64, file: u32, number: u32) -> bool
     requires { length sector.now ≡ 512 }
     ensures { result ≡ matches_of id file number sector.now }
 {
-    let mark = b"CSRD";
     let length = le::get_u16(sector, 20);
-    runs::starts_with(sector, 0, mark)
-        & ((le::get_u64(sector, 4) == id)
-            & ((le::get_u32(sector, 12) == file)
-                & ((le::get_u32(sector, 16) == number) & ((1 <= length) & (length <= 486)))))
+    runs::starts_with(sector, 0, b"CSRD")
+        && le::get_u64(sector, 4) == id
+        && le::get_u32(sector, 12) == file
+        && le::get_u32(sector, 16) == number
+        && (1..=486).contains(&length)
 }
 
 // The first byte says which of the two a blank sector is, so one look at the others is enough.
+#[tactic(auto, using(crate::proofs::Verdicts::blank_first, crate::proofs::Verdicts::blank_neither))]
 fn is_blank(sector: &[u8]) -> bool
     requires { length sector.now ≡ 512 }
     ensures { result ≡ is_blank sector.now }
 {
     let first = sector[0];
-    if (first != 0) & (first != 255) {
-        return false;
-    }
-    runs::all_same(sector, first)
+    (first == 0 || first == 255) && runs::all_same(sector, first)
 }
 
 // Judges a data sector, its checksum last. One with the mark of a record is not blank.
+#[tactic(auto, using(crate::proofs::Verdicts::matched_apart), unfolding(crate::specs::Record::verdict_of, le::specs::Choice::pick))]
 pub fn judge(sector: &[u8], id: u64, file: u32, number: u32) -> Verdict
     requires { length sector.now ≡ 512 }
     ensures { result ≡ verdict_of id file number sector.now }
 {
-    if !matches(sector, id, file, number) {
-        if is_blank(sector) {
-            return Verdict::Blank;
+    if matches(sector, id, file, number) {
+        if seal::is_sealed(sector) {
+            Verdict::Valid(le::get_u16(sector, 20) as usize)
+        } else {
+            Verdict::Other
         }
-        return Verdict::Other;
-    }
-    if seal::is_sealed(sector) {
-        let n = le::get_u16(sector, 20) as usize;
-        return Verdict::Valid(n);
-    }
-    Verdict::Other
-}
-
-// Reading and reopening ask only for a valid record.
-fn heard(verdict: Verdict) -> Judged
-    ensures { result ≡ heard_of verdict }
-{
-    match verdict {
-        Verdict::Valid(n) => Judged::Valid(n),
-        Verdict::Blank => Judged::Other,
-        Verdict::Other => Judged::Other,
+    } else if is_blank(sector) {
+        Verdict::Blank
+    } else {
+        Verdict::Other
     }
 }
 
@@ -98,11 +92,12 @@ pub fn is_blank_at(volume: &[u8], store: Store, chunk: u32, index: u32) -> bool
     requires { data_at store chunk index < sectors_of volume.now }
     ensures { result ≡ is_blank (sector_at volume.now (data_at store chunk index)) }
 {
-    let a = 512 * (data(store, chunk, index) as usize);
-    is_blank(&volume[a..a + 512])
+    let start = 512 * (data(store, chunk, index) as usize);
+    is_blank(&volume[start..start + 512])
 }
 
 // Reads and judges record `index` of a chunk, in the volume itself.
+#[tactic(auto, using(crate::proofs::Verdicts::heard_judged), unfolding(crate::specs::Record::read_record_of, medium::specs::Refusal::on_done))]
 pub fn record(
     volume: &[u8],
     medium: Medium,
@@ -111,18 +106,15 @@ pub fn record(
     chunk: u32,
     index: u32,
     number: u32,
-) -> Judged
+) -> Result<Option<usize>, Error>
     requires { data_at store chunk index < sectors_of volume.now }
     ensures { result ≡ read_record_of volume.now medium store id chunk index number }
 {
     let at = data(store, chunk, index);
-    let o = medium::readable(medium, at);
-    if let Err(e) = o {
-        return Judged::Refused(e);
-    }
-    let a = 512 * (at as usize);
-    let v = judge(&volume[a..a + 512], store.head.id, id, number);
-    heard(v)
+    medium::readable(medium, at)?;
+    let start = 512 * (at as usize);
+    let verdict = judge(&volume[start..start + 512], store.head.id, id, number);
+    Ok(verdict.heard())
 }
 
 // Makes a record in its sector. The fields are put from the last to the first.
@@ -130,8 +122,7 @@ pub fn put_record(sector: &mut [u8], id: u64, file: u32, number: u32, payload: &
     requires { (length sector.old ≡ 512) × (length payload.now ≤ 486) }
     ensures { sector.new ≡ record_of id file number payload.now }
 {
-    let mark = b"CSRD";
-    runs::put_bytes(sector, 0, mark);
+    runs::put_bytes(sector, 0, b"CSRD");
     runs::put_zeros(sector, 4, 508);
     le::put_u16(sector, 20, payload.len() as u16);
     le::put_u32(sector, 16, number);
@@ -156,13 +147,17 @@ pub fn write_record(
     ensures { (volume.new ≡ (write_record_of volume.old medium store id chunk index number payload.now).vol)
         × (result ≡ (write_record_of volume.old medium store id chunk index number payload.now).ans) }
 {
-    let w = medium::spend(medium);
-    let o = w.outcome;
-    if let Err(_) = o {
-        return w;
+    let written = medium::spend(medium);
+    if let Err(_) = written.outcome {
+        return written;
     }
-    let a = 512 * (data(store, chunk, index) as usize);
-    let e = a + 512;
-    put_record(&mut volume[a..e], store.head.id, id, number, payload);
-    w
+    let start = 512 * (data(store, chunk, index) as usize);
+    put_record(
+        &mut volume[start..start + 512],
+        store.head.id,
+        id,
+        number,
+        payload,
+    );
+    written
 }

@@ -54,11 +54,11 @@ impl Reader {
     {
         let p = table::locate(volume, medium, store, self.slot, position);
         match p {
-            Place::Refused(e) => Entered {
+            Err(e) => Entered {
                 outcome: Err(e),
                 reader: self,
             },
-            Place::At { chunk, link } => {
+            Ok(Place { chunk, link }) => {
                 let reader = self.inside(store, position, index, chunk, link);
                 Entered {
                     outcome: Ok(()),

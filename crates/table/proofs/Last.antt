@@ -1,7 +1,6 @@
 -- The last chunk of a chain that passes: no link of the slot has a larger position, and no lower chunk of the slot has that position, on any table.
 -- Assumes nothing.
 use Rattle.std.specs.Prelude.{Option, Some, None, Result, Ok, Err}
-use Rattle.medium.specs.declared.Error.{Error}
 use Prim.Native.Nat.{ℕ, ◌+◌, ◌<◌, ◌≤◌}
 use mathlib.Core.Path.{◌≡◌, refl, sym, ◌∙◌, subst}
 use mathlib.Core.Bool.{Bool, true, false}
@@ -14,6 +13,7 @@ use lib.Dec.{eqb, ltb}
 use Rattle.le.specs.Choice.{pick}
 use Rattle.le.proofs.Choices.{pick_keeps_by}
 use Rattle.le.proofs.Bools.{or_false}
+use Rattle.medium.specs.declared.Error.{Error}
 use Rattle.medium.specs.declared.Medium.{Medium}
 use Rattle.handles.specs.declared.Store.{Store}
 use Rattle.table.specs.declared.Link.{Link}

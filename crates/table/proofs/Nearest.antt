@@ -1,6 +1,5 @@
 -- The chunk that `walk_free_of` picks is free, and no free chunk is nearer after the cursor. Assumes nothing.
 use Rattle.std.specs.Prelude.{Option, Some, None, Result, Ok, Err}
-use Rattle.medium.specs.declared.Error.{Error}
 use Prim.Native.Nat.{ℕ, ◌+◌, ◌-◌, ◌%◌, ◌<◌, ◌≤◌}
 use mathlib.Core.Path.{◌≡◌, refl, sym, ◌∙◌, ap, subst}
 use mathlib.Core.Bool.{Bool, true, false, ◌&&◌}
@@ -11,6 +10,7 @@ use borrow.Author.Tests.{ltb-true, ltb-false, leb-true, leb-false, lt-ltb, le-lt
 use borrow.Author.Count.{below_more, below_none}
 use lib.Dec.{ltb, leb}
 use Rattle.le.proofs.Choices.{pick_true, pick_false, pick_keeps_by}
+use Rattle.medium.specs.declared.Error.{Error}
 use Rattle.medium.specs.declared.Medium.{Medium}
 use Rattle.handles.specs.declared.Store.{Store}
 use Rattle.table.specs.declared.LinkAt.{LinkAt}

@@ -1,11 +1,11 @@
 -- A link and the counts never give 11. Assumes nothing.
-use Rattle.medium.specs.declared.Error.{Error}
 use Rattle.std.specs.Prelude.{Err, Result, Ok}
 use mathlib.Core.Path.{refl, subst}
 use mathlib.Core.List.{List}
 use Prim.Native.Nat.{ℕ, ◌+◌, ◌/◌, ◌%◌}
 use lib.Dec.{eqb}
 use Rattle.le.proofs.Choices.{pick_keeps}
+use Rattle.medium.specs.declared.Error.{Error}
 use Rattle.medium.specs.declared.Medium.{Medium}
 use Rattle.medium.proofs.Laws.{on_done_keeps}
 use Rattle.medium.proofs.Stale.{NotStale, no_stale}

@@ -2,9 +2,9 @@
 use Rattle.std.specs.Prelude.{Result, Ok, Err}
 use mathlib.Core.Path.{◌≡◌, refl, sym, ap, ◌∙◌}
 use Prim.Native.Nat.{ℕ, ◌+◌, ◌<◌}
-use Rattle.medium.specs.declared.Error.{Error}
 use Rattle.walk.specs.Walk.{next}
 use Rattle.walk.proofs.Laws.{At, at_next, at_stop}
+use Rattle.medium.specs.declared.Error.{Error}
 use Rattle.table.specs.declared.Link.{Link}
 use Rattle.table.specs.declared.LinkAt.{LinkAt}
 use Rattle.table.specs.declared.LinkAt.TheVariants.{Past, Free, Linked}

@@ -3,10 +3,10 @@ use Rattle.table.specs.Table.{on_place}
 use Rattle.reader.specs.Reader.{enter_of}
 use Rattle.reader.proofs.Reader.enter.Goals as goal
 
-pub returns-in-Refused : goal.returns-in-Refused
+pub returns-in-Err : goal.returns-in-Err
 unfolding enter_of on_place
-returns-in-Refused c = rw (told c.locate-p.ensures c.in-Refused.is)
+returns-in-Err c = rw (told c.locate-p.ensures c.in-Err.is)
 
-pub returns-in-At : goal.returns-in-At
+pub returns-in-Ok : goal.returns-in-Ok
 unfolding enter_of on_place
-returns-in-At c = rw (told c.locate-p.ensures c.in-At.is, c.inside-reader.ensures)
+returns-in-Ok c = rw (told c.locate-p.ensures c.in-Ok.is, c.inside-reader.ensures)

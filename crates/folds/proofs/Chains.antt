@@ -1,5 +1,5 @@
 -- The chain of a slot by the layout: its count, its first chunk with its mark, and its last chunk. Assumes nothing.
-use Rattle.std.specs.Prelude.{Result, Ok}
+use Rattle.std.specs.Prelude.{Option, Some, Ok}
 use Prim.Native.Nat.{ℕ, ◌+◌, ◌-◌, ◌<◌, ◌≤◌}
 use mathlib.Core.Path.{◌≡◌, refl, sym, ap, ap₂, ◌∙◌, subst}
 use mathlib.Core.Logic.{◌≢◌}
@@ -15,7 +15,6 @@ use Rattle.le.specs.Tally.{tally}
 use Rattle.le.proofs.Choices.{pick_keeps_by, pick_true}
 use Rattle.le.proofs.Bools.{or_false, or_right}
 use Rattle.le.proofs.Tallies.{tally_start}
-use Rattle.medium.specs.declared.Error.{Error}
 use Rattle.medium.specs.declared.Medium.{Medium}
 use Rattle.handles.specs.declared.Store.{Store}
 use Rattle.table.specs.declared.Link.{Link}
@@ -32,11 +31,11 @@ use Rattle.folds.proofs.Walked.{table_views}
 use Rattle.folds.proofs.Chunks.{of_slot, counts_free, counts_here, counts_other, owns, at_link, Met, met_free, met_link}
 
 -- a step of the chain's first chunk is one of the chunk at position 0
-first_mine : (s c : ℕ) (l : Link) (f : Result Place Error) → l.slot ≡ s → locate_step s 0 c l f ≡ first_step c l f
+first_mine : (s c : ℕ) (l : Link) (f : Option Place) → l.slot ≡ s → locate_step s 0 c l f ≡ first_step c l f
 unfolding locate_step first_step
 first_mine s c l f e = rw (eq-eqb l.slot s e)
 
-first_other : (s c : ℕ) (l : Link) (f : Result Place Error) → l.slot ≢ s → locate_step s 0 c l f ≡ f
+first_other : (s c : ℕ) (l : Link) (f : Option Place) → l.slot ≢ s → locate_step s 0 c l f ≡ f
 unfolding locate_step pick
 first_other s c l f e = rw (ne_eqb l.slot s e)
 
@@ -44,7 +43,7 @@ module _ (vol : List ℕ) (st : Store) (G : ℕ → List Segment) (good : Good (
   abbrev at : ℕ → ℕ
   at p = (segment_at (G s) p).chunk
 
-  abbrev Starts : ℕ → Result Place Error → Type 0
+  abbrev Starts : ℕ → Option Place → Type 0
   Starts = Met vol st G good s 0 h some
 
   -- of the chunks below n: how many are the slot's, its first, and the one with the largest position
@@ -131,13 +130,13 @@ module _ (vol : List ℕ) (st : Store) (G : ℕ → List Segment) (good : Good (
   unfolding chain_end
   ended t p =
       let n : t.count ≡ length (G s) = p.count ∙ good.counted s h in
-      let f : t.first ≡ Ok (place_at (at 0) mark) = p.first (good.inside s 0 h some) in
+      let f : t.first ≡ Some (place_at (at 0) mark) = p.first (good.inside s 0 h some) in
       let k = p.top (omega arith) in
       let a : length (G s) - 1 ≤ t.top = (p.most (length (G s) - 1) (omega arith) (good.inside s (length (G s) - 1) h (omega arith))).1 in
       let z : t.top ≡ length (G s) - 1 = omega (arith, k.0) in
       let e : t.top + 1 ≡ t.count = omega arith in
       ap (whole_of t) f ∙ pick_true _ _ (eq-eqb _ _ e)
-      ∙ ap₂ (λ (x y : ℕ). (Ok (record { count = x; first = at 0; partial = mark.partial; records = mark.records; last = y }))) n (sym k.1 ∙ ap at z)
+      ∙ ap₂ (λ (x y : ℕ). Ok (record { count = x; first = at 0; partial = mark.partial; records = mark.records; last = y })) n (sym k.1 ∙ ap at z)
 
 pub chain_view : (vol : List ℕ) (m : Medium) (st : Store) → Checked vol m st → (G : ℕ → List Segment) → Good (disk_of vol st) G → (s : ℕ) → s < 64 → 1 ≤ length (G s)
     → chain_of vol m st s ≡ Ok (chain_for st.head.chunk s (G s))

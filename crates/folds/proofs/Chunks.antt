@@ -1,5 +1,6 @@
 -- The walks of the table by the layout: the free chunk, the chunk at a position of a file, the counts. Assumes nothing.
-use Rattle.std.specs.Prelude.{Ok, Option, Some, None, Result, Err}
+use Rattle.std.specs.Prelude.{Option, Some, None, Result, Ok, Err}
+use Rattle.std.specs.Option.{ok_or}
 use Prim.Native.Nat.{ℕ, ◌+◌, ◌<◌, ◌≤◌}
 use mathlib.Core.Path.{◌≡◌, refl, sym, ap, ap₂, ◌∙◌, subst}
 use mathlib.Core.Logic.{◌≢◌}
@@ -18,6 +19,7 @@ use Rattle.le.proofs.Parts.{length_zeros, length_over, get_or_zeros}
 use Rattle.le.proofs.Bools.{and_true}
 use Rattle.le.proofs.Tallies.{tally_yes, tally_no, tally_start}
 use Rattle.medium.specs.declared.Error.{Error}
+use Rattle.medium.specs.declared.Error.TheVariants.{Corrupt}
 use Rattle.medium.specs.declared.Medium.{Medium}
 use Rattle.handles.specs.declared.Store.{Store}
 use Rattle.handles.proofs.Laws.{Held}
@@ -76,20 +78,20 @@ module _ (vol : List ℕ) (st : Store) (G : ℕ → List Segment) (good : Good (
     sought_mark = rw (link_slot st.head.chunk s (G s) p, link_position st.head.chunk s (G s) p, eq-eqb s s refl, eq-eqb p p refl)
 
     -- passed, it is the answer
-    abbrev pub Met : ℕ → Result Place Error → Type 0
-    Met n t = at < n → t ≡ Ok (place_at at mark)
+    abbrev pub Met : ℕ → Option Place → Type 0
+    Met n t = at < n → t ≡ Some (place_at at mark)
 
-    pub met_free : (c : ℕ) (t : Result Place Error) → Met c t → link_view vol st c ≡ Ok link.Free → Met (c + 1) t
+    pub met_free : (c : ℕ) (t : Option Place) → Met c t → link_view vol st c ≡ Ok link.Free → Met (c + 1) t
     met_free c t p q k = let n : c ≡ at → ⊥ = λ e. free≢linked q (at_link c e) in p (omega arith)
 
-    pub met_link : (c : ℕ) (l : Link) (t : Result Place Error) → c < st.head.chunks → Met c t → link_view vol st c ≡ Ok (link.Linked l) → Met (c + 1) (locate_step s p c l t)
+    pub met_link : (c : ℕ) (l : Link) (t : Option Place) → c < st.head.chunks → Met c t → link_view vol st c ≡ Ok (link.Linked l) → Met (c + 1) (locate_step s p c l t)
     unfolding locate_step
     met_link c l t i r q =
-        pick_keeps_by (Met (c + 1)) (sought s p l) (Ok (place_at c l)) t
+        pick_keeps_by (Met (c + 1)) (sought s p l) (Some (place_at c l)) t
         (λ e k.
         let a = and_true (eqb l.slot s) (eqb l.position p) e in
         let o = owns c l i q s p (eqb-true _ _ a.0) (eqb-true _ _ a.1) in
-        ap₂ (λ c l. Ok (place_at c l)) (sym o.1) (same_link q (at_link c (sym o.1))))
+        ap₂ (λ (x : ℕ) (k : Link). Some (place_at x k)) (sym o.1) (same_link q (at_link c (sym o.1))))
         (λ e k.
         let n : c ≡ at → ⊥ = λ f. true≢false (ap (sought s p) (same_link q (at_link c f)) ∙ sought_mark) e in
         r (omega arith))
@@ -122,27 +124,28 @@ module _ (vol : List ℕ) (m : Medium) (st : Store) (ok : Checked vol m st) (G :
   Used c = link_view vol st c ≡ Ok link.Free → ⊥
 
   -- of the chunks below n: one that is free, or none is
+  abbrev FreeOf : ℕ → Option ℕ → Type 0
+  FreeOf n None = (c : ℕ) → c < n → Used c
+  FreeOf n (Some b) = (b < n) × (link_view vol st b ≡ Ok link.Free)
+
   abbrev pub Free : ℕ → Result (Option ℕ) Error → Type 0
   Free n (Err e) = ⊥
-  Free n (Ok None) = (c : ℕ) → c < n → Used c
-  Free n (Ok (Some b)) = (b < n) × (link_view vol st b ≡ Ok link.Free)
+  Free n (Ok t) = FreeOf n t
 
-  used_more : (n : ℕ) (t : Result (Option ℕ) Error) → Used n → Free n t → Free (n + 1) t
-  used_more n (Err e) u p = p
-  used_more n (Ok None) u p = below_more Used n p u
-  used_more n (Ok (Some b)) u p = (omega (arith, p.0), p.1)
+  used_more : (n : ℕ) (t : Option ℕ) → Used n → FreeOf n t → FreeOf (n + 1) t
+  used_more n None u p = below_more Used n p u
+  used_more n (Some b) u p = (omega (arith, p.0), p.1)
 
-  free_more : (n : ℕ) (t : Result (Option ℕ) Error) → link_view vol st n ≡ Ok link.Free → Free n t → Free (n + 1) (free_step st.head.cursor st.head.chunks n t)
+  free_more : (n : ℕ) (t : Option ℕ) → link_view vol st n ≡ Ok link.Free → FreeOf n t → FreeOf (n + 1) (free_step st.head.cursor st.head.chunks n t)
   unfolding free_step
-  free_more n (Err e) q p = p
-  free_more n (Ok None) q p = (omega arith, q)
-  free_more n (Ok (Some b)) q p = pick_keeps (Free (n + 1)) _ _ _ (omega arith, q) (omega (arith, p.0), p.1)
+  free_more n None q p = (omega arith, q)
+  free_more n (Some b) q p = pick_keeps (FreeOf (n + 1)) _ _ _ (omega arith, q) (omega (arith, p.0), p.1)
 
   walk_found : Free st.head.chunks (walk_free_of vol m st)
   unfolding walk_free_of
   walk_found =
-      let r = table_views vol m st ok G good (free_v st.head.cursor st.head.chunks) Free (λ c t h p q. free_more c t q p)
-      (λ c l t h p q. used_more c t (λ f. free≢linked f q) p) (Ok None) (below_none _) in
+      let r = table_views vol m st ok G good (free_v st.head.cursor st.head.chunks) FreeOf (λ c t h p q. free_more c t q p)
+      (λ c l t h p q. used_more c t (λ f. free≢linked f q) p) None (below_none _) in
       subst (Free st.head.chunks) (sym r.1) r.2
 
   pub free_found : {n : ℕ} → Held st n → Mapped vol st → Free st.head.chunks (free_of vol m st)
@@ -155,7 +158,7 @@ module _ (vol : List ℕ) (m : Medium) (st : Store) (ok : Checked vol m st) (G :
   locate_view s p h b =
       let r = table_views vol m st ok G good (locate_v s p) (Met vol st G good s p h b) (λ c t i x q. met_free vol st G good s p h b c t x q)
       (λ c l t i x q. met_link vol st G good s p h b c l t i x q) _ (λ k. absurd (omega arith)) in
-      r.1 ∙ r.2 (good.inside s p h b)
+      r.1 ∙ ap (λ (x : Option Place). ok_or x Corrupt) (r.2 (good.inside s p h b))
 
   -- ---- the counts
 

@@ -53,14 +53,14 @@ linked_told : {x : Result LinkAt Error} {l : Link} (b t : Bool) → x ≡ Ok (li
 unfolding is_free
 linked_told {x} {l} b t q e = (λ r z. no_link (sym q ∙ z), rw (q, e) (and-false b))
   where
-    no_link : {r : Error} → (Ok (link.Linked l)) ≡ Err r → ⊥
+    no_link : {r : Error} → ◌≡◌ {A = Result LinkAt Error} (Ok (link.Linked l)) (Err r) → ⊥
     no_link z = let n : ◌≡◌ {A = ℕ} 0 1 = cc in omega arith
 
 -- one that stays as it was
 same_told : {x y : Result LinkAt Error} (b t : Bool) → x ≡ y → t ≡ false → Told y b → Told x (b && not t)
 same_told b t q e h = (λ r z. h.0 r (sym q ∙ z), rw (q, e) (and-true b ∙ h.1))
 
-free_link : {e : Error} → (Ok link.Free) ≡ Err e → ⊥
+free_link : {e : Error} → ◌≡◌ {A = Result LinkAt Error} (Ok link.Free) (Err e) → ⊥
 free_link z = let n : ◌≡◌ {A = ℕ} 0 1 = cc in omega arith
 
 -- an edit whose numbers are those of the store, and whose mark has fewer records than the chunk
@@ -71,7 +71,7 @@ Fitting st (Extend slot position next last partial records) =
     (slot < 64) × (position + 1 < 32768) × (next < st.head.chunks) × (last < st.head.chunks) × (partial ≡ true → records < st.head.chunk)
 Fitting st (Remove slot) = slot < 64
 
-past_link : {e : Error} → (Ok link.Past) ≡ Err e → ⊥
+past_link : {e : Error} → ◌≡◌ {A = Result LinkAt Error} (Ok link.Past) (Err e) → ⊥
 past_link z = let n : ◌≡◌ {A = ℕ} 0 1 = cc in omega arith
 
 module _ (name vol : List ℕ) (st : Store) (v : List ℕ) (t : Store) (sane : Sane st.head (sectors_of vol)) where

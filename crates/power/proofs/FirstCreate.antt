@@ -1,6 +1,6 @@
 -- The first create after a format: where enough writes are left it is accepted, with one step that leaves no sector unwritten; with fewer it is refused
 -- with 4, and makes no step. Assumes nothing.
-use Rattle.std.specs.Prelude.{Ok, Option, Some, None, Result, Err}
+use Rattle.std.specs.Prelude.{Option, Some, None, Result, Ok, Err}
 use Prim.Native.Nat.{ℕ, ◌+◌, ◌-◌, ◌%◌, ◌^◌, ◌≤◌, ◌<◌, zero-le}
 use mathlib.Core.Path.{◌≡◌, refl, sym, ap, subst, ◌∙◌}
 use mathlib.Core.Bool.{Bool, true, false}
@@ -89,10 +89,9 @@ module _ (vol : List ℕ) (m : Medium) (st : Store) (inv : Inv vol st) (map : Ma
       (λ k t n id h p e. absurd (vacant≢named (fresh.entries k h) e))
       (λ t p. (t, refl, p)) _ (refl, λ _. refl, λ h. absurd (omega arith))
 
-  abbrev Picked : ℕ → Result (Option ℕ) Error → Type 0
-  Picked k (Err e) = ⊥
-  Picked k (Ok None) = k ≡ 0
-  Picked k (Ok (Some c)) = c ≡ 0
+  abbrev Picked : ℕ → Option ℕ → Type 0
+  Picked k None = k ≡ 0
+  Picked k (Some c) = c ≡ 0
 
   -- no chunk is nearer to the cursor than the first
   nearest : (k : ℕ) → ltb (distance_of st.head.cursor st.head.chunks k) (distance_of st.head.cursor st.head.chunks 0) ≡ false
@@ -101,24 +100,22 @@ module _ (vol : List ℕ) (m : Medium) (st : Store) (inv : Inv vol st) (map : Ma
       let z : (0 + (st.head.chunks - st.head.cursor)) % st.head.chunks ≡ 0 = rw (start, zero-add, sub-zero) (mod_self st.head.chunks) in
       rw z (le-ltb ((k + (st.head.chunks - st.head.cursor)) % st.head.chunks) 0 zero-le)
 
-  picked_free : (k : ℕ) (t : Result (Option ℕ) Error) → Picked k t → Picked (k + 1) (free_step st.head.cursor st.head.chunks k t)
+  picked_free : (k : ℕ) (t : Option ℕ) → Picked k t → Picked (k + 1) (free_step st.head.cursor st.head.chunks k t)
   unfolding free_step
-  picked_free k (Err e) p = p
-  picked_free k (Ok None) p = p
-  picked_free k (Ok (Some c)) p = rw (p, nearest k) (subst (Picked (k + 1)) (sym (pick_false (Ok (Some k)) (Ok (Some 0)) refl)) refl)
+  picked_free k None p = p
+  picked_free k (Some c) p = rw (p, nearest k) (subst (Picked (k + 1)) (sym (pick_false (Some k) (Some 0) refl)) refl)
 
-  some_picked : (k : ℕ) (t : Result (Option ℕ) Error) → 1 ≤ k → Picked k t → t ≡ Ok (Some 0)
-  some_picked k (Err e) h p = absurd p
-  some_picked k (Ok None) h p = absurd (omega arith)
-  some_picked k (Ok (Some c)) h p = ap (λ b. Ok (Some b)) p
+  some_picked : (k : ℕ) (t : Option ℕ) → 1 ≤ k → Picked k t → t ≡ Some 0
+  some_picked k None h p = absurd (omega arith)
+  some_picked k (Some c) h p = ap Some p
 
   walk_fresh : walk_free_of vol m st ≡ Ok (Some 0)
   unfolding walk_free_of
   walk_fresh =
       let x = table_views vol m st (inv_checked m inv r) (λ s. []) (fresh_good fresh) (free_v st.head.cursor st.head.chunks) Picked
       (λ c t h p e. picked_free c t p)
-      (λ c l t h p e. absurd (free≢linked (fresh.links c h) e)) (Ok None) refl in
-      x.1 ∙ some_picked st.head.chunks x.0 (inv_held inv).head.chunks_least x.2
+      (λ c l t h p e. absurd (free≢linked (fresh.links c h) e)) None refl in
+      x.1 ∙ ap Ok (some_picked st.head.chunks x.0 (inv_held inv).head.chunks_least x.2)
 
   free_fresh : free_of vol m st ≡ Ok (Some 0)
   free_fresh = let h = inv_held inv in mapped_free vol m st h.head.chunks_most h.map map h.head.cursor ∙ walk_fresh

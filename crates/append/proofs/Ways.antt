@@ -1,5 +1,5 @@
 -- What writing gives, by the way that it goes: a law for each return, over plain values. Assumes nothing.
-use Rattle.std.specs.Prelude.{Err, Ok}
+use Rattle.std.specs.Prelude.{Err, Ok, Option, Some, None, Result}
 use mathlib.Core.Path.{◌≡◌, refl, sym, ap, ◌∙◌}
 use mathlib.Core.Bool.{Bool, true, false}
 use mathlib.Core.List.{List, []}
@@ -16,8 +16,6 @@ use Rattle.medium.specs.Refusal.{on_done}
 use Rattle.medium.proofs.Laws.{on_done_done}
 use Rattle.handles.specs.declared.Store.{Store}
 use Rattle.handles.specs.Handles.{is_open, open_id}
-use Rattle.table.specs.declared.Pick.{Pick}
-use Rattle.table.specs.declared.Pick.TheVariants as free
 use Rattle.table.specs.Table.{on_pick}
 use Rattle.table.specs.Free.{free_of}
 use Rattle.record.specs.Record.{number_at, write_record_of}
@@ -43,7 +41,7 @@ refusal e m st a = record { outcome = Err e; medium = m; store = st; appender = 
 abbrev pub success : Medium → Store → Appender → Handed
 success m st a = record { outcome = Ok tt; medium = m; store = st; appender = a }
 
-on_pick_nothing : {A : Type 0} {p : Pick} (f : Error → A) (a : A) (g : ℕ → A) → p ≡ free.Nothing → on_pick p f a g ≡ a
+on_pick_nothing : {A : Type 0} {p : Result (Option ℕ) Error} (f : Error → A) (a : A) (g : ℕ → A) → p ≡ Ok None → on_pick p f a g ≡ a
 unfolding on_pick
 on_pick_nothing f a g q = rw q
 
@@ -83,16 +81,16 @@ module _ (vol : List ℕ) (m : Medium) (st : Store) (a : Appender) (partial : Bo
       unfolding rolled_out on_done pick
       rolled_none t = rw (← gone.0, ← gone.1, d, t) (refl, refl)
 
-      module _ (t : g.any ≡ true) {p : Pick} (hp : p ≡ free_of v g.medium g.store) where
-        pub rolled_unread : {e : Error} → p ≡ free.Refused e → GivesA v (refusal e g.medium g.store a) (rolled_out vol m st a partial records)
+      module _ (t : g.any ≡ true) {p : Result (Option ℕ) Error} (hp : p ≡ free_of v g.medium g.store) where
+        pub rolled_unread : {e : Error} → p ≡ Err e → GivesA v (refusal e g.medium g.store a) (rolled_out vol m st a partial records)
         unfolding rolled_out on_done pick on_pick
         rolled_unread q = rw (← gone.0, ← gone.1, d, t, ← hp, q) (refl, refl)
 
-        pub rolled_corrupt : p ≡ free.Nothing → GivesA v (refusal Corrupt g.medium g.store a) (rolled_out vol m st a partial records)
+        pub rolled_corrupt : p ≡ Ok None → GivesA v (refusal Corrupt g.medium g.store a) (rolled_out vol m st a partial records)
         unfolding rolled_out on_done pick on_pick
         rolled_corrupt q = rw (← gone.0, ← gone.1, d, t, ← hp, q) (refl, refl)
 
-        pub rolled_linked : {c : ℕ} {w : List ℕ} {r : Handed} → p ≡ free.At c → GivesA w r (link_out v g.medium g.store a partial records c)
+        pub rolled_linked : {c : ℕ} {w : List ℕ} {r : Handed} → p ≡ Ok (Some c) → GivesA w r (link_out v g.medium g.store a partial records c)
             → GivesA w r (rolled_out vol m st a partial records)
         unfolding rolled_out on_done pick on_pick
         rolled_linked q l = rw (← gone.0, ← gone.1, d, t, ← hp, q) l
@@ -103,20 +101,20 @@ module _ (vol : List ℕ) (m : Medium) (st : Store) (a : Appender) (partial : Bo
   unfolding extend_of pick
   extend_far h = rw (le-leb _ _ h) (refl, refl)
 
-  module _ (near : a.position < 32767) {p : Pick} (hp : p ≡ free_of vol m st) where
-    pub extend_unread : {e : Error} → p ≡ free.Refused e → GivesA vol (refusal e m st a) (extend_of vol m st a partial records)
+  module _ (near : a.position < 32767) {p : Result (Option ℕ) Error} (hp : p ≡ free_of vol m st) where
+    pub extend_unread : {e : Error} → p ≡ Err e → GivesA vol (refusal e m st a) (extend_of vol m st a partial records)
     unfolding extend_of pick on_pick
     extend_unread q = rw (lt-leb _ _ near, ← hp, q) (refl, refl)
 
-    pub extend_full : p ≡ free.Nothing → a.rolls ≡ false → GivesA vol (refusal Full m st a) (extend_of vol m st a partial records)
+    pub extend_full : p ≡ Ok None → a.rolls ≡ false → GivesA vol (refusal Full m st a) (extend_of vol m st a partial records)
     unfolding extend_of pick on_pick
     extend_full q t = rw (lt-leb _ _ near, ← hp, q, t) (refl, refl)
 
-    pub extend_rolled : {v : List ℕ} {r : Handed} → p ≡ free.Nothing → a.rolls ≡ true → GivesA v r (rolled_out vol m st a partial records) → GivesA v r (extend_of vol m st a partial records)
+    pub extend_rolled : {v : List ℕ} {r : Handed} → p ≡ Ok None → a.rolls ≡ true → GivesA v r (rolled_out vol m st a partial records) → GivesA v r (extend_of vol m st a partial records)
     unfolding extend_of
     extend_rolled q t g = along g (sym (pick_false _ _ (lt-leb _ _ near) ∙ on_pick_nothing _ _ _ (sym hp ∙ q) ∙ pick_true _ _ t))
 
-    pub extend_linked : {c : ℕ} {v : List ℕ} {r : Handed} → p ≡ free.At c → GivesA v r (link_out vol m st a partial records c) → GivesA v r (extend_of vol m st a partial records)
+    pub extend_linked : {c : ℕ} {v : List ℕ} {r : Handed} → p ≡ Ok (Some c) → GivesA v r (link_out vol m st a partial records c) → GivesA v r (extend_of vol m st a partial records)
     unfolding extend_of pick on_pick
     extend_linked q g = rw (lt-leb _ _ near, ← hp, q) g
 
@@ -130,7 +128,7 @@ module _ (vol : List ℕ) (m : Medium) (st : Store) (a : Appender) (partial : Bo
         → GivesA w r (and_then (extend_of vol m st a partial records) (record_out 0))
     next_written {w} {r} d l =
         let o : AppOut = extend_of vol m st a partial records in
-        let q : o.ans.outcome ≡ (Ok tt) = ap (λ (f : Handed). f.outcome) (sym g.1) ∙ d in
+        let q : o.ans.outcome ≡ Ok tt = ap (λ (f : Handed). f.outcome) (sym g.1) ∙ d in
         let l' : GivesA w r (record_out 0 o.vol o.ans.medium o.ans.store o.ans.appender) = (rw (g.0, g.1) at l) in
         (l'.0 ∙ ap (λ (y : AppOut). y.vol) (sym (then_done o (record_out 0) q)), l'.1 ∙ ap (λ (y : AppOut). y.ans) (sym (then_done o (record_out 0) q)))
 

@@ -9,7 +9,6 @@ use super::{Appender, Handed, finished, stopped};
 use handles::Store;
 use medium::{Error, Medium};
 use plan::Edit;
-use table::Pick;
 
 // Links a free chunk to the file; a reopened last chunk is marked with its records in the same commit.
 fn link(
@@ -78,9 +77,9 @@ fn rolled(
     }
     let p = table::free_chunk(&volume[..], m, s);
     match p {
-        Pick::Refused(e) => stopped(e, m, s, appender),
-        Pick::Nothing => stopped(Error::Corrupt, m, s, appender),
-        Pick::At(next) => link(volume, m, s, appender, partial, records, next),
+        Err(e) => stopped(e, m, s, appender),
+        Ok(None) => stopped(Error::Corrupt, m, s, appender),
+        Ok(Some(next)) => link(volume, m, s, appender, partial, records, next),
     }
 }
 
@@ -103,13 +102,13 @@ pub(crate) fn extend(
     }
     let p = table::free_chunk(&volume[..], medium, store);
     match p {
-        Pick::Refused(e) => stopped(e, medium, store, appender),
-        Pick::Nothing => {
+        Err(e) => stopped(e, medium, store, appender),
+        Ok(None) => {
             if appender.rolls {
                 return rolled(volume, medium, store, appender, partial, records);
             }
             stopped(Error::Full, medium, store, appender)
         }
-        Pick::At(next) => link(volume, medium, store, appender, partial, records, next),
+        Ok(Some(next)) => link(volume, medium, store, appender, partial, records, next),
     }
 }

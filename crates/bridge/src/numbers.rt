@@ -12,7 +12,6 @@ use freemap::FreeMap;
 use handles::{Header, Store, Writer};
 use medium::{Error, Medium};
 use reader::{End, Next, Numbered, Reader};
-use table::FreeCount;
 
 // The low 32 bits.
 pub fn narrow(x: u64) -> u32
@@ -172,21 +171,21 @@ pub fn code(o: Result<(), Error>) -> u32
 }
 
 // 0, or the number of a refusal of `free_count`.
-pub fn count_code(n: FreeCount) -> u32
+pub fn count_code(n: Result<u32, Error>) -> u32
     ensures { result ≡ code_of (count_answer n) }
 {
     match n {
-        FreeCount::Refused(e) => medium::number(e),
-        FreeCount::Is(_) => 0,
+        Err(e) => medium::number(e),
+        Ok(_) => 0,
     }
 }
 
-pub fn count_words(n: FreeCount) -> [u64; 3]
+pub fn count_words(n: Result<u32, Error>) -> [u64; 3]
     ensures { result ≡ number_words (count_answer n) }
 {
     match n {
-        FreeCount::Refused(_) => [0, 0, 0],
-        FreeCount::Is(x) => [x as u64, 0, 0],
+        Err(_) => [0, 0, 0],
+        Ok(x) => [x as u64, 0, 0],
     }
 }
 

@@ -1,5 +1,5 @@
 -- What create gives, by the way that it goes: a law for each return, over plain values. Assumes nothing.
-use Rattle.std.specs.Prelude.{Err, Ok}
+use Rattle.std.specs.Prelude.{Err, Ok, Option, Some, None, Result}
 use Rattle.std.proofs.Common.{◌≡◌, ℕ, ◌-◌, ◌^◌, true, false, List, [], sym, refl, ap, ◌∙◌, eq-eqb, ne_eqb}
 use mathlib.Core.Bool.{false≢true}
 use Rattle.le.specs.Choice.{pick}
@@ -13,8 +13,6 @@ use Rattle.directory.specs.declared.Looked.{Looked}
 use Rattle.directory.specs.declared.Looked.TheVariants as looked
 use Rattle.directory.specs.declared.Seen.{Seen}
 use Rattle.directory.specs.Scan.{look_of, on_looked}
-use Rattle.table.specs.declared.Pick.{Pick}
-use Rattle.table.specs.declared.Pick.TheVariants as free
 use Rattle.table.specs.Table.{on_pick}
 use Rattle.table.specs.Free.{free_of}
 use Rattle.plan.specs.declared.Committed.{Committed}
@@ -101,7 +99,7 @@ on_looked_done : {p : Looked} {s : Seen} (f : Error → AppOut) (g : Seen → Ap
 unfolding on_looked
 on_looked_done f g q = rw q
 
-on_pick_by : {p q : Pick} (f : Error → AppOut) (a : AppOut) (g : ℕ → AppOut) → p ≡ q → on_pick p f a g ≡ on_pick q f a g
+on_pick_by : {p q : Result (Option ℕ) Error} (f : Error → AppOut) (a : AppOut) (g : ℕ → AppOut) → p ≡ q → on_pick p f a g ≡ on_pick q f a g
 on_pick_by f a g e = rw e
 
 module _ (name : List ℕ) (rollover : Rollover) (vol : List ℕ) (m : Medium) (st : Store) {f : Looked} (hf : f ≡ look_of vol m st name) where
@@ -119,16 +117,16 @@ module _ (name : List ℕ) (rollover : Rollover) (vol : List ℕ) (m : Medium) (
       unfolding round_out
       round_crowded u next = on_looked_done _ _ (sym hf ∙ q) ∙ pick_false _ _ t ∙ pick_false _ _ u
 
-      module _ (u : s.free ≡ true) {p : Pick} (hp : p ≡ free_of vol m st) where
-        pub round_untold : {e : Error} → p ≡ free.Refused e → (next : Next) → round_out name rollover next vol m st ≡ refused_at vol m st e
+      module _ (u : s.free ≡ true) {p : Result (Option ℕ) Error} (hp : p ≡ free_of vol m st) where
+        pub round_untold : {e : Error} → p ≡ Err e → (next : Next) → round_out name rollover next vol m st ≡ refused_at vol m st e
         unfolding round_out on_pick
         round_untold w next = on_looked_done _ _ (sym hf ∙ q) ∙ pick_false _ _ t ∙ pick_true _ _ u ∙ on_pick_by _ _ _ (sym hp ∙ w)
 
-        pub round_full : p ≡ free.Nothing → (next : Next) → round_out name rollover next vol m st ≡ over_out rollover next vol m st
+        pub round_full : p ≡ Ok None → (next : Next) → round_out name rollover next vol m st ≡ over_out rollover next vol m st
         unfolding round_out on_pick
         round_full w next = on_looked_done _ _ (sym hf ∙ q) ∙ pick_false _ _ t ∙ pick_true _ _ u ∙ on_pick_by _ _ _ (sym hp ∙ w)
 
-        pub round_made : {c : ℕ} → p ≡ free.At c → (next : Next) → round_out name rollover next vol m st ≡ make_out name rollover vol m st s.slot c
+        pub round_made : {c : ℕ} → p ≡ Ok (Some c) → (next : Next) → round_out name rollover next vol m st ≡ make_out name rollover vol m st s.slot c
         unfolding round_out on_pick
         round_made w next = on_looked_done _ _ (sym hf ∙ q) ∙ pick_false _ _ t ∙ pick_true _ _ u ∙ on_pick_by _ _ _ (sym hp ∙ w)
 

@@ -14,7 +14,6 @@ use directory::Looked;
 use handles::{Store, Writer};
 use medium::{Error, Medium};
 use plan::Edit;
-use table::Pick;
 
 // The rollover of a call: whether there is one, and its directory.
 #[derive(Clone, Copy)]
@@ -201,9 +200,9 @@ fn round(volume: &mut [u8], medium: Medium, store: Store, name: &[u8], rollover:
             }
             let p = table::free_chunk(&volume[..], medium, store);
             match p {
-                Pick::Refused(e) => ended(refused(e, medium, store)),
-                Pick::Nothing => roll(volume, medium, store, rollover),
-                Pick::At(chunk) => {
+                Err(e) => ended(refused(e, medium, store)),
+                Ok(None) => roll(volume, medium, store, rollover),
+                Ok(Some(chunk)) => {
                     let x = make(volume, medium, store, name, rollover, seen.slot, chunk);
                     ended(x)
                 }

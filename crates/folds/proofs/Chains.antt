@@ -1,4 +1,5 @@
 -- The chain of a slot by the layout: its count, its first chunk with its mark, and its last chunk. Assumes nothing.
+use Rattle.std.specs.Prelude.{Option, Some, Ok}
 use Prim.Native.Nat.{ℕ, ◌+◌, ◌-◌, ◌<◌, ◌≤◌}
 use mathlib.Core.Path.{◌≡◌, refl, sym, ap, ap₂, ◌∙◌, subst}
 use mathlib.Core.Logic.{◌≢◌}
@@ -19,10 +20,8 @@ use Rattle.handles.specs.declared.Store.{Store}
 use Rattle.table.specs.declared.Link.{Link}
 use Rattle.table.specs.declared.LinkAt.TheVariants as link
 use Rattle.table.specs.declared.Place.{Place}
-use Rattle.table.specs.declared.Place.TheVariants as place
 use Rattle.table.specs.declared.ChainState.{ChainState}
-use Rattle.table.specs.declared.Chained.TheVariants as chained
-use Rattle.table.specs.Table.{locate_step, first_step, higher, chain_more, chain_step, chain_end, whole_of, chain_v, no_chain, chain_of}
+use Rattle.table.specs.Table.{locate_step, first_step, higher, chain_more, chain_step, chain_end, whole_of, chain_v, no_chain, chain_of, place_at}
 use Rattle.layout.specs.Views.{disk_of, link_view}
 use Rattle.layout.specs.Segments.{Segment, segment_at, link_for, Good}
 use Rattle.layout.proofs.Facts.{case, same_link, free≢linked, link_slot, one_place}
@@ -32,11 +31,11 @@ use Rattle.folds.proofs.Walked.{table_views}
 use Rattle.folds.proofs.Chunks.{of_slot, counts_free, counts_here, counts_other, owns, at_link, Met, met_free, met_link}
 
 -- a step of the chain's first chunk is one of the chunk at position 0
-first_mine : (s c : ℕ) (l : Link) (f : Place) → l.slot ≡ s → locate_step s 0 c l f ≡ first_step c l f
+first_mine : (s c : ℕ) (l : Link) (f : Option Place) → l.slot ≡ s → locate_step s 0 c l f ≡ first_step c l f
 unfolding locate_step first_step
 first_mine s c l f e = rw (eq-eqb l.slot s e)
 
-first_other : (s c : ℕ) (l : Link) (f : Place) → l.slot ≢ s → locate_step s 0 c l f ≡ f
+first_other : (s c : ℕ) (l : Link) (f : Option Place) → l.slot ≢ s → locate_step s 0 c l f ≡ f
 unfolding locate_step pick
 first_other s c l f e = rw (ne_eqb l.slot s e)
 
@@ -44,7 +43,7 @@ module _ (vol : List ℕ) (st : Store) (G : ℕ → List Segment) (good : Good (
   abbrev at : ℕ → ℕ
   at p = (segment_at (G s) p).chunk
 
-  abbrev Starts : ℕ → Place → Type 0
+  abbrev Starts : ℕ → Option Place → Type 0
   Starts = Met vol st G good s 0 h some
 
   -- of the chunks below n: how many are the slot's, its first, and the one with the largest position
@@ -65,13 +64,13 @@ module _ (vol : List ℕ) (st : Store) (G : ℕ → List Segment) (good : Good (
         most = λ q b k. let e : c ≡ at q → ⊥ = none q b in p.most q b (omega arith);
       }
 
-  at_free : (c : ℕ) (t : ChainState) → Chain c t → link_view vol st c ≡ link.Free → Chain (c + 1) t
+  at_free : (c : ℕ) (t : ChainState) → Chain c t → link_view vol st c ≡ Ok link.Free → Chain (c + 1) t
   at_free c t p q =
       passed c t (counts_free vol st s c q) (met_free vol st G good s 0 h some c t.first p.first q)
       (λ k b e. free≢linked q (at_link vol st G good s k h b c e)) p
 
   -- chunk c has the link l
-  module _ (c : ℕ) (l : Link) (t : ChainState) (i : c < st.head.chunks) (p : Chain c t) (q : link_view vol st c ≡ link.Linked l) where
+  module _ (c : ℕ) (l : Link) (t : ChainState) (i : c < st.head.chunks) (p : Chain c t) (q : link_view vol st c ≡ Ok (link.Linked l)) where
     starts : Starts (c + 1) (locate_step s 0 c l t.first)
     starts = met_link vol st G good s 0 h some c l t.first i p.first q
 
@@ -127,20 +126,20 @@ module _ (vol : List ℕ) (st : Store) (G : ℕ → List Segment) (good : Good (
   abbrev mark : Link
   mark = link_for st.head.chunk s (G s) 0
 
-  ended : (t : ChainState) → Chain st.head.chunks t → chain_end t ≡ chained.Whole (chain_for st.head.chunk s (G s))
+  ended : (t : ChainState) → Chain st.head.chunks t → chain_end t ≡ Ok (chain_for st.head.chunk s (G s))
   unfolding chain_end
   ended t p =
       let n : t.count ≡ length (G s) = p.count ∙ good.counted s h in
-      let f : t.first ≡ place.At (at 0) mark = p.first (good.inside s 0 h some) in
+      let f : t.first ≡ Some (place_at (at 0) mark) = p.first (good.inside s 0 h some) in
       let k = p.top (omega arith) in
       let a : length (G s) - 1 ≤ t.top = (p.most (length (G s) - 1) (omega arith) (good.inside s (length (G s) - 1) h (omega arith))).1 in
       let z : t.top ≡ length (G s) - 1 = omega (arith, k.0) in
       let e : t.top + 1 ≡ t.count = omega arith in
       ap (whole_of t) f ∙ pick_true _ _ (eq-eqb _ _ e)
-      ∙ ap₂ (λ (x y : ℕ). chained.Whole (record { count = x; first = at 0; partial = mark.partial; records = mark.records; last = y })) n (sym k.1 ∙ ap at z)
+      ∙ ap₂ (λ (x y : ℕ). Ok (record { count = x; first = at 0; partial = mark.partial; records = mark.records; last = y })) n (sym k.1 ∙ ap at z)
 
 pub chain_view : (vol : List ℕ) (m : Medium) (st : Store) → Checked vol m st → (G : ℕ → List Segment) → Good (disk_of vol st) G → (s : ℕ) → s < 64 → 1 ≤ length (G s)
-    → chain_of vol m st s ≡ chained.Whole (chain_for st.head.chunk s (G s))
+    → chain_of vol m st s ≡ Ok (chain_for st.head.chunk s (G s))
 unfolding chain_of
 chain_view vol m st ok G good s h some =
     let r = table_views vol m st ok G good (chain_v s) (Chain vol st G good s h some) (λ c t i p q. at_free vol st G good s h some c t p q)

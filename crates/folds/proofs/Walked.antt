@@ -1,5 +1,6 @@
 -- Where every body sector passes its check, a walk meets what the views say: one law on what the visits keep, and its two instances, for the
 -- directory and for the table, where no visit is refused. Assumes nothing.
+use Rattle.std.specs.Prelude.{Ok}
 use Prim.Native.Nat.{ℕ, ◌+◌, ◌/◌, ◌%◌, ◌<◌, ◌≤◌, zero-le}
 use mathlib.Core.Path.{◌≡◌, refl, ap, subst}
 use mathlib.Core.Logic.{◌⊎◌, inl, inr}
@@ -73,8 +74,8 @@ module _ (vol : List ℕ) (m : Medium) (st : Store) (ok : Checked vol m st) wher
   -- ---- the table: only the chunks of the store count
 
   module _ {S R : Type 0} (G : ℕ → List Segment) (good : Good (disk_of vol st) G) (v : TableVisit S R) (P : ℕ → S → Type 0)
-      (frees : (c : ℕ) (t : S) → c < st.head.chunks → P c t → link_view vol st c ≡ link.Free → P (c + 1) (v.free c t))
-      (links : (c : ℕ) (l : Link) (t : S) → c < st.head.chunks → P c t → link_view vol st c ≡ link.Linked l → P (c + 1) (v.linked c l t)) where
+      (frees : (c : ℕ) (t : S) → c < st.head.chunks → P c t → link_view vol st c ≡ Ok link.Free → P (c + 1) (v.free c t))
+      (links : (c : ℕ) (l : Link) (t : S) → c < st.head.chunks → P c t → link_view vol st c ≡ Ok (link.Linked l) → P (c + 1) (v.linked c l t)) where
     -- past the last chunk the state stays
     abbrev Upto : ℕ → S → Type 0
     Upto k t = (k ≤ st.head.chunks → P k t) × (st.head.chunks ≤ k → P st.head.chunks t)
@@ -85,7 +86,7 @@ module _ (vol : List ℕ) (m : Medium) (st : Store) (ok : Checked vol m st) wher
     more : (c : ℕ) (t : S) → c < st.head.chunks → P (c + 1) t → Upto (c + 1) t
     more c t h p = (λ a. p, λ a. let e : c + 1 ≡ st.head.chunks = omega arith in subst (λ (k : ℕ). P k t) e p)
 
-    inside : (c : ℕ) (t : S) → c < st.head.chunks → P c t → (link_view vol st c ≡ link.Free) ⊎ ((l : Link) × (link_view vol st c ≡ link.Linked l))
+    inside : (c : ℕ) (t : S) → c < st.head.chunks → P c t → (link_view vol st c ≡ Ok link.Free) ⊎ ((l : Link) × (link_view vol st c ≡ Ok (link.Linked l)))
         → Left (Upto (c + 1)) Ended (on_link v c t (link_view vol st c))
     inside c t h p (inl q) = rw q (more c (v.free c t) h (frees c t h p q))
     inside c t h p (inr (l, q)) = rw q (more c (v.linked c l t) h (links c l t h p q))

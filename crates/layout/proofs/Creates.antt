@@ -1,4 +1,5 @@
 -- A file made in a vacant slot with a free chunk: views and layout agree after it. Assumes nothing.
+use Rattle.std.specs.Prelude.{Ok}
 use mathlib.Core.Path.{◌≡◌, refl, ap, sym, ◌∙◌}
 use mathlib.Core.Logic.{◌≢◌, inr}
 use mathlib.Core.Bool.{false}
@@ -17,7 +18,7 @@ use Rattle.layout.proofs.Facts.{case, vacant≢named, named≢broken, same_name,
 use Rattle.layout.proofs.Tallies.{counts_one}
 
 module _ (D E : Disk) (G : ℕ → List Segment) (s c : ℕ) (name : List ℕ) (d : Good D G) (s< : s < 64) (unnamed : D.entry s ≡ vacant)
-    (nobody : (t : ℕ) (m : List ℕ) (k : ℕ) → t < 64 → D.entry t ≡ named m k → m ≢ name) (c< : c < D.chunks) (unused : D.link c ≡ link.Free)
+    (nobody : (t : ℕ) (m : List ℕ) (k : ℕ) → t < 64 → D.entry t ≡ named m k → m ≢ name) (c< : c < D.chunks) (unused : D.link c ≡ Ok link.Free)
     (w : Created D E s c name) where
   abbrev new : List Segment
   new = (record { chunk = c; payloads = [] }) ∷ []
@@ -56,7 +57,7 @@ module _ (D E : Disk) (G : ℕ → List Segment) (s c : ℕ) (name : List ℕ) (
   none_yet : length (G s) ≡ 0
   none_yet = ap length (d.free s s< unnamed)
 
-  no_owner : (b : ℕ) (l : Link) → b < D.chunks → D.link b ≡ link.Linked l → l.slot ≢ s
+  no_owner : (b : ℕ) (l : Link) → b < D.chunks → D.link b ≡ Ok (link.Linked l) → l.slot ≢ s
   no_owner b l h x z =
       let o = d.owned b l h x in
       let k : length (G l.slot) ≡ 0 = rw z none_yet in
@@ -83,12 +84,12 @@ module _ (D E : Disk) (G : ℕ → List Segment) (s c : ℕ) (name : List ℕ) (
         (λ f g h. entry_of u o l b y (λ f' g' h'. absurd (nobody t m k a g (e ∙ g'))) (λ f' g' h'. d.names t u m o k l a b g g' e));
     inside = λ t q a b. rw N (which t q b (λ x y. rw (x, y, mine) c<) (λ x y. rw (others t x) (d.inside t q a y)));
     linked = λ t q a b. rw Z (which t q b
-        (λ x y. rw (x, y, mine) (w.added ∙ ap link.Linked (sym (last_link D.size s new 0 refl))))
+        (λ x y. rw (x, y, mine) (w.added ∙ ap (λ k. Ok (link.Linked k)) (sym (last_link D.size s new 0 refl))))
         (λ x y. rw (others t x) (w.links (segment_at (G t) q).chunk (in_table (d.inside t q a y)) (not_free d unused t q a y) ∙ d.linked t q a y)));
     owned = λ b l x y. let h : b < D.chunks = rw N at x in case b c
         (λ z. let o : l ≡ added = same_link y (rw z w.added) in rw o (record { slot = s<; in_file = rw mine (omega arith); there = rw mine (sym z) }))
         (λ z.
-        let k : D.link b ≡ link.Linked l = sym (w.links b (in_table h) z) ∙ y in
+        let k : D.link b ≡ Ok (link.Linked l) = sym (w.links b (in_table h) z) ∙ y in
         let o = d.owned b l h k in
         let e : H l.slot ≡ G l.slot = others l.slot (no_owner b l h k) in
         record { slot = o.slot; in_file = rw e o.in_file; there = rw e o.there });
@@ -118,6 +119,6 @@ module _ (D E : Disk) (G : ℕ → List Segment) (s c : ℕ) (name : List ℕ) (
   }
 
 pub create_good : {D E : Disk} {G : ℕ → List Segment} {s c : ℕ} {name : List ℕ} → Good D G → s < 64 → D.entry s ≡ vacant
-    → ((t : ℕ) (m : List ℕ) (k : ℕ) → t < 64 → D.entry t ≡ named m k → m ≢ name) → c < D.chunks → D.link c ≡ link.Free → Created D E s c name
+    → ((t : ℕ) (m : List ℕ) (k : ℕ) → t < 64 → D.entry t ≡ named m k → m ≢ name) → c < D.chunks → D.link c ≡ Ok link.Free → Created D E s c name
     → Good E (replaced G s ((record { chunk = c; payloads = [] }) ∷ []))
 create_good {D} {E} {G} {s} {c} {name} d a b e f g w = creates D E G s c name d a b e f g w

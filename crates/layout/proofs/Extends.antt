@@ -1,4 +1,5 @@
 -- A chunk linked to the file in slot s after its last one: views and layout agree after it. Assumes nothing.
+use Rattle.std.specs.Prelude.{Ok}
 use mathlib.Core.Path.{◌≡◌, refl, ap, sym, ◌∙◌}
 use mathlib.Core.Logic.{◌≢◌, inr}
 use mathlib.Core.Bool.{true, false}
@@ -33,7 +34,7 @@ partial_mark size s g c p h k =
     partial_link_lem size s (with_segment g c) p (λ z. absurd (omega (arith, h, z, length_segment g c))) (λ z. k (sym e ∙ z)) ∙ rw e
 
 module _ (D E : Disk) (G : ℕ → List Segment) (s p c id : ℕ) (n : List ℕ) (d : Good D G) (s< : s < 64) (is : D.entry s ≡ named n id)
-    (last : p + 1 ≡ length (G s)) (c< : c < D.chunks) (unused : D.link c ≡ link.Free)
+    (last : p + 1 ≡ length (G s)) (c< : c < D.chunks) (unused : D.link c ≡ Ok link.Free)
     (w : Extended D E c (segment_at (G s) p).chunk (record { slot = s; position = p + 1; partial = false; records = 0 }) (link_for D.size s (with_segment (G s) c) p)) where
   abbrev H : ℕ → List Segment
   H = replaced G s (with_segment (G s) c)
@@ -83,7 +84,7 @@ module _ (D E : Disk) (G : ℕ → List Segment) (s p c id : ℕ) (n : List ℕ)
       (λ a. f (let z : length (H t) ≡ length (G t) = ap length (others t a) in omega (arith, h, z)))
 
   -- the links of the old places
-  kept : (t q : ℕ) → t < 64 → q < length (G t) → E.link (segment_at (G t) q).chunk ≡ link.Linked (link_for D.size t (H t) q)
+  kept : (t q : ℕ) → t < 64 → q < length (G t) → E.link (segment_at (G t) q).chunk ≡ Ok (link.Linked (link_for D.size t (H t) q))
   kept t q a b = case t s
       (λ x. case q p
       (λ y. rw (x, y, mine) w.marked)
@@ -103,14 +104,14 @@ module _ (D E : Disk) (G : ℕ → List Segment) (s p c id : ℕ) (n : List ℕ)
           (λ f. full_link D.size t (H t) q (counts ∙ f) ∙ sym (full_link D.size t (G t) q f))
           (λ f. partial_link_lem D.size t (H t) q u (λ e. f (sym counts ∙ e)) ∙ (rw counts (sym (partial_link_lem D.size t (G t) q v f))))
 
-      other : (t ≡ s → q ≢ p) → link_for D.size t (H t) q ≡ link_for D.size t (G t) q → E.link (segment_at (G t) q).chunk ≡ link.Linked (link_for D.size t (H t) q)
+      other : (t ≡ s → q ≢ p) → link_for D.size t (H t) q ≡ link_for D.size t (G t) q → E.link (segment_at (G t) q).chunk ≡ Ok (link.Linked (link_for D.size t (H t) q))
       other ne m = rw m (w.elsewhere (segment_at (G t) q).chunk (in_table (d.inside t q a b)) (not_free d unused t q a b) (λ z. let o = one_place d t q s p a s< b pl z in ne o.0 o.1) ∙ d.linked t q a b)
 
-  owned_by : (b : ℕ) (l m : Link) → E.link b ≡ link.Linked l → E.link b ≡ link.Linked m → m.slot < 64 → m.position < length (H m.slot)
+  owned_by : (b : ℕ) (l m : Link) → E.link b ≡ Ok (link.Linked l) → E.link b ≡ Ok (link.Linked m) → m.slot < 64 → m.position < length (H m.slot)
       → (segment_at (H m.slot) m.position).chunk ≡ b → Owned E H b l
   owned_by b l m x y a f g = let o : l ≡ m = same_link x y in rw o (record { slot = a; in_file = f; there = g })
 
-  owns : (b : ℕ) (l : Link) → b < D.chunks → E.link b ≡ link.Linked l → Owned E H b l
+  owns : (b : ℕ) (l : Link) → b < D.chunks → E.link b ≡ Ok (link.Linked l) → Owned E H b l
   owns b l h x = case b c
       (λ a. owned_by b l added x (rw a w.added) s< (omega (arith, len)) (rw at_end (sym a)))
       (λ a. case b old
@@ -144,7 +145,7 @@ module _ (D E : Disk) (G : ℕ → List Segment) (s p c id : ℕ) (n : List ℕ)
     inside = λ t q a b. rw N (which t q b (λ x. rw (as_before t q x) (d.inside t q a x)) (λ x y. rw (x, y, at_end) c<));
     linked = λ t q a b. rw Z (which t q b
         (λ x. rw (as_before t q x) (kept t q a x))
-        (λ x y. rw (x, y, at_end) (w.added ∙ ap link.Linked (sym (last_link D.size s (H s) (p + 1) (omega (arith, len)))))));
+        (λ x y. rw (x, y, at_end) (w.added ∙ ap (λ k. Ok (link.Linked k)) (sym (last_link D.size s (H s) (p + 1) (omega (arith, len)))))));
     owned = λ b l x y. owns b l (rw N at x) y;
     either = λ b x. let h : b < D.chunks = rw N at x in case b c
         (λ a. inr (added, rw a w.added))
@@ -177,7 +178,7 @@ module _ (D E : Disk) (G : ℕ → List Segment) (s p c id : ℕ) (n : List ℕ)
   }
 
 pub extend_good : {D E : Disk} {G : ℕ → List Segment} {c id : ℕ} {n : List ℕ} {mark : Link} (s p : ℕ) → Good D G → s < 64 → D.entry s ≡ named n id → p + 1 ≡ length (G s)
-    → c < D.chunks → D.link c ≡ link.Free → mark ≡ link_for D.size s (with_segment (G s) c) p
+    → c < D.chunks → D.link c ≡ Ok link.Free → mark ≡ link_for D.size s (with_segment (G s) c) p
     → Extended D E c (segment_at (G s) p).chunk (record { slot = s; position = p + 1; partial = false; records = 0 }) mark
     → Good E (replaced G s (with_segment (G s) c))
 extend_good {D} {E} {G} {c} {id} {n} {mark} s p d a b e f g h w = extends D E G s p c id n d a b e f g (rw h at w)

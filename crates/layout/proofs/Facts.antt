@@ -1,5 +1,6 @@
 -- What equations on views tell, the layout with one file replaced, and what follows from views and layout that agree: a chunk has one place, and no
 -- file has more chunks than there are. Assumes nothing.
+use Rattle.std.specs.Prelude.{Result, Ok, Err}
 use mathlib.Core.Path.{◌≡◌, refl, ap, sym, ◌∙◌}
 use mathlib.Core.Logic.{◌≢◌}
 use mathlib.Core.Bool.{Bool, true, false, false≢true}
@@ -51,10 +52,10 @@ blank≢stored p q = let z : ◌≡◌ {A = ℕ} 0 1 = cc in omega arith
 pub same_file : {o : Rec} {f g k l : ℕ} {x y : List ℕ} → o ≡ stored f k x → o ≡ stored g l y → f ≡ g
 same_file p q = cc
 
-pub same_link : {o : LinkAt} {l m : Link} → o ≡ link.Linked l → o ≡ link.Linked m → l ≡ m
+pub same_link : {o : Result LinkAt Error} {l m : Link} → o ≡ Ok (link.Linked l) → o ≡ Ok (link.Linked m) → l ≡ m
 same_link p q = cc
 
-pub free≢linked : {o : LinkAt} {l : Link} → o ≡ link.Free → o ≡ link.Linked l → ⊥
+pub free≢linked : {o : Result LinkAt Error} {l : Link} → o ≡ Ok link.Free → o ≡ Ok (link.Linked l) → ⊥
 free≢linked p q = let z : ◌≡◌ {A = ℕ} 0 1 = cc in omega arith
 
 pub in_table : {c n : ℕ} → c < n → c < links_of n
@@ -102,31 +103,31 @@ same_mark size s g h p a b = rw (a, b)
 
 -- ---- whose link it is
 
-pub is_of_lem : {o : LinkAt} {l : Link} (s : ℕ) → o ≡ link.Linked l → l.slot ≡ s → is_of s o ≡ true
+pub is_of_lem : {o : Result LinkAt Error} {l : Link} (s : ℕ) → o ≡ Ok (link.Linked l) → l.slot ≡ s → is_of s o ≡ true
 unfolding is_of
 is_of_lem {o} {l} s p q = rw p (eq-eqb l.slot s q)
 
-pub not_of : {o : LinkAt} {l : Link} (s : ℕ) → o ≡ link.Linked l → l.slot ≢ s → is_of s o ≡ false
+pub not_of : {o : Result LinkAt Error} {l : Link} (s : ℕ) → o ≡ Ok (link.Linked l) → l.slot ≢ s → is_of s o ≡ false
 unfolding is_of
 not_of {o} {l} s p q = rw p (ne_eqb l.slot s q)
 
-pub free_of_lem : {o : LinkAt} (s : ℕ) → o ≡ link.Free → is_of s o ≡ false
+pub free_of_lem : {o : Result LinkAt Error} (s : ℕ) → o ≡ Ok link.Free → is_of s o ≡ false
 unfolding is_of
 free_of_lem s p = rw p
 
-pub refused_of : {o : LinkAt} {e : Error} (s : ℕ) → o ≡ link.Refused e → is_of s o ≡ true → ⊥
+pub refused_of : {o : Result LinkAt Error} {e : Error} (s : ℕ) → o ≡ Err e → is_of s o ≡ true → ⊥
 unfolding is_of
 refused_of s p q = false≢true (rw p at q)
 
 -- a link has one slot
-pub other_of : {s t : ℕ} (o : LinkAt) → is_of s o ≡ true → s ≢ t → is_of t o ≡ false
+pub other_of : {s t : ℕ} (o : Result LinkAt Error) → is_of s o ≡ true → s ≢ t → is_of t o ≡ false
 unfolding is_of
-other_of (link.Refused e) p n = refl
-other_of link.Past p n = refl
-other_of link.Free p n = refl
-other_of {s} {t} (link.Linked l) p n = ne_eqb l.slot t (λ q. n (sym (eqb-true l.slot s p) ∙ q))
+other_of (Err e) p n = refl
+other_of (Ok link.Past) p n = refl
+other_of (Ok link.Free) p n = refl
+other_of {s} {t} (Ok (link.Linked l)) p n = ne_eqb l.slot t (λ q. n (sym (eqb-true l.slot s p) ∙ q))
 
-pub past_of : {o : LinkAt} (s : ℕ) → o ≡ link.Past → is_of s o ≡ false
+pub past_of : {o : Result LinkAt Error} (s : ℕ) → o ≡ Ok link.Past → is_of s o ≡ false
 unfolding is_of
 past_of s p = rw p
 
@@ -145,13 +146,13 @@ one_place {D} {G} d s p t q a b c e h =
     )
 
 -- no file has a free chunk
-pub not_free : {D : Disk} {G : ℕ → List Segment} {c : ℕ} → Good D G → D.link c ≡ link.Free → (t q : ℕ) → t < 64 → q < length (G t) → (segment_at (G t) q).chunk ≢ c
+pub not_free : {D : Disk} {G : ℕ → List Segment} {c : ℕ} → Good D G → D.link c ≡ Ok link.Free → (t q : ℕ) → t < 64 → q < length (G t) → (segment_at (G t) q).chunk ≢ c
 not_free {D} {G} d unused t q a b h = free≢linked {l = link_for D.size t (G t) q} unused (rw (← h) (d.linked t q a b))
 
 -- the last chunk of a file has no mark
 pub last_linked : {D : Disk} {G : ℕ → List Segment} → Good D G → (s p : ℕ) → s < 64 → p + 1 ≡ length (G s)
-    → D.link (segment_at (G s) p).chunk ≡ link.Linked (record { slot = s; position = p; partial = false; records = 0 })
-last_linked {D} {G} d s p a h = d.linked s p a (omega (arith, h)) ∙ ap link.Linked (last_link D.size s (G s) p h)
+    → D.link (segment_at (G s) p).chunk ≡ Ok (link.Linked (record { slot = s; position = p; partial = false; records = 0 }))
+last_linked {D} {G} d s p a h = d.linked s p a (omega (arith, h)) ∙ ap (λ k. Ok (link.Linked k)) (last_link D.size s (G s) p h)
 
 -- ---- the payloads of a file
 

@@ -1,4 +1,5 @@
 -- The file of a slot removed: views and layout agree after it. Assumes nothing.
+use Rattle.std.specs.Prelude.{Ok}
 use mathlib.Core.Path.{◌≡◌, refl, ap, sym, ◌∙◌}
 use mathlib.Core.Logic.{◌≢◌, ◌⊎◌, inl, inr}
 use mathlib.Core.Bool.{Bool, true, false}
@@ -41,7 +42,7 @@ module _ (D E : Disk) (G : ℕ → List Segment) (s : ℕ) (d : Good D G) (s< : 
       (λ a. x a (let z : length (H t) ≡ length (G t) = ap length (others t a) in omega (arith, h, z)))
 
   -- a link of slot s is freed, any other is as before
-  which : {P : Type 0} (b : ℕ) → b < D.chunks → (is_of s (D.link b) ≡ true → E.link b ≡ link.Free → P)
+  which : {P : Type 0} (b : ℕ) → b < D.chunks → (is_of s (D.link b) ≡ true → E.link b ≡ Ok link.Free → P)
       → (is_of s (D.link b) ≡ false → E.link b ≡ D.link b → P) → P
   which {P} b h f g = go (is_of s (D.link b)) refl
     where
@@ -53,10 +54,10 @@ module _ (D E : Disk) (G : ℕ → List Segment) (s : ℕ) (d : Good D G) (s< : 
   kept t q a b h = w.links (segment_at (G t) q).chunk (in_table (d.inside t q a h)) (not_of s (d.linked t q a h) (λ e. b (sym (link_slot D.size t (G t) q) ∙ e)))
 
   -- a link that is left is an old one, of another file
-  left : {P : Type 0} (b : ℕ) (l : Link) → b < D.chunks → E.link b ≡ link.Linked l → (D.link b ≡ link.Linked l → l.slot ≢ s → P) → P
+  left : {P : Type 0} (b : ℕ) (l : Link) → b < D.chunks → E.link b ≡ Ok (link.Linked l) → (D.link b ≡ Ok (link.Linked l) → l.slot ≢ s → P) → P
   left b l h x f = which b h
       (λ e y. absurd (free≢linked y x))
-      (λ e y. let z : D.link b ≡ link.Linked l = sym y ∙ x in f z (λ k. true≢false (is_of_lem s z k) e))
+      (λ e y. let z : D.link b ≡ Ok (link.Linked l) = sym y ∙ x in f z (λ k. true≢false (is_of_lem s z k) e))
 
   counts : (t : ℕ) → t < 64 → tally (λ b. is_of t (E.link b)) D.chunks ≡ length (H t)
   counts t a = case t s
@@ -67,7 +68,7 @@ module _ (D E : Disk) (G : ℕ → List Segment) (s : ℕ) (d : Good D G) (s< : 
       one_owner : (t b : ℕ) → b < D.chunks → t ≢ s → is_of s (D.link b) ≡ true → is_of t (D.link b) ≡ false
       one_owner t b h z e = of_either (d.either b h)
         where
-          of_either : (D.link b ≡ link.Free) ⊎ ((l : Link) × (D.link b ≡ link.Linked l)) → is_of t (D.link b) ≡ false
+          of_either : (D.link b ≡ Ok link.Free) ⊎ ((l : Link) × (D.link b ≡ Ok (link.Linked l))) → is_of t (D.link b) ≡ false
           of_either (inl f) = free_of_lem t f
           of_either (inr (l, f)) = case l.slot s
               (λ k. not_of t f (λ g. z (sym g ∙ k)))

@@ -1,4 +1,5 @@
 -- Laws of the count of chunks with a property. Assumes nothing.
+use Rattle.std.specs.Prelude.{Ok}
 use mathlib.Core.Path.{◌≡◌, refl, ap, sym, ◌∙◌, subst}
 use mathlib.Core.Logic.{◌≢◌}
 use mathlib.Core.Bool.{Bool, true, false}
@@ -79,7 +80,7 @@ pub chunks_bound : {D : Disk} {G : ℕ → List Segment} → Good D G → (s : �
 chunks_bound {D} {G} d s h = omega (arith, d.counted s h, tally_le (λ c. is_of s (D.link c)) D.chunks)
 
 -- a free chunk became one more of slot s; the others are whose they were
-pub counts_one : (D E : Disk) (G H : ℕ → List Segment) (s c : ℕ) (l : Link) → Good D G → c < D.chunks → D.link c ≡ link.Free → E.link c ≡ link.Linked l → l.slot ≡ s
+pub counts_one : (D E : Disk) (G H : ℕ → List Segment) (s c : ℕ) (l : Link) → Good D G → c < D.chunks → D.link c ≡ Ok link.Free → E.link c ≡ Ok (link.Linked l) → l.slot ≡ s
     → ((t b : ℕ) → b < D.chunks → b ≢ c → is_of t (E.link b) ≡ is_of t (D.link b)) → length (H s) ≡ length (G s) + 1 → ((t : ℕ) → t ≢ s → H t ≡ G t)
     → (t : ℕ) → t < 64 → tally (λ b. is_of t (E.link b)) D.chunks ≡ length (H t)
 counts_one D E G H s c l d c< unused added own same longer others t a = case t s

@@ -1,5 +1,5 @@
 -- What each step of the calls changes of the views, D before it and E after it, index by index; and the layout after it. Assumes nothing.
-use Rattle.std.specs.Prelude.{ℕ, ◌+◌, ◌≤◌, ◌<◌, ◌≡◌, ◌≢◌, true, false, List, [], ◌∷◌, ◌++◌, eqb, set}
+use Rattle.std.specs.Prelude.{ℕ, ◌+◌, ◌≤◌, ◌<◌, ◌≡◌, ◌≢◌, true, false, List, [], ◌∷◌, ◌++◌, eqb, set, Ok}
 use Rattle.le.specs.Choice.{pick}
 use Rattle.table.specs.declared.Link.{Link}
 use Rattle.table.specs.declared.LinkAt.TheVariants as link
@@ -55,8 +55,8 @@ pub record Extended (D E : Disk) (c old : ℕ) (new mark : Link) : Type 0 where
   pub next : E.next ≡ D.next
   pub entries : SameEntries D E
   pub records : SameRecords D E
-  pub added : E.link c ≡ link.Linked new
-  pub marked : E.link old ≡ link.Linked mark
+  pub added : E.link c ≡ Ok (link.Linked new)
+  pub marked : E.link old ≡ Ok (link.Linked mark)
   pub elsewhere : (b : ℕ) → b < links_of D.chunks → b ≢ c → b ≢ old → E.link b ≡ D.link b
 
 -- create: slot s gets the name with the next id, chunk c its first link
@@ -66,7 +66,7 @@ pub record Created (D E : Disk) (s c : ℕ) (name : List ℕ) : Type 0 where
   pub records : SameRecords D E
   pub entry : E.entry s ≡ named name D.next
   pub entries : (t : ℕ) → t < 64 → t ≢ s → E.entry t ≡ D.entry t
-  pub added : E.link c ≡ link.Linked (record { slot = s; position = 0; partial = false; records = 0 })
+  pub added : E.link c ≡ Ok (link.Linked (record { slot = s; position = 0; partial = false; records = 0 }))
   pub links : (b : ℕ) → b < links_of D.chunks → b ≢ c → E.link b ≡ D.link b
 
 -- delete, delete_oldest, rollover: slot s is vacant, and every link of it is free
@@ -76,12 +76,12 @@ pub record Removed (D E : Disk) (s : ℕ) : Type 0 where
   pub records : SameRecords D E
   pub entry : E.entry s ≡ vacant
   pub entries : (t : ℕ) → t < 64 → t ≢ s → E.entry t ≡ D.entry t
-  pub cleared : (b : ℕ) → b < D.chunks → is_of s (D.link b) ≡ true → E.link b ≡ link.Free
+  pub cleared : (b : ℕ) → b < D.chunks → is_of s (D.link b) ≡ true → E.link b ≡ Ok link.Free
   pub links : (b : ℕ) → b < links_of D.chunks → is_of s (D.link b) ≡ false → E.link b ≡ D.link b
 
 -- format: no entry, no link, and no sector passes as a record
 pub record Fresh (E : Disk) : Type 0 where
   pub entries : (t : ℕ) → t < 64 → E.entry t ≡ vacant
-  pub links : (b : ℕ) → b < E.chunks → E.link b ≡ link.Free
-  pub past : (b : ℕ) → E.chunks ≤ b → b < links_of E.chunks → E.link b ≡ link.Past
+  pub links : (b : ℕ) → b < E.chunks → E.link b ≡ Ok link.Free
+  pub past : (b : ℕ) → E.chunks ≤ b → b < links_of E.chunks → E.link b ≡ Ok link.Past
   pub records : (b j : ℕ) → b < E.chunks → j < E.size → E.rec b j ≡ blank

@@ -1,8 +1,9 @@
 -- The invariant of demand 3 on the views: which chunks a file has and which payloads stand in them, as a layout beside the views: for each slot the
 -- segments of its file in order, none where the slot is vacant. Assumes nothing.
-use Rattle.std.specs.Prelude.{ℕ, ◌+◌, ◌*◌, ◌≤◌, ◌<◌, ◌≡◌, ◌⊎◌, Bool, true, false, ◌||◌, List, [], ◌∷◌, ◌++◌, eqb, length, get_or}
+use Rattle.std.specs.Prelude.{ℕ, ◌+◌, ◌*◌, ◌≤◌, ◌<◌, ◌≡◌, ◌⊎◌, Bool, true, false, ◌||◌, List, [], ◌∷◌, ◌++◌, eqb, length, get_or, Result, Ok, Err}
 use Rattle.le.specs.Choice.{pick}
 use Rattle.le.specs.Tally.{tally}
+use Rattle.medium.specs.declared.Error.{Error}
 use Rattle.table.specs.declared.Link.{Link}
 use Rattle.table.specs.declared.LinkAt.{LinkAt}
 use Rattle.table.specs.declared.LinkAt.TheVariants as link
@@ -34,11 +35,11 @@ link_for size slot g p =
     (record { slot = slot; position = p; partial = true; records = n })
 
 -- the link of a chunk is of the slot
-unfoldable pub is_of : ℕ → LinkAt → Bool
-is_of slot (link.Refused e) = false
-is_of slot link.Past = false
-is_of slot link.Free = false
-is_of slot (link.Linked l) = eqb l.slot slot
+unfoldable pub is_of : ℕ → Result LinkAt Error → Bool
+is_of slot (Err e) = false
+is_of slot (Ok link.Past) = false
+is_of slot (Ok link.Free) = false
+is_of slot (Ok (link.Linked l)) = eqb l.slot slot
 
 -- a place in a file where a record of it may stand
 pub record Placed (g : List Segment) (c i : ℕ) : Type 0 where
@@ -64,10 +65,10 @@ pub record Good (D : Disk) (G : ℕ → List Segment) : Type 0 where
   pub names : (s t : ℕ) (n m : List ℕ) (i j : ℕ) → s < 64 → t < 64 → D.entry s ≡ named n i → D.entry t ≡ named m j → n ≡ m → s ≡ t
   -- the table: each segment's chunk has its link, each link is a segment's, past the last chunk there is none, and each slot has as many as segments
   pub inside : (s p : ℕ) → s < 64 → p < length (G s) → (segment_at (G s) p).chunk < D.chunks
-  pub linked : (s p : ℕ) → s < 64 → p < length (G s) → D.link (segment_at (G s) p).chunk ≡ link.Linked (link_for D.size s (G s) p)
-  pub owned : (c : ℕ) (l : Link) → c < D.chunks → D.link c ≡ link.Linked l → Owned D G c l
-  pub either : (c : ℕ) → c < D.chunks → (D.link c ≡ link.Free) ⊎ ((l : Link) × (D.link c ≡ link.Linked l))
-  pub past : (c : ℕ) → D.chunks ≤ c → c < links_of D.chunks → D.link c ≡ link.Past
+  pub linked : (s p : ℕ) → s < 64 → p < length (G s) → D.link (segment_at (G s) p).chunk ≡ Ok (link.Linked (link_for D.size s (G s) p))
+  pub owned : (c : ℕ) (l : Link) → c < D.chunks → D.link c ≡ Ok (link.Linked l) → Owned D G c l
+  pub either : (c : ℕ) → c < D.chunks → (D.link c ≡ Ok link.Free) ⊎ ((l : Link) × (D.link c ≡ Ok (link.Linked l)))
+  pub past : (c : ℕ) → D.chunks ≤ c → c < links_of D.chunks → D.link c ≡ Ok link.Past
   pub counted : (s : ℕ) → s < 64 → tally (λ c. is_of s (D.link c)) D.chunks ≡ length (G s)
   -- the records: each payload stands where it belongs; a record of a live file stands in a segment of it, and no record has an id to come
   pub fits : (s p : ℕ) → s < 64 → p < length (G s) → length (segment_at (G s) p).payloads ≤ D.size

@@ -1,9 +1,10 @@
 -- 01, "Directory entry", "Link" and "Record": what the bytes of a mounted volume say, as functions of an index: the entry of a slot, the link of a
 -- chunk, and the record that passes at an index of a chunk. Assumes nothing.
-use Rattle.std.specs.Prelude.{ℕ, List}
+use Rattle.std.specs.Prelude.{ℕ, List, Result}
 use Rattle.le.specs.Choice.{pick}
 use Rattle.le.specs.Field.{get_le}
 use Rattle.le.specs.Part.{part}
+use Rattle.medium.specs.declared.Error.{Error}
 use Rattle.medium.specs.Sector.{sector_at}
 use Rattle.handles.specs.declared.Store.{Store}
 use Rattle.directory.specs.declared.Slot.{Slot}
@@ -30,7 +31,7 @@ pub record Disk : Type 0 where
   pub chunks : ℕ
   pub next : ℕ
   pub entry : ℕ → Entry
-  pub link : ℕ → LinkAt
+  pub link : ℕ → Result LinkAt Error
   pub rec : ℕ → ℕ → Rec
 
 unfoldable pub entry_view : List ℕ → Slot → Entry
@@ -38,7 +39,7 @@ entry_view bytes (slot.Refused e) = broken
 entry_view bytes slot.Free = vacant
 entry_view bytes (slot.File id len) = named (part 0 len bytes) id
 
-unfoldable pub link_view : List ℕ → Store → ℕ → LinkAt
+unfoldable pub link_view : List ℕ → Store → ℕ → Result LinkAt Error
 link_view vol st c = link_held vol st c
 
 -- a valid record of the store with this id, whatever file and number it has

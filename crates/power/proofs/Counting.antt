@@ -1,5 +1,6 @@
 -- A slot is vacant where the book has fewer files than there are slots, and only there. A chunk is free where its files have not all of them, and only
 -- there. Assumes nothing.
+use Rattle.std.specs.Prelude.{Ok}
 use Prim.Native.Nat.{ℕ, zero, suc, ◌+◌, ◌<◌, ◌≤◌}
 use mathlib.Core.Path.{◌≡◌, refl, sym, ap, ◌∙◌}
 use mathlib.Core.Logic.{◌⊎◌, inl, inr}
@@ -132,7 +133,7 @@ module _ {D : Disk} {G : ℕ → List Segment} {files : List File} (d : Good D G
   -- a chunk is linked to one of these files
   record Held (fs : List File) (c : ℕ) : Type 0 where
     pub by : Link
-    pub is : D.link c ≡ link.Linked by
+    pub is : D.link c ≡ Ok (link.Linked by)
     pub below : by.slot < 64
     pub file : File
     pub among : Mem file fs
@@ -162,18 +163,18 @@ module _ {D : Disk} {G : ℕ → List Segment} {files : List File} (d : Good D G
           go (inl q) = absurd (true≢false (is_of_lem s y.is (d.ids y.by.slot s _ _ _ _ y.below hs y.entry e (ap (λ (f : File). f.id) q))) not_own)
           go (inr m) = record { by = y.by; is = y.is; below = y.below; file = y.file; among = m; entry = y.entry }
 
-  pub room : chunks_in files < D.chunks → (c : ℕ) × (c < D.chunks) × (D.link c ≡ link.Free)
-  room few = go (some_or_all {P = λ (c : ℕ). D.link c ≡ link.Free} {Q = λ (c : ℕ). (l : Link) × (D.link c ≡ link.Linked l)} D.chunks d.either)
+  pub room : chunks_in files < D.chunks → (c : ℕ) × (c < D.chunks) × (D.link c ≡ Ok link.Free)
+  room few = go (some_or_all {P = λ (c : ℕ). D.link c ≡ Ok link.Free} {Q = λ (c : ℕ). (l : Link) × (D.link c ≡ Ok (link.Linked l))} D.chunks d.either)
     where
-      held : ((c : ℕ) → c < D.chunks → (l : Link) × (D.link c ≡ link.Linked l)) → (c : ℕ) → c < D.chunks → Held files c
+      held : ((c : ℕ) → c < D.chunks → (l : Link) × (D.link c ≡ Ok (link.Linked l))) → (c : ℕ) → c < D.chunks → Held files c
       held all c h =
           let l = all c h in
           let o = d.owned c l.0 h l.1 in
           let f = held_by l.0.slot l.0.position o.slot o.in_file in
           record { by = l.0; is = l.1; below = o.slot; file = _; among = t.into l.0.slot f.0 f.1.0 o.slot f.1.1; entry = f.1.1 }
 
-      go : ((c : ℕ) × (c < D.chunks) × (D.link c ≡ link.Free)) ⊎ ((c : ℕ) → c < D.chunks → (l : Link) × (D.link c ≡ link.Linked l))
-          → (c : ℕ) × (c < D.chunks) × (D.link c ≡ link.Free)
+      go : ((c : ℕ) × (c < D.chunks) × (D.link c ≡ Ok link.Free)) ⊎ ((c : ℕ) → c < D.chunks → (l : Link) × (D.link c ≡ Ok (link.Linked l)))
+          → (c : ℕ) × (c < D.chunks) × (D.link c ≡ Ok link.Free)
       go (inl v) = v
       go (inr all) =
           let x = tally_all (λ c. true) D.chunks (λ c l. refl) in
@@ -185,7 +186,7 @@ module _ {D : Disk} {G : ℕ → List Segment} {files : List File} (d : Good D G
   own_held : (fs : List File) (x : File) → Mem x fs → (s : ℕ) → s < 64 → D.entry s ≡ named x.name x.id → (c : ℕ) → c < D.chunks → is_of s (D.link c) ≡ true → Held fs c
   own_held fs x m s hs e c h own = go (d.either c h)
     where
-      go : (D.link c ≡ link.Free) ⊎ ((l : Link) × (D.link c ≡ link.Linked l)) → Held fs c
+      go : (D.link c ≡ Ok link.Free) ⊎ ((l : Link) × (D.link c ≡ Ok (link.Linked l))) → Held fs c
       go (inl v) = absurd (true≢false own (free_of_lem s v))
       go (inr (l, q)) =
           case l.slot s (λ z. record { by = l; is = q; below = rw z hs; file = x; among = m; entry = rw z e }) (λ z. absurd (true≢false own (not_of s q z)))
@@ -214,7 +215,7 @@ module _ {D : Disk} {G : ℕ → List Segment} {files : List File} (d : Good D G
       let least = held_least files (λ f m. m) t.apart (λ c. true) (λ c l y. refl) in
       omega (arith, least, tally_le (λ c. true) D.chunks)
 
-  pub free_fewer : (c : ℕ) → c < D.chunks → D.link c ≡ link.Free → chunks_in files < D.chunks
+  pub free_fewer : (c : ℕ) → c < D.chunks → D.link c ≡ Ok link.Free → chunks_in files < D.chunks
   free_fewer c h v =
       let other : ℕ → Bool = λ b. not (eqb b c) in
       let least = held_least files (λ f m. m) t.apart other (λ b l y. rw (ne_eqb b c (λ e. free≢linked v (ap D.link (sym e) ∙ y.is))) refl) in

@@ -1,5 +1,5 @@
 -- create keeps what holds between the calls: its steps stand, and accepted its appender stands at the start of the file made. Assumes nothing.
-use Rattle.std.specs.Prelude.{Ok}
+use Rattle.std.specs.Prelude.{Option as Maybe, Some, None, Result, Ok, Err}
 use Prim.Native.Nat.{ℕ, zero, suc, ◌+◌, ◌-◌, ◌^◌, ◌<◌}
 use mathlib.Core.Path.{◌≡◌, refl}
 use mathlib.Core.Bool.{Bool, true, false}
@@ -18,8 +18,6 @@ use Rattle.medium.proofs.Laws.{on_done_keeps}
 use Rattle.handles.specs.declared.Store.{Store}
 use Rattle.directory.specs.declared.Seen.{Seen}
 use Rattle.directory.specs.Scan.{on_looked}
-use Rattle.table.specs.declared.Pick.{Pick}
-use Rattle.table.specs.declared.Pick.TheVariants as free
 use Rattle.table.specs.Table.{on_pick}
 use Rattle.table.specs.Free.{free_of}
 use Rattle.plan.specs.declared.Edit.TheVariants.{Create}
@@ -98,7 +96,7 @@ module _ (t : Terms) (over : Rollover) (spares : t.spared ≡ none) (directed : 
 
   module _ (w : World) (b : Fine) (k : Keeps w b) where
     -- a slot and a chunk are free
-    make_ends : (seen : Seen) → Look w.vol w.medium w.store t.name seen → seen.exists ≡ false → seen.free ≡ true → (c : ℕ) → free_of w.vol w.medium w.store ≡ free.At c
+    make_ends : (seen : Seen) → Look w.vol w.medium w.store t.name seen → seen.exists ≡ false → seen.free ≡ true → (c : ℕ) → free_of w.vol w.medium w.store ≡ Ok (Some c)
         → Ends t w b (make_out t.name over w.vol w.medium w.store seen.slot c)
     unfolding make_out
     make_ends seen l fresh room c q =
@@ -139,12 +137,12 @@ module _ (t : Terms) (over : Rollover) (spares : t.spared ≡ none) (directed : 
           (λ x d. unmade_ends t w b x k (oldest_stopped w.vol w.medium w.store k.layout b k.whole k.readable (dir_bytes over.dir) false 0 d).0))
           (λ r. refused_ends t w b _ k)
 
-      pick_ends : (seen : Seen) → Look w.vol w.medium w.store t.name seen → seen.exists ≡ false → seen.free ≡ true → (p : Pick) → free_of w.vol w.medium w.store ≡ p
+      pick_ends : (seen : Seen) → Look w.vol w.medium w.store t.name seen → seen.exists ≡ false → seen.free ≡ true → (p : Result (Maybe ℕ) Error) → free_of w.vol w.medium w.store ≡ p
           → Ends t w b (on_pick p (refused_at w.vol w.medium w.store) (over_out over next w.vol w.medium w.store) (make_out t.name over w.vol w.medium w.store seen.slot))
       unfolding on_pick
-      pick_ends seen l fresh room (free.Refused e) q = refused_ends t w b e k
-      pick_ends seen l fresh room free.Nothing q = over_ends
-      pick_ends seen l fresh room (free.At c) q = make_ends seen l fresh room c q
+      pick_ends seen l fresh room (Err e) q = refused_ends t w b e k
+      pick_ends seen l fresh room (Ok None) q = over_ends
+      pick_ends seen l fresh room (Ok (Some c)) q = make_ends seen l fresh room c q
 
       round_ends : Ends t w b (round_out t.name over next w.vol w.medium w.store)
       unfolding round_out on_looked

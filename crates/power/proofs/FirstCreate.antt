@@ -1,6 +1,6 @@
 -- The first create after a format: where enough writes are left it is accepted, with one step that leaves no sector unwritten; with fewer it is refused
 -- with 4, and makes no step. Assumes nothing.
-use Rattle.std.specs.Prelude.{Ok}
+use Rattle.std.specs.Prelude.{Option, Some, None, Result, Ok, Err}
 use Prim.Native.Nat.{ℕ, ◌+◌, ◌-◌, ◌%◌, ◌^◌, ◌≤◌, ◌<◌, zero-le}
 use mathlib.Core.Path.{◌≡◌, refl, sym, ap, subst, ◌∙◌}
 use mathlib.Core.Bool.{Bool, true, false}
@@ -13,6 +13,7 @@ use Rattle.le.specs.Choice.{pick}
 use Rattle.le.proofs.Choices.{pick_false, pick_keeps_by}
 use Rattle.names.specs.Names.{name_ok}
 use Rattle.names.proofs.Laws.{name_short}
+use Rattle.medium.specs.declared.Error.{Error}
 use Rattle.medium.specs.declared.Medium.{Medium}
 use Rattle.medium.specs.Refusal.{refused}
 use Rattle.medium.proofs.Laws.{on_done_no, on_done_done}
@@ -26,8 +27,6 @@ use Rattle.directory.specs.declared.Looked.{Looked}
 use Rattle.directory.specs.declared.Looked.TheVariants as looked
 use Rattle.directory.specs.declared.Seen.{Seen}
 use Rattle.directory.specs.Scan.{free_seen, looking, look_of, on_looked}
-use Rattle.table.specs.declared.Pick.{Pick}
-use Rattle.table.specs.declared.Pick.TheVariants as free
 use Rattle.table.specs.Table.{free_step, free_v, on_pick, distance_of, walk_free_of}
 use Rattle.table.specs.Free.{free_of}
 use Rattle.table.proofs.Tells.{Mapped}
@@ -90,10 +89,9 @@ module _ (vol : List ℕ) (m : Medium) (st : Store) (inv : Inv vol st) (map : Ma
       (λ k t n id h p e. absurd (vacant≢named (fresh.entries k h) e))
       (λ t p. (t, refl, p)) _ (refl, λ _. refl, λ h. absurd (omega arith))
 
-  abbrev Picked : ℕ → Pick → Type 0
-  Picked k (free.Refused e) = ⊥
-  Picked k free.Nothing = k ≡ 0
-  Picked k (free.At c) = c ≡ 0
+  abbrev Picked : ℕ → Option ℕ → Type 0
+  Picked k None = k ≡ 0
+  Picked k (Some c) = c ≡ 0
 
   -- no chunk is nearer to the cursor than the first
   nearest : (k : ℕ) → ltb (distance_of st.head.cursor st.head.chunks k) (distance_of st.head.cursor st.head.chunks 0) ≡ false
@@ -102,26 +100,24 @@ module _ (vol : List ℕ) (m : Medium) (st : Store) (inv : Inv vol st) (map : Ma
       let z : (0 + (st.head.chunks - st.head.cursor)) % st.head.chunks ≡ 0 = rw (start, zero-add, sub-zero) (mod_self st.head.chunks) in
       rw z (le-ltb ((k + (st.head.chunks - st.head.cursor)) % st.head.chunks) 0 zero-le)
 
-  picked_free : (k : ℕ) (t : Pick) → Picked k t → Picked (k + 1) (free_step st.head.cursor st.head.chunks k t)
+  picked_free : (k : ℕ) (t : Option ℕ) → Picked k t → Picked (k + 1) (free_step st.head.cursor st.head.chunks k t)
   unfolding free_step
-  picked_free k (free.Refused e) p = p
-  picked_free k free.Nothing p = p
-  picked_free k (free.At c) p = rw (p, nearest k) (subst (Picked (k + 1)) (sym (pick_false (free.At k) (free.At 0) refl)) refl)
+  picked_free k None p = p
+  picked_free k (Some c) p = rw (p, nearest k) (subst (Picked (k + 1)) (sym (pick_false (Some k) (Some 0) refl)) refl)
 
-  some_picked : (k : ℕ) (t : Pick) → 1 ≤ k → Picked k t → t ≡ free.At 0
-  some_picked k (free.Refused e) h p = absurd p
-  some_picked k free.Nothing h p = absurd (omega arith)
-  some_picked k (free.At c) h p = ap free.At p
+  some_picked : (k : ℕ) (t : Option ℕ) → 1 ≤ k → Picked k t → t ≡ Some 0
+  some_picked k None h p = absurd (omega arith)
+  some_picked k (Some c) h p = ap Some p
 
-  walk_fresh : walk_free_of vol m st ≡ free.At 0
+  walk_fresh : walk_free_of vol m st ≡ Ok (Some 0)
   unfolding walk_free_of
   walk_fresh =
       let x = table_views vol m st (inv_checked m inv r) (λ s. []) (fresh_good fresh) (free_v st.head.cursor st.head.chunks) Picked
       (λ c t h p e. picked_free c t p)
-      (λ c l t h p e. absurd (free≢linked (fresh.links c h) e)) free.Nothing refl in
-      x.1 ∙ some_picked st.head.chunks x.0 (inv_held inv).head.chunks_least x.2
+      (λ c l t h p e. absurd (free≢linked (fresh.links c h) e)) None refl in
+      x.1 ∙ ap Ok (some_picked st.head.chunks x.0 (inv_held inv).head.chunks_least x.2)
 
-  free_fresh : free_of vol m st ≡ free.At 0
+  free_fresh : free_of vol m st ≡ Ok (Some 0)
   free_fresh = let h = inv_held inv in mapped_free vol m st h.head.chunks_most h.map map h.head.cursor ∙ walk_fresh
 
   -- ---- create

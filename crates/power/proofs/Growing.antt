@@ -1,6 +1,6 @@
 -- A sync in a history whose record takes another chunk. Where one is free it is linked and the record written; where none is, with a rollover and a file
 -- that may go, the oldest goes first. Assumes nothing.
-use Rattle.std.specs.Prelude.{Ok}
+use Rattle.std.specs.Prelude.{Ok, Some}
 use Prim.Native.Nat.{ℕ, ◌+◌, ◌-◌, ◌^◌, ◌≤◌, ◌<◌}
 use mathlib.Core.Path.{◌≡◌, refl, sym, ap, subst, ◌∙◌}
 use mathlib.Core.Bool.{Bool, true, false}
@@ -17,7 +17,6 @@ use Rattle.handles.specs.declared.Header.{Header}
 use Rattle.handles.specs.declared.Store.{Store}
 use Rattle.handles.specs.declared.Writer.TheVariants.{Open}
 use Rattle.handles.specs.Handles.{is_open, open_id, table_of}
-use Rattle.table.specs.declared.Pick.TheVariants as free
 use Rattle.table.specs.Table.{on_pick}
 use Rattle.table.specs.Free.{free_of}
 use Rattle.plan.specs.declared.Edit.{Edit}
@@ -152,7 +151,7 @@ module _ {w : World} {b : Book} (k : Booked w b) (left : ℕ) (writer : w.store.
 
   module _ (room_left : chunks_in b.files < w.store.head.chunks) (gens : w.store.head.generation ≡ 2 ^ 64 - 1 → ⊥)
       (enough : records_most false w.store.head.chunks 1 ≤ left) where
-    free_here : (c : ℕ) × (free_of w.vol m w.store ≡ free.At c)
+    free_here : (c : ℕ) × (free_of w.vol m w.store ≡ Ok (Some c))
     free_here = found w.vol m w.store k.keeps.whole k.keeps.readable (rw (same_files k) room_left)
 
     extend_links : extend_of w.vol m w.store a partial records ≡ link_out w.vol m w.store a partial records free_here.0
@@ -239,7 +238,7 @@ module _ {w : World} {b : Book} (k : Booked w b) (left : ℕ) (writer : w.store.
       fewer : chunks_in (keep (is_not went.id) k.fine.files) < x.ans.store.head.chunks
       fewer = let all : chunks_in k.fine.files ≡ w.store.head.chunks = rw (same_files k) none_left in omega (arith, went_chunks k.keeps.whole went, all, gone.chunks)
 
-      free_there : (c : ℕ) × (free_of x.vol x.ans.medium x.ans.store ≡ free.At c)
+      free_there : (c : ℕ) × (free_of x.vol x.ans.medium x.ans.store ≡ Ok (Some c))
       free_there = found x.vol x.ans.medium x.ans.store went.gone.whole reads fewer
 
       abbrev c : ℕ

@@ -1,5 +1,5 @@
 -- A free chunk linked to an appender's file: a segment more, and in the book a chunk more; the appender moves to it. Assumes nothing.
-use Rattle.std.specs.Prelude.{Err, Ok, Result}
+use Rattle.std.specs.Prelude.{Err, Ok, Result, Some}
 use Prim.Native.Nat.{ℕ, ◌+◌, ◌≤◌, ◌<◌}
 use mathlib.Core.Path.{◌≡◌, refl, sym, ap, ◌∙◌, subst}
 use mathlib.Core.Logic.{◌≢◌}
@@ -15,7 +15,6 @@ use Rattle.medium.specs.Refusal.{on_done}
 use Rattle.handles.specs.declared.Store.{Store}
 use Rattle.table.specs.declared.Link.{Link}
 use Rattle.table.specs.declared.LinkAt.TheVariants as link
-use Rattle.table.specs.declared.Pick.TheVariants as free
 use Rattle.table.specs.Free.{free_of}
 use Rattle.table.proofs.Tells.{Mapped}
 use Rattle.plan.specs.declared.Edit.{Edit}
@@ -80,7 +79,7 @@ module _ (vol : List ℕ) (m : Medium) (st : Store) (a : Appender) (partial : Bo
 
 module _ {t : Terms} {vol : List ℕ} {m : Medium} {st : Store} {a : Appender} {G : ℕ → List Segment} {b : Fine} {rest : List ℕ}
     (l : Live t vol m st a G b) (s : Stands vol st a G b rest) (partial : Bool) (records c : ℕ)
-    (marks : Marks partial records (length (segment_at (G a.slot) a.position).payloads) st.head.chunk) (found : free_of vol m st ≡ free.At c) where
+    (marks : Marks partial records (length (segment_at (G a.slot) a.position).payloads) st.head.chunk) (found : free_of vol m st ≡ Ok (Some c)) where
   abbrev edit : Edit
   edit = Extend a.slot a.position c a.chunk partial records
 
@@ -93,10 +92,10 @@ module _ {t : Terms} {vol : List ℕ} {m : Medium} {st : Store} {a : Appender} {
   abbrev mark : Link
   mark = link_for st.head.chunk a.slot (with_segment (G a.slot) c) a.position
 
-  unused : (c < st.head.chunks) × (link_view vol st c ≡ link.Free)
+  unused : (c < st.head.chunks) × (link_view vol st c ≡ Ok link.Free)
   unused = free_chunk vol m st (inv_held l.whole.inv) l.whole.map found
 
-  last_link : link_view vol st a.chunk ≡ link.Linked (plain_link a.slot a.position)
+  last_link : link_view vol st a.chunk ≡ Ok (link.Linked (plain_link a.slot a.position))
   last_link = rw s.chunk (last_linked l.whole.good a.slot a.position s.below s.last)
 
   other : c ≢ a.chunk

@@ -7,9 +7,9 @@ use mathlib.Core.List.{List, [], ◌∷◌}
 use native.Mathlib.Omega.{arith}
 use Rattle.le.specs.Part.{part, zeros}
 use Rattle.le.proofs.Parts.{length_zeros}
+use Rattle.medium.specs.declared.Error.{Error}
 use Rattle.names.specs.Names.{name_ok}
 use Rattle.names.proofs.Laws.{name_short}
-use Rattle.medium.specs.declared.Error.{Error}
 use Rattle.handles.specs.declared.Store.{Store}
 use Rattle.table.specs.declared.LinkAt.TheVariants as link
 use Rattle.plan.specs.declared.Edit.TheVariants.{Create}
@@ -54,7 +54,7 @@ first_of c = (record { chunk = c; payloads = [] }) ∷ []
 
 module _ (w : World) (b : Fine) (k : Keeps w b) (t : Terms) (slot chunk : ℕ) (hs : slot < 64) (vac : (disk_of w.vol w.store).entry slot ≡ vacant)
     (new : (s i : ℕ) → s < 64 → (disk_of w.vol w.store).entry s ≡ named t.name i → ⊥) (hc : chunk < w.store.head.chunks)
-    (is_free : (disk_of w.vol w.store).link chunk ≡ link.Free) (ok : name_ok t.name ≡ true) (small : w.store.head.next_id + 1 < 2 ^ 32) where
+    (is_free : (disk_of w.vol w.store).link chunk ≡ Ok link.Free) (ok : name_ok t.name ≡ true) (small : w.store.head.next_id + 1 < 2 ^ 32) where
   abbrev id : ℕ
   id = w.store.head.next_id
 

@@ -1,7 +1,7 @@
 -- How far an appender's position gets in one call of append or sync, whether it is accepted, refused or stopped: number 3 lets in 2,047, each chunk
 -- more is one more of its slot, and its slot is freed at most once. Proved of any volume under demand 3's premise in the customer's words, and under
 -- the weaker one of any volume as it is between the calls. The appender may be forged. Assumes nothing.
-use Rattle.std.specs.Prelude.{Err, Ok, Result}
+use Rattle.std.specs.Prelude.{Err, Ok, Result, Some}
 use Prim.Native.Nat.{ℕ, ◌+◌, ◌≤◌, ◌<◌}
 use mathlib.Core.Path.{◌≡◌, refl, sym, ap, ◌∙◌, subst}
 use mathlib.Core.Logic.{inl}
@@ -28,7 +28,6 @@ use Rattle.directory.specs.declared.OldestFile.TheVariants as oldest
 use Rattle.directory.specs.Entry.{entry_at}
 use Rattle.directory.specs.Scan.{oldest_of}
 use Rattle.directory.proofs.Ranges.{oldest_file}
-use Rattle.table.specs.declared.Pick.TheVariants as free
 use Rattle.table.specs.Table.{on_pick}
 use Rattle.table.specs.Free.{free_of}
 use Rattle.table.proofs.Decides.{on_pick_keeps}
@@ -105,7 +104,7 @@ module _ {P : Skipped → Type 0} {Fine : List ℕ → Store → Type 0} (rules 
     -- ---- a chunk is linked
 
     module _ (partial : Bool) (records : ℕ) (fewer : partial ≡ true → records < st.head.chunk) (small : records < 512) where
-      module _ (c : ℕ) (found : free_of vol m st ≡ free.At c) where
+      module _ (c : ℕ) (found : free_of vol m st ≡ Ok (Some c)) where
         abbrev edit : Edit
         edit = Extend a.slot a.position c a.chunk partial records
 

@@ -1,6 +1,6 @@
 -- A round of create that finds the name new, in the book's words: with room for a file more it makes the file, where its commit is done; without, the
 -- oldest file of the rollover's directory is to go. And the free chunk, where there is one and where there is none. Assumes nothing.
-use Rattle.std.specs.Prelude.{Ok}
+use Rattle.std.specs.Prelude.{Ok, Option, Some, None, Result, Err}
 use Prim.Native.Nat.{ℕ, ◌-◌, ◌^◌, ◌<◌}
 use mathlib.Core.Path.{◌≡◌, refl, ap, ◌∙◌}
 use mathlib.Core.Logic.{◌⊎◌, inl, inr}
@@ -11,14 +11,13 @@ use borrow.Author.Tests.{ne_eqb}
 use lib.ListN.{length}
 use Rattle.le.specs.Choice.{pick}
 use Rattle.le.proofs.Choices.{pick_false}
+use Rattle.medium.specs.declared.Error.{Error}
 use Rattle.medium.specs.declared.Medium.{Medium}
 use Rattle.medium.specs.Sector.{Readable}
 use Rattle.medium.proofs.Laws.{on_done_done}
 use Rattle.handles.specs.declared.Store.{Store}
 use Rattle.directory.specs.declared.Seen.{Seen}
 use Rattle.directory.specs.Scan.{on_looked}
-use Rattle.table.specs.declared.Pick.{Pick}
-use Rattle.table.specs.declared.Pick.TheVariants as free
 use Rattle.table.specs.Table.{on_pick}
 use Rattle.table.specs.Free.{free_of}
 use Rattle.plan.specs.declared.Edit.TheVariants.{Create}
@@ -61,24 +60,24 @@ module _ (vol : List ℕ) (m : Medium) (st : Store) {G : ℕ → List Segment} {
 
   -- ---- the free chunk
 
-  abbrev Picks : Pick → Type 0
+  abbrev Picks : Result (Option ℕ) Error → Type 0
   Picks = Free vol m st checked G w.good st.head.chunks
 
-  pub found : chunks_in b.files < st.head.chunks → (c : ℕ) × (free_of vol m st ≡ free.At c)
+  pub found : chunks_in b.files < st.head.chunks → (c : ℕ) × (free_of vol m st ≡ Ok (Some c))
   found few = go (free_of vol m st) refl (free_found vol m st checked G w.good (inv_held w.inv) w.map)
     where
-      go : (p : Pick) → free_of vol m st ≡ p → Picks p → (c : ℕ) × (free_of vol m st ≡ free.At c)
-      go (free.Refused e) q f = absurd f
-      go free.Nothing q f = let x = room w.good w.ties few in absurd (f x.0 x.1 x.2)
-      go (free.At c) q f = (c, q)
+      go : (p : Result (Option ℕ) Error) → free_of vol m st ≡ p → Picks p → (c : ℕ) × (free_of vol m st ≡ Ok (Some c))
+      go (Err e) q f = absurd f
+      go (Ok None) q f = let x = room w.good w.ties few in absurd (f x.0 x.1 x.2)
+      go (Ok (Some c)) q f = (c, q)
 
-  pub none_found : chunks_in b.files ≡ st.head.chunks → free_of vol m st ≡ free.Nothing
+  pub none_found : chunks_in b.files ≡ st.head.chunks → free_of vol m st ≡ Ok None
   none_found all = go (free_of vol m st) refl (free_found vol m st checked G w.good (inv_held w.inv) w.map)
     where
-      go : (p : Pick) → free_of vol m st ≡ p → Picks p → free_of vol m st ≡ free.Nothing
-      go (free.Refused e) q f = absurd f
-      go free.Nothing q f = q
-      go (free.At c) q f = absurd (omega (arith, all, free_fewer w.good w.ties c f.0 f.1))
+      go : (p : Result (Option ℕ) Error) → free_of vol m st ≡ p → Picks p → free_of vol m st ≡ Ok None
+      go (Err e) q f = absurd f
+      go (Ok None) q f = q
+      go (Ok (Some c)) q f = absurd (omega (arith, all, free_fewer w.good w.ties c f.0 f.1))
 
   -- ---- the round
 

@@ -1,6 +1,5 @@
 -- The end of demand 3: a volume on which the invariant holds is mounted, lists exactly the book's files, and gives the payloads of each. Assumes nothing.
 use Rattle.std.specs.Prelude.{Ok, Result}
-use Rattle.medium.specs.declared.Error.{Error}
 use Prim.Native.Nat.{ℕ, ◌*◌, ◌≤◌, ◌<◌}
 use mathlib.Core.Path.{◌≡◌, refl, sym, ap, subst, ◌∙◌}
 use mathlib.Core.Logic.{◌≢◌}
@@ -14,6 +13,7 @@ use Rattle.le.specs.Choice.{pick}
 use Rattle.le.specs.Part.{part, over, zeros}
 use Rattle.names.specs.Names.{name_ok, dir_ok}
 use Rattle.names.proofs.Laws.{in_root}
+use Rattle.medium.specs.declared.Error.{Error}
 use Rattle.medium.specs.declared.Medium.{Medium}
 use Rattle.medium.specs.Refusal.{ok, refused, on_done}
 use Rattle.medium.specs.Sector.{Readable}
@@ -22,7 +22,6 @@ use Rattle.handles.specs.declared.Writer.TheVariants.{Nobody}
 use Rattle.directory.specs.Rows.{row_of, RowsOut, rows_of, rows_told}
 use Rattle.directory.specs.Scan.{on_found}
 use Rattle.table.specs.declared.ChainParts.{ChainParts}
-use Rattle.table.specs.declared.Chained.TheVariants as chained
 use Rattle.table.specs.Table.{Counted, count_of, chain_of, on_chain}
 use Rattle.table.specs.Free.{map_at}
 use Rattle.table.specs.Link.{link_part}
@@ -179,7 +178,7 @@ module _ (vol : List ℕ) (m : Medium) (st : Store) (G : ℕ → List Segment) (
     pub below64 : slot < 64
     pub entry : (disk_of vol st).entry slot ≡ named f.name f.id
     pub chain : ChainParts
-    pub whole : chain_of vol m st slot ≡ chained.Whole chain
+    pub whole : chain_of vol m st slot ≡ Ok chain
     pub by_name : (reader_call vol m st f.name).reader ≡ start_of st slot f.id chain
     pub ends : GivesTo vol m st (start_of st slot f.id chain) f.payloads (end_number b.size (b.parts f.id))
     pub upto : (limit : ℕ) → GivesUpto vol m st (record { reader = start_of st slot f.id chain; limit = limit }) (below b.size limit (b.parts f.id))

@@ -13,6 +13,7 @@ use Rattle.le.specs.Choice.{pick}
 use Rattle.le.proofs.Choices.{pick_keeps}
 use Rattle.le.proofs.Turns.{told}
 use Rattle.le.proofs.Bools.{and_true}
+use Rattle.medium.specs.declared.Error.{Error}
 use Rattle.medium.specs.declared.Error.TheVariants.{Handle, Stale}
 use Rattle.medium.specs.declared.Medium.{Medium}
 use Rattle.medium.specs.Sector.{sectors_of}
@@ -22,7 +23,6 @@ use Rattle.handles.specs.Handles.{store_ok}
 use Rattle.handles.proofs.Laws.{Held, store_facts}
 use Rattle.table.specs.declared.Link.{Link}
 use Rattle.table.specs.declared.ChainParts.{ChainParts}
-use Rattle.table.specs.declared.Chained.TheVariants.{Whole}
 use Rattle.table.specs.Table.{chain_of}
 use Rattle.table.proofs.Walks.{chain_range}
 use Rattle.reader.specs.declared.Reader.{Reader}
@@ -135,7 +135,7 @@ inside_reads st rd position index chunk l r p i c n =
 
 -- a new reader passes
 pub start_ok : (vol : List ℕ) (m : Medium) (st : Store) (slot id : ℕ) {p : ChainParts} → store_ok st (sectors_of vol) ≡ true → slot < 64 → (id ≡ 0 → ⊥)
-    → chain_of vol m st slot ≡ Whole p → reader_ok (start_of st slot id p) st ≡ true
+    → chain_of vol m st slot ≡ Ok p → reader_ok (start_of st slot id p) st ≡ true
 unfolding start_of
 start_ok vol m st slot id {p} ok s i e =
     let h : Held st (sectors_of vol) = store_facts st (sectors_of vol) ok in

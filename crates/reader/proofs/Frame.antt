@@ -1,6 +1,6 @@
 -- What a reader gives goes by the volume's length, by the table of its store value and by the data sectors: volumes that agree there give the same.
 -- Assumes nothing.
-use Rattle.std.specs.Prelude.{Result, Ok, Err}
+use Rattle.std.specs.Prelude.{Result, Ok, Err, None}
 use Rattle.medium.specs.declared.Error.{Error}
 use mathlib.Core.Path.{◌≡◌, refl, ap}
 use mathlib.Core.List.{List}
@@ -16,7 +16,6 @@ use Rattle.medium.specs.Sector.{sector_at}
 use Rattle.handles.specs.declared.Store.{Store}
 use Rattle.handles.specs.Handles.{table_of}
 use Rattle.handles.specs.Body.{body_at}
-use Rattle.table.specs.declared.Place.TheVariants as place
 use Rattle.table.specs.Table.{locate_v, locate_of}
 use Rattle.table.proofs.Walks.{table_frame}
 use Rattle.record.specs.Record.{is_blank, data_at, read_record_of, record_at}
@@ -40,7 +39,7 @@ module _ (vol v : List ℕ) (m : Medium) (st : Store) (size : length v ≡ lengt
     (records : (j : ℕ) → 64 ≤ j → sector_at v j ≡ sector_at vol j) where
   entered : (rd : Reader) (position index : ℕ) → enter_of v m st rd position index ≡ enter_of vol m st rd position index
   unfolding enter_of locate_of
-  entered rd position index = rw (table_frame v vol m st links (locate_v rd.slot position) (place.Refused Corrupt))
+  entered rd position index = rw (table_frame v vol m st links (locate_v rd.slot position) None)
 
   arriving : (k : ℕ) (rd : Reader) → arrive_step v m st k rd ≡ arrive_step vol m st k rd
   unfolding arrive_step

@@ -58,10 +58,8 @@ impl Reader {
         requires { (64 ≤ sectors_of volume.now) × (store.head.chunks ≤ 2048) }
         ensures { result ≡ enter_of volume.now medium store self position index }
     {
-        match table::locate(volume, medium, store, self.slot, position) {
-            Place::Refused(e) => Err(e),
-            Place::At { chunk, link } => Ok(self.inside(store, position, index, chunk, link)),
-        }
+        let Place { chunk, link } = table::locate(volume, medium, store, self.slot, position)?;
+        Ok(self.inside(store, position, index, chunk, link))
     }
 
     // Moves to record `record`.

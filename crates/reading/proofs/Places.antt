@@ -19,8 +19,7 @@ use Rattle.handles.specs.declared.Store.{Store}
 use Rattle.handles.specs.Handles.{store_ok}
 use Rattle.handles.proofs.Laws.{Held, store_facts}
 use Rattle.table.specs.declared.Link.{Link}
-use Rattle.table.specs.declared.Place.TheVariants.{At}
-use Rattle.table.specs.Table.{locate_of, on_place}
+use Rattle.table.specs.Table.{locate_of, on_place, place_at}
 use Rattle.directory.specs.Entry.{entry_at}
 use Rattle.record.specs.declared.Judged.{Judged}
 use Rattle.record.specs.declared.Judged.TheVariants as judged
@@ -85,7 +84,7 @@ pub record Filed (vol : List ℕ) (m : Medium) (st : Store) (G : ℕ → List Se
   pub good : Good (disk_of vol st) G
   pub slot : s < 64
   pub entry : (disk_of vol st).entry s ≡ named name id
-  pub located : (p : ℕ) → p < length (G s) → locate_of vol m st s p ≡ At (segment_at (G s) p).chunk (link_for st.head.chunk s (G s) p)
+  pub located : (p : ℕ) → p < length (G s) → locate_of vol m st s p ≡ Ok (place_at (segment_at (G s) p).chunk (link_for st.head.chunk s (G s) p))
 
 module _ {vol : List ℕ} {m : Medium} {st : Store} {G : ℕ → List Segment} {s id : ℕ} {name : List ℕ} (f : Filed vol m st G s id name) where
   abbrev size : ℕ

@@ -15,8 +15,7 @@ use Rattle.medium.specs.Refusal.{on_done, ok}
 use Rattle.medium.specs.Sector.{sectors_of, read_of}
 use Rattle.handles.specs.declared.Store.{Store}
 use Rattle.handles.specs.Handles.{store_ok}
-use Rattle.table.specs.declared.Place.TheVariants.{At}
-use Rattle.table.specs.Table.{locate_of}
+use Rattle.table.specs.Table.{locate_of, place_at}
 use Rattle.record.specs.Record.{number_at}
 use Rattle.reader.specs.declared.Reader.{Reader}
 use Rattle.reader.specs.declared.Found.{Found}
@@ -46,7 +45,7 @@ gives_of vol m st (x ∷ xs) rd n g = λ out e. let a = g out e in (a.0, a.1, gi
 module _ (vol : List ℕ) (m : Medium) (st : Store) (G : ℕ → List Segment) (s id : ℕ) (name : List ℕ)
     (readable : (j : ℕ) → j < sectors_of vol → read_of m j ≡ Ok tt) (sound : store_ok st (sectors_of vol) ≡ true) (d : Good (disk_of vol st) G)
     (s< : s < 64) (is : (disk_of vol st).entry s ≡ named name id)
-    (located : (p : ℕ) → p < length (G s) → locate_of vol m st s p ≡ At (segment_at (G s) p).chunk (link_for st.head.chunk s (G s) p)) where
+    (located : (p : ℕ) → p < length (G s) → locate_of vol m st s p ≡ Ok (place_at (segment_at (G s) p).chunk (link_for st.head.chunk s (G s) p))) where
   abbrev f : Filed vol m st G s id name
   f = record { readable = readable; sound = sound; good = d; slot = s<; entry = is; located = located }
 

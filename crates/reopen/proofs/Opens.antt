@@ -15,7 +15,6 @@ use Rattle.directory.specs.declared.Found.TheVariants as found
 use Rattle.directory.specs.Scan.{find_of}
 use Rattle.directory.proofs.Ranges.{find_name}
 use Rattle.directory.proofs.Decides.{on_found_keeps}
-use Rattle.table.specs.declared.Chained.TheVariants as chained
 use Rattle.table.specs.declared.ChainParts.{ChainParts}
 use Rattle.table.specs.Table.{chain_of}
 use Rattle.table.proofs.Decides.{on_chain_keeps}
@@ -62,7 +61,7 @@ module _ (name : List ℕ) (rollover : Rollover) (vol : List ℕ) (m : Medium) (
   no e = (record { same = refl; still = refl; refused = λ x q. ap (λ (o : Result Unit Error). record { outcome = o; medium = m; store = st; appender = no_appender }) q }, not_done)
 
   module _ (ok : store_ok st (sectors_of vol) ≡ true) where
-    opened : (slot id : ℕ) (p : ChainParts) (n : ℕ) → find_of vol m st name ≡ found.At slot id → chain_of vol m st slot ≡ chained.Whole p → n ≤ st.head.chunk
+    opened : (slot id : ℕ) (p : ChainParts) (n : ℕ) → find_of vol m st name ≡ found.At slot id → chain_of vol m st slot ≡ Ok p → n ≤ st.head.chunk
         → Leaves (opened_out vol m st slot id p.last (p.count - 1) (tail_for st.head.chunk n) rollover)
     unfolding opened_out store_ok
     opened slot id p n f c h =

@@ -1,4 +1,5 @@
 -- `open_append`, by the way that it goes: a law for each return, over plain values. Assumes nothing.
+use Rattle.std.specs.Prelude.{Result, Ok, Err}
 use mathlib.Core.Path.{◌≡◌, refl, ◌∙◌}
 use mathlib.Core.Bool.{true}
 use mathlib.Core.List.{List, []}
@@ -14,8 +15,6 @@ use Rattle.handles.proofs.Laws.{Held, store_facts}
 use Rattle.directory.specs.declared.Found.{Found}
 use Rattle.directory.specs.declared.Found.TheVariants as found
 use Rattle.directory.specs.Scan.{find_of, on_found}
-use Rattle.table.specs.declared.Chained.{Chained}
-use Rattle.table.specs.declared.Chained.TheVariants as chained
 use Rattle.table.specs.declared.ChainParts.{ChainParts}
 use Rattle.table.specs.Table.{chain_of, on_chain}
 use Rattle.table.proofs.Walks.{chain_range}
@@ -35,12 +34,12 @@ answer_alike vol m st slot id chunk position tail rollover = refl
 
 -- ---- the file found
 
-module _ (rollover : Rollover) (vol : List ℕ) (m : Medium) (st : Store) (slot id : ℕ) {c : Chained} (asked : c ≡ chain_of vol m st slot) where
-  pub no_chain_lem : {e : Error} {r : Handed} → c ≡ chained.Refused e → r ≡ (refused_at [] m st e).ans → r ≡ (file_out rollover vol m st slot id).ans
+module _ (rollover : Rollover) (vol : List ℕ) (m : Medium) (st : Store) (slot id : ℕ) {c : Result ChainParts Error} (asked : c ≡ chain_of vol m st slot) where
+  pub no_chain_lem : {e : Error} {r : Handed} → c ≡ Err e → r ≡ (refused_at [] m st e).ans → r ≡ (file_out rollover vol m st slot id).ans
   unfolding file_out on_chain
   no_chain_lem q h = rw (h, ← asked, q)
 
-  module _ {p : ChainParts} (q : c ≡ chained.Whole p) where
+  module _ {p : ChainParts} (q : c ≡ Ok p) where
     -- its last chunk is one of the store's, and its position one that an appender may have
     pub last_placed : store_ok st (sectors_of vol) ≡ true → (1 ≤ p.count) × (p.last < st.head.chunks) × (p.count - 1 ≤ 2047)
     last_placed ok =

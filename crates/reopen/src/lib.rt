@@ -13,7 +13,6 @@ use files::Rollover;
 use handles::Store;
 use medium::{Error, Medium};
 use record::Judged;
-use table::Chained;
 
 // The records of a chunk, up to the last valid one.
 #[derive(Clone, Copy)]
@@ -96,8 +95,8 @@ fn open_file(
 {
     let c = table::chain(volume, medium, store, slot);
     match c {
-        Chained::Refused(e) => files::refused(e, medium, store),
-        Chained::Whole(p) => {
+        Err(e) => files::refused(e, medium, store),
+        Ok(p) => {
             let position = p.count - 1;
             let n = count_records(volume, medium, store, id, p.last, position);
             match n {

@@ -12,8 +12,6 @@ use Rattle.handles.specs.declared.Store.{Store}
 use Rattle.directory.specs.declared.Found.{Found}
 use Rattle.directory.specs.declared.Found.TheVariants as found
 use Rattle.directory.specs.Scan.{find_of, find_id_of, on_found}
-use Rattle.table.specs.declared.Chained.{Chained}
-use Rattle.table.specs.declared.Chained.TheVariants as chained
 use Rattle.table.specs.declared.ChainParts.{ChainParts}
 use Rattle.table.specs.Table.{chain_of, on_chain}
 use Rattle.reader.specs.declared.Reader.{Reader}
@@ -29,12 +27,12 @@ module _ (vol : List ℕ) (m : Medium) (st : Store) {f : Found} where
   unfolding on_found
   not_found h k = rw (k, h)
 
-  module _ {slot id : ℕ} (h : f ≡ found.At slot id) {y : Chained} (c : y ≡ chain_of vol m st slot) where
-    pub no_chain_lem : {e : Error} {r : ReaderAnswer} → y ≡ chained.Refused e → r ≡ no_reader_answer m e → r ≡ started_at vol m st f
+  module _ {slot id : ℕ} (h : f ≡ found.At slot id) {y : Result ChainParts Error} (c : y ≡ chain_of vol m st slot) where
+    pub no_chain_lem : {e : Error} {r : ReaderAnswer} → y ≡ Err e → r ≡ no_reader_answer m e → r ≡ started_at vol m st f
     unfolding on_found on_chain
     no_chain_lem e k = rw (k, h, ← c, e)
 
-    pub whole_chain : {p : ChainParts} {rd : Reader} → y ≡ chained.Whole p → rd ≡ start_of st slot id p
+    pub whole_chain : {p : ChainParts} {rd : Reader} → y ≡ Ok p → rd ≡ start_of st slot id p
         → record { outcome = Ok tt; reader = rd; medium = m } ≡ started_at vol m st f
     unfolding on_found on_chain
     whole_chain e k = rw (k, h, ← c, e)

@@ -15,8 +15,6 @@ use Rattle.directory.specs.declared.Found.{Found}
 use Rattle.directory.specs.declared.Found.TheVariants as found
 use Rattle.directory.specs.Scan.{find_of, find_id_of, on_found}
 use Rattle.directory.specs.Rows.{RowsOut, rows_of}
-use Rattle.table.specs.declared.FreeCount.{FreeCount}
-use Rattle.table.specs.declared.FreeCount.TheVariants as count
 use Rattle.table.specs.Table.{Counted, count_of, chain_of, on_chain}
 use Rattle.table.specs.Free.{free_count_of, map_at}
 use Rattle.reader.specs.declared.Reader.{Reader}
@@ -50,9 +48,9 @@ mount_call vol m =
 -- ---- S-3: the free count
 
 -- the answer as 01 has it
-abbrev pub count_answer : FreeCount → Answer ℕ
-count_answer (count.Refused e) = refused (number_of e)
-count_answer (count.Is n) = ok n
+abbrev pub count_answer : Result ℕ Error → Answer ℕ
+count_answer (Err e) = refused (number_of e)
+count_answer (Ok n) = ok n
 
 pub record CountCall : Type 0 where
   pub answer : Answer ℕ
@@ -62,7 +60,7 @@ abbrev pub free_count_answer : FreeCountAnswer → CountCall
 free_count_answer r = record { answer = count_answer r.count; medium = r.medium }
 
 unfoldable pub free_count_call : List ℕ → Medium → Store → CountCall
-free_count_call vol m st = record { answer = count_answer (on_done (asked_of vol st true) (free_count_of vol m st) count.Refused); medium = m }
+free_count_call vol m st = record { answer = count_answer (on_done (asked_of vol st true) (free_count_of vol m st) Err); medium = m }
 
 -- ---- find: slot and id
 

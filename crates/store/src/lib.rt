@@ -20,7 +20,6 @@ pub use opening::{create, open_append};
 use plan::Committed;
 use reader::Reader;
 use remove::Gone;
-use table::{Chained, FreeCount};
 
 // Refusals 3 and 1 of a call that takes a store value and a name or directory; `fine`: that one passes its rule.
 fn asked(volume: &[u8], store: Store, fine: bool) -> Result<(), Error>
@@ -96,7 +95,7 @@ pub fn mount(volume: &[u8], medium: Medium) -> StoreAnswer
 
 #[derive(Clone, Copy)]
 pub struct FreeCountAnswer {
-    pub count: FreeCount,
+    pub count: Result<u32, Error>,
     pub medium: Medium,
 }
 
@@ -107,7 +106,7 @@ pub fn free_count(volume: &[u8], medium: Medium, store: Store) -> FreeCountAnswe
     let o = asked(volume, store, true);
     if let Err(e) = o {
         return FreeCountAnswer {
-            count: FreeCount::Refused(e),
+            count: Err(e),
             medium,
         };
     }
@@ -234,8 +233,8 @@ fn started(volume: &[u8], medium: Medium, store: Store, f: Found) -> ReaderAnswe
         Found::At { slot, id } => {
             let c = table::chain(volume, medium, store, slot);
             match c {
-                Chained::Refused(e) => no_reader(e, medium),
-                Chained::Whole(p) => {
+                Err(e) => no_reader(e, medium),
+                Ok(p) => {
                     let reader = Reader::start(store, slot, id, p);
                     ReaderAnswer {
                         outcome: Ok(()),

@@ -1,10 +1,12 @@
 -- The counts of a list: those that a buffer of 64 numbers gets, with what lies past them as it was; and none passes the store's chunks. Assumes nothing.
+use Rattle.std.specs.Prelude.{Result, Ok, Err}
 use Prim.Native.Nat.{ℕ, ◌+◌, ◌<◌, ◌≤◌, zero-le}
 use mathlib.Core.Path.{◌≡◌, refl, ap, ◌∙◌}
 use mathlib.Core.List.{List, ◌++◌}
 use native.Mathlib.Omega.{arith}
 use lib.ListN.{length, get_or, set, length-set, get_or-append}
 use lib.Seq.{set-append_left}
+use Rattle.medium.specs.declared.Error.{Error}
 use Rattle.medium.specs.declared.Medium.{Medium}
 use Rattle.handles.specs.declared.Store.{Store}
 use Rattle.walk.specs.Walk.{visits}
@@ -42,11 +44,11 @@ module _ (vol : List ℕ) (m : Medium) (st : Store) where
           ap (λ (l : List ℕ). counted l k) p.1 ∙ ap (λ (n : ℕ). set (s ++ past) k (n + 1)) (get_or-append s past 0 k b) ∙ set-append_left s past k _ b,
         )
 
-    visited : (k : ℕ) (s t : List ℕ) (x : LinkAt) → link_at vol m st k ≡ x → Longer s t → Both Longer LongerCounted (on_link count_v k s x) (on_link count_v k t x)
-    visited k s t (link.Refused e) q p = record { outcome = refl; size = p.0; counts = p.1 }
-    visited k s t link.Past q p = p
-    visited k s t link.Free q p = p
-    visited k s t (link.Linked l) q p = counted_longer l.slot s t (found_link vol m st k refl q).1.slot p
+    visited : (k : ℕ) (s t : List ℕ) (x : Result LinkAt Error) → link_at vol m st k ≡ x → Longer s t → Both Longer LongerCounted (on_link count_v k s x) (on_link count_v k t x)
+    visited k s t (Err e) q p = record { outcome = refl; size = p.0; counts = p.1 }
+    visited k s t (Ok link.Past) q p = p
+    visited k s t (Ok link.Free) q p = p
+    visited k s t (Ok (link.Linked l)) q p = counted_longer l.slot s t (found_link vol m st k refl q).1.slot p
 
     pub count_past : (l : List ℕ) → length l ≡ 64 → LongerCounted (count_of vol m st l) (count_of vol m st (l ++ past))
     unfolding count_of visits

@@ -1,4 +1,5 @@
 -- 01's starred edge on links, computed from the definitions. Assumes nothing.
+use Rattle.std.specs.Prelude.{Ok}
 use mathlib.Core.Path.{◌≡◌, refl}
 use mathlib.Core.Bool.{true}
 use mathlib.Core.List.{List, [], ◌∷◌}
@@ -21,6 +22,6 @@ pub edge_written : link_bytes edge_link ≡ edge_bytes
 unfolding link_bytes owner_of place_of le_bytes pick
 edge_written = refl
 
-pub edge_read : link_in edge_bytes true 512 ≡ Linked edge_link
+pub edge_read : link_in edge_bytes true 512 ≡ Ok (Linked edge_link)
 unfolding link_in link_of link_fits get_le le_number part pick
 edge_read = refl

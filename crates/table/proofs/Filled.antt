@@ -9,7 +9,6 @@ use Rattle.medium.specs.declared.Error.{Error}
 use Rattle.medium.specs.declared.Medium.{Medium}
 use Rattle.freemap.specs.Map.{map_of, unfit_of}
 use Rattle.handles.specs.declared.Store.{Store}
-use Rattle.table.specs.declared.LinkAt.TheVariants as link
 use Rattle.table.specs.Link.{link_held}
 use Rattle.table.specs.Table.{links_of}
 use Rattle.table.specs.Free.{checked_of, map_at}
@@ -21,7 +20,7 @@ module _ (vol : List ℕ) (m : Medium) (st : Store) where
   -- every sector of the table passes, and no link is refused
   pub record AllPass : Type 0 where
     pub checked : checked_of vol m st ≡ Ok tt
-    pub sound : (c : ℕ) → c < links_of st.head.chunks → (e : Error) → link_held vol st c ≡ link.Refused e → ⊥
+    pub sound : (c : ℕ) → c < links_of st.head.chunks → (e : Error) → link_held vol st c ≡ Err e → ⊥
 
   -- so it is where the walk meets no refusal
   passes_all : Passes vol m st (links_of st.head.chunks) → AllPass

@@ -1,5 +1,6 @@
 pub mod Numbers
 pub mod Walks
+pub mod Turns
 pub mod Counts
 pub mod Last
 pub mod Nearest

@@ -1,5 +1,5 @@
 -- S-3: the answers by the map are the walk's where the map tells the table, whatever the cursor and whatever the medium reads. Assumes nothing.
-use Rattle.std.specs.Prelude.{Err, Ok, Result}
+use Rattle.std.specs.Prelude.{Err, Ok, Result, Option, Some, None}
 use Prim.Native.Nat.{ℕ, zero, suc, ◌+◌, ◌-◌, ◌*◌, ◌/◌, ◌%◌, ◌<◌, ◌≤◌}
 use mathlib.Core.Path.{◌≡◌, refl, sym, ap, ◌∙◌, subst}
 use mathlib.Core.Bool.{Bool, true, false, false≢true}
@@ -9,6 +9,7 @@ use native.Mathlib.Omega.{arith}
 use borrow.Author.Count.{below_more, below_none}
 use borrow.Author.Tests.{ltb-true, ltb-false, lt-ltb, le-ltb, eq-eqb}
 use lib.Dec.{ltb}
+use Rattle.std.specs.Bool.{then_some}
 use Rattle.le.specs.Choice.{pick}
 use Rattle.le.specs.Tally.{tally}
 use Rattle.le.proofs.Choices.{pick_true, pick_false, pick_keeps_by}
@@ -26,11 +27,8 @@ use Rattle.walk.specs.Walk.{next, stop, visits}
 use Rattle.walk.proofs.Laws.{walk_keeps}
 use Rattle.table.specs.declared.LinkAt.{LinkAt}
 use Rattle.table.specs.declared.LinkAt.TheVariants as link
-use Rattle.table.specs.declared.Pick.{Pick}
-use Rattle.table.specs.declared.Pick.TheVariants as free
-use Rattle.table.specs.declared.FreeCount.TheVariants as count
 use Rattle.table.specs.Link.{link_held, link_at}
-use Rattle.table.specs.Table.{TableVisit, over_table, links_of, free_step, free_v, walk_free_of}
+use Rattle.table.specs.Table.{TableVisit, over_table, links_of, free_v, walk_free_of}
 use Rattle.table.specs.Free.{on_check, checked_of, pick_of, free_of, free_count_v, walk_count_of, free_count_of}
 use Rattle.table.proofs.Tells.{is_free, is_free_lem, Tells, Mapped, met_held, outside}
 use Rattle.table.proofs.Numbers.{found_free}
@@ -70,7 +68,7 @@ module _ (vol : List ℕ) (m : Medium) (st : Store) where
       stops k r h p (Err e) q g = let z : Err e ≡ r = cc in subst CheckedAs z (record { at = k; inside = h; before = p; there = q })
 
   -- the first link of the sector that fails
-  pub failing : {e : Error} (f : Fails e) → link_at vol m st (128 * f.at) ≡ link.Refused e
+  pub failing : {e : Error} (f : Fails e) → link_at vol m st (128 * f.at) ≡ Err e
   unfolding link_at due_of
   failing f =
       let i : 128 * f.at / 128 ≡ f.at = omega arith in
@@ -79,13 +77,13 @@ module _ (vol : List ℕ) (m : Medium) (st : Store) where
 
   -- ---- where no link is refused as bytes, a walk is refused only by a sector, and at the first that fails
 
-  module _ (sound : (c : ℕ) → c < links_of st.head.chunks → (e : Error) → link_held vol st c ≡ link.Refused e → ⊥) where
+  module _ (sound : (c : ℕ) → c < links_of st.head.chunks → (e : Error) → link_held vol st c ≡ Err e → ⊥) where
     -- before the sector that fails nothing is refused
-    early : {e : Error} (f : Fails e) (k : ℕ) → k < 128 * f.at → (x : Error) → link_at vol m st k ≡ link.Refused x → ⊥
+    early : {e : Error} (f : Fails e) (k : ℕ) → k < 128 * f.at → (x : Error) → link_at vol m st k ≡ Err x → ⊥
     early f k h x q = sound k (omega (arith, f.inside)) x (sym (link_checked vol m st f.at f.before k (omega arith)) ∙ q)
 
     module _ {S R : Type 0} (v : TableVisit S R) (refuse : Error → R) (same : (e : Error) (s : S) → v.refuse e s ≡ refuse e) {e : Error} (f : Fails e) where
-      on_met : (k : ℕ) (x : LinkAt) → k ≤ 128 * f.at → link_at vol m st k ≡ x → ((z : Error) → x ≡ link.Refused z → ⊥) → k + 1 ≤ 128 * f.at
+      on_met : (k : ℕ) (x : Result LinkAt Error) → k ≤ 128 * f.at → link_at vol m st k ≡ x → ((z : Error) → x ≡ Err z → ⊥) → k + 1 ≤ 128 * f.at
       on_met k x h q ne = go (ltb k (128 * f.at)) refl
         where
           go : (t : Bool) → ltb k (128 * f.at) ≡ t → k + 1 ≤ 128 * f.at
@@ -99,12 +97,12 @@ module _ (vol : List ℕ) (m : Medium) (st : Store) where
       walk_fails s =
           table_keeps v vol m st (λ k t. k ≤ 128 * f.at) (λ r. r ≡ refuse e)
           (λ k t x i h q. same x t ∙ ap refuse (at_fail k x h q))
-          (λ k t h q. on_met k link.Past h q (λ z w. let n : ◌≡◌ {A = ℕ} 0 1 = cc in absurd (omega arith)))
-          (λ k t h l q. on_met k link.Free h q (λ z w. let n : ◌≡◌ {A = ℕ} 0 1 = cc in absurd (omega arith)))
-          (λ k l t h i d q. on_met k (link.Linked l) h q (λ z w. let n : ◌≡◌ {A = ℕ} 0 1 = cc in absurd (omega arith)))
+          (λ k t h q. on_met k (Ok link.Past) h q (λ z w. let n : ◌≡◌ {A = ℕ} 0 1 = cc in absurd (omega arith)))
+          (λ k t h l q. on_met k (Ok link.Free) h q (λ z w. let n : ◌≡◌ {A = ℕ} 0 1 = cc in absurd (omega arith)))
+          (λ k l t h i d q. on_met k (Ok (link.Linked l)) h q (λ z w. let n : ◌≡◌ {A = ℕ} 0 1 = cc in absurd (omega arith)))
           (λ t h. absurd (omega (arith, f.inside, h))) s (omega arith)
         where
-          at_fail : (k : ℕ) (x : Error) → k ≤ 128 * f.at → link_at vol m st k ≡ link.Refused x → x ≡ e
+          at_fail : (k : ℕ) (x : Error) → k ≤ 128 * f.at → link_at vol m st k ≡ Err x → x ≡ e
           at_fail k x h q = go (ltb k (128 * f.at)) refl
             where
               go : (t : Bool) → ltb k (128 * f.at) ≡ t → x ≡ e
@@ -112,7 +110,8 @@ module _ (vol : List ℕ) (m : Medium) (st : Store) where
               go false l =
                   let a : 128 * f.at ≤ k = ltb-false _ _ l in
                   let i : k ≡ 128 * f.at = omega arith in
-                  let w : link.Refused x ≡ link.Refused e = sym q ∙ ap (link_at vol m st) i ∙ failing f in
+                  let w : link_at vol m st (128 * f.at) ≡ Err x = sym (ap (link_at vol m st) i) ∙ q in
+                  let z = failing f in
                   cc
 
     -- where every sector passes, the walk's pick is the nearest marked chunk, and its count that of the marked ones
@@ -120,35 +119,28 @@ module _ (vol : List ℕ) (m : Medium) (st : Store) where
       reads : (c : ℕ) → c < links_of st.head.chunks → link_at vol m st c ≡ link_held vol st c
       reads c h = link_checked vol m st _ p c (omega arith)
 
-      never : {A : Type 0} (k : ℕ) (e : Error) → k < links_of st.head.chunks → link_at vol m st k ≡ link.Refused e → A
+      never : {A : Type 0} (k : ℕ) (e : Error) → k < links_of st.head.chunks → link_at vol m st k ≡ Err e → A
       never k e h q = absurd (sound k h e (sym (reads k h) ∙ q))
 
-      abbrev Picked : Pick → Type 0
-      Picked (free.Refused e) = ⊥
-      Picked free.Nothing = Unit
-      Picked (free.At b) = Unit
-
-      stepped : (k : ℕ) (t : Pick) → Picked t → Picked (free_step st.head.cursor st.head.chunks k t)
-      unfolding free_step
-      stepped k (free.Refused e) h = h
-      stepped k free.Nothing h = tt
-      stepped k (free.At b) h = pick_keeps_by Picked _ _ _ (λ _. tt) (λ _. tt)
+      abbrev Picked : Result (Option ℕ) Error → Type 0
+      Picked (Err e) = ⊥
+      Picked (Ok t) = Unit
 
       walk_picks : Picked (walk_free_of vol m st)
       unfolding walk_free_of
       walk_picks =
-          table_keeps (free_v st.head.cursor st.head.chunks) vol m st (λ k t. Picked t) Picked (λ k t e i h q. never k e i q)
-          (λ k t h q. h) (λ k t h l q. stepped k t h) (λ k l t h i d q. h) (λ t h. h) free.Nothing tt
+          table_keeps (free_v st.head.cursor st.head.chunks) vol m st (λ k t. Unit) Picked (λ k t e i h q. never k e i q)
+          (λ k t h q. tt) (λ k t h l q. tt) (λ k l t h i d q. tt) (λ t h. tt) None tt
 
-      walk_counts : walk_count_of vol m st ≡ count.Is (tally (λ c. is_free (link_held vol st c)) (links_of st.head.chunks))
+      walk_counts : walk_count_of vol m st ≡ Ok (tally (λ c. is_free (link_held vol st c)) (links_of st.head.chunks))
       unfolding walk_count_of is_free
       walk_counts =
-          table_keeps free_count_v vol m st (λ k n. n ≡ tally (λ c. is_free (link_held vol st c)) k) (λ r. r ≡ count.Is (tally (λ c. is_free (link_held vol st c)) (links_of st.head.chunks)))
+          table_keeps free_count_v vol m st (λ k n. n ≡ tally (λ c. is_free (link_held vol st c)) k) (λ r. r ≡ Ok (tally (λ c. is_free (link_held vol st c)) (links_of st.head.chunks)))
           (λ k n e i h q. never k e i q)
-          (λ k n h q. h ∙ sym (tally_no _ k (ap is_free (met_held vol m st k link.Past tt q))))
-          (λ k n h l q. ap (λ (x : ℕ). x + 1) h ∙ sym (tally_yes _ k (ap is_free (met_held vol m st k link.Free tt q))))
-          (λ k l n h i d q. h ∙ sym (tally_no _ k (ap is_free (met_held vol m st k (link.Linked l) tt q))))
-          (λ n h. ap count.Is h) 0 (sym (tally_start _))
+          (λ k n h q. h ∙ sym (tally_no _ k (ap is_free (met_held vol m st k (Ok link.Past) tt q))))
+          (λ k n h l q. ap (λ (x : ℕ). x + 1) h ∙ sym (tally_yes _ k (ap is_free (met_held vol m st k (Ok link.Free) tt q))))
+          (λ k l n h i d q. h ∙ sym (tally_no _ k (ap is_free (met_held vol m st k (Ok (link.Linked l)) tt q))))
+          (λ n h. ap Ok h) 0 (sym (tally_start _))
 
 -- ---- counts
 
@@ -184,24 +176,24 @@ module _ (vol : List ℕ) (m : Medium) (st : Store) (most : st.head.chunks ≤ 2
   past = past_none st ok fit
 
   -- a marked chunk is one of the store, and free
-  marked : (c : ℕ) → c < 2048 → marks ws c ≡ true → (c < st.head.chunks) × (link_held vol st c ≡ link.Free)
+  marked : (c : ℕ) → c < 2048 → marks ws c ≡ true → (c < st.head.chunks) × (link_held vol st c ≡ Ok link.Free)
   marked c l q = go (ltb c st.head.chunks) refl
     where
-      go : (t : Bool) → ltb c st.head.chunks ≡ t → (c < st.head.chunks) × (link_held vol st c ≡ link.Free)
+      go : (t : Bool) → ltb c st.head.chunks ≡ t → (c < st.head.chunks) × (link_held vol st c ≡ Ok link.Free)
       go true e = let h = ltb-true c st.head.chunks e in (h, is_free_lem (link_held vol st c) (sym (tells.bits c h) ∙ q))
       go false e = absurd (false≢true (sym (past c (ltb-false _ _ e) l) ∙ q))
 
   -- ---- where every sector passes
 
   module _ (inside : st.head.cursor < st.head.chunks) (p : Passed vol m st (table_of st.head.chunks)) where
-    met_free : (c : ℕ) → c < 2048 → marks ws c ≡ true → (c < st.head.chunks) × (link_at vol m st c ≡ link.Free)
+    met_free : (c : ℕ) → c < 2048 → marks ws c ≡ true → (c < st.head.chunks) × (link_at vol m st c ≡ Ok link.Free)
     met_free c l q = let k = marked c l q in (k.0, reads vol m st tells.sound p c (omega (arith, k.0)) ∙ k.1)
 
-    free_marked : (c : ℕ) → link_at vol m st c ≡ link.Free → (c < st.head.chunks) × (marks ws c ≡ true)
+    free_marked : (c : ℕ) → link_at vol m st c ≡ Ok link.Free → (c < st.head.chunks) × (marks ws c ≡ true)
     unfolding is_free
     free_marked c q =
         let h : c < st.head.chunks = found_free vol m st c refl q in
-        (h, tells.bits c h ∙ ap is_free (met_held vol m st c link.Free tt q))
+        (h, tells.bits c h ∙ ap is_free (met_held vol m st c (Ok link.Free) tt q))
 
     abbrev near : ℕ → ℕ
     near = dist vol m st
@@ -235,29 +227,29 @@ module _ (vol : List ℕ) (m : Medium) (st : Store) (most : st.head.chunks ≤ 2
             let y : near r ≡ r + (st.head.chunks - st.head.cursor) = from_before st.head.cursor st.head.chunks inside r hr in
             omega (arith, x, y, less, ltb-false b r f)
 
-    at_pick : (r : ℕ) → r < 2048 → pick_of r ≡ free.At r
+    at_pick : (r : ℕ) → r < 2048 → pick_of r ≡ Some r
     unfolding pick_of
-    at_pick r h = pick_true _ _ (lt-ltb r 2048 h)
+    at_pick r h = rw (lt-ltb r 2048 h)
 
-    no_pick : (r : ℕ) → r ≡ 2048 → pick_of r ≡ free.Nothing
+    no_pick : (r : ℕ) → r ≡ 2048 → pick_of r ≡ None
     unfolding pick_of
-    no_pick r e = pick_false _ _ (le-ltb r 2048 (omega (arith, e)))
+    no_pick r e = rw (le-ltb r 2048 (omega (arith, e)))
 
-    same_pick : (t : Pick) → Nearest vol m st (links_of st.head.chunks) t → Picked vol m st tells.sound p t
-        → (r : ℕ) → Chosen ws st.head.cursor r → pick_of r ≡ t
-    same_pick (free.Refused e) n h r k = absurd h
-    same_pick free.Nothing n h r (ahead lo hi q off) = let f = met_free r hi q in absurd (n r (omega (arith, f.0)) f.1)
-    same_pick free.Nothing n h r (round lo q off low) = let f = met_free r (omega arith) q in absurd (n r (omega (arith, f.0)) f.1)
-    same_pick free.Nothing n h r (none e off) = no_pick r e
-    same_pick (free.At b) n h r (ahead lo hi q off) =
+    same_pick : (t : Result (Option ℕ) Error) → Nearest vol m st (links_of st.head.chunks) t → Picked vol m st tells.sound p t
+        → (r : ℕ) → Chosen ws st.head.cursor r → Ok (pick_of r) ≡ t
+    same_pick (Err e) n h r k = absurd h
+    same_pick (Ok None) n h r (ahead lo hi q off) = let f = met_free r hi q in absurd (n r (omega (arith, f.0)) f.1)
+    same_pick (Ok None) n h r (round lo q off low) = let f = met_free r (omega arith) q in absurd (n r (omega (arith, f.0)) f.1)
+    same_pick (Ok None) n h r (none e off) = ap Ok (no_pick r e)
+    same_pick (Ok (Some b)) n h r (ahead lo hi q off) =
         let f = met_free r hi q in
         let g = free_marked b n.0 in
-        at_pick r hi ∙ ap free.At (sym (same_ahead b r g.0 f.0 lo (n.1 r (omega (arith, f.0)) f.1) off g.1))
-    same_pick (free.At b) n h r (round lo q off low) =
+        ap Ok (at_pick r hi ∙ ap Some (sym (same_ahead b r g.0 f.0 lo (n.1 r (omega (arith, f.0)) f.1) off g.1)))
+    same_pick (Ok (Some b)) n h r (round lo q off low) =
         let f = met_free r (omega arith) q in
         let g = free_marked b n.0 in
-        at_pick r (omega arith) ∙ ap free.At (sym (same_round b r g.0 lo (n.1 r (omega (arith, f.0)) f.1) off low g.1))
-    same_pick (free.At b) n h r (none e off) = let g = free_marked b n.0 in absurd (false≢true (sym (off b (omega (arith, g.0))) ∙ g.1))
+        ap Ok (at_pick r (omega arith) ∙ ap Some (sym (same_round b r g.0 lo (n.1 r (omega (arith, f.0)) f.1) off low g.1)))
+    same_pick (Ok (Some b)) n h r (none e off) = let g = free_marked b n.0 in absurd (false≢true (sym (off b (omega (arith, g.0))) ∙ g.1))
 
   -- as many bits as free links
   same_count : ones_of ws ≡ tally (λ c. is_free (link_held vol st c)) (links_of st.head.chunks)
@@ -286,14 +278,14 @@ module _ (vol : List ℕ) (m : Medium) (st : Store) (most : st.head.chunks ≤ 2
       as_walked vol m st _ _ _
       (λ f q. same_pick vol m st most ok f (mapped f) inside (known q) (walk_free_of vol m st) (free_nearest vol m st)
       (walk_picks vol m st (mapped f).sound (known q)) _ (chosen_of_lem st.free.words st.head.cursor))
-      (λ f e q. sym (walk_fails vol m st (mapped f).sound (free_v st.head.cursor st.head.chunks) free.Refused (λ x s. refl) (known q) free.Nothing))
+      (λ f e q. sym (walk_fails vol m st (mapped f).sound (free_v st.head.cursor st.head.chunks) Err (λ x s. refl) (known q) None))
 
   pub mapped_count : free_count_of vol m st ≡ walk_count_of vol m st
   unfolding free_count_of walk_count_of
   mapped_count =
       as_walked vol m st _ _ _
-      (λ f q. ap count.Is (same_count vol m st most ok f (mapped f)) ∙ sym (walk_counts vol m st (mapped f).sound (known q)))
-      (λ f e q. sym (walk_fails vol m st (mapped f).sound free_count_v count.Refused (λ x s. refl) (known q) 0))
+      (λ f q. ap Ok (same_count vol m st most ok f (mapped f)) ∙ sym (walk_counts vol m st (mapped f).sound (known q)))
+      (λ f e q. sym (walk_fails vol m st (mapped f).sound free_count_v Err (λ x s. refl) (known q) 0))
 
 -- ---- the chunk chosen is one of the store, whatever the map says
 
@@ -310,8 +302,7 @@ module _ (vol : List ℕ) (m : Medium) (st : Store) (ok : map_ok st.free st.head
       go true e = ltb-true _ _ e
       go false e = absurd (false≢true (sym (past_none st ok f r (ltb-false _ _ e) h) ∙ q))
 
-  in_range : (r : ℕ) → st.free.fit ≡ true → Chosen st.free.words st.head.cursor r → (t : Bool) → ltb r 2048 ≡ t → {c : ℕ} → pick t (free.At r) free.Nothing ≡ free.At c → c < st.head.chunks
-  unfolding pick
+  in_range : (r : ℕ) → st.free.fit ≡ true → Chosen st.free.words st.head.cursor r → (t : Bool) → ltb r 2048 ≡ t → {c : ℕ} → ◌≡◌ {A = Result (Option ℕ) Error} (Ok (then_some t r)) (Ok (Some c)) → c < st.head.chunks
   in_range r f k true l {c} e =
       let i : r ≡ c = cc in
       let h : r < 2048 = ltb-true r 2048 l in
@@ -319,11 +310,11 @@ module _ (vol : List ℕ) (m : Medium) (st : Store) (ok : map_ok st.free st.head
       subst (λ (x : ℕ). x < st.head.chunks) i (inside_chunks r f h q)
   in_range r f k false l e = absurd (let z : ◌≡◌ {A = ℕ} 0 1 = cc in omega arith)
 
-  pub free_range : {c : ℕ} → free_of vol m st ≡ free.At c → c < st.head.chunks
+  pub free_range : {c : ℕ} → free_of vol m st ≡ Ok (Some c) → c < st.head.chunks
   unfolding free_of pick_of
   free_range {c} =
-      pick_keeps_by (λ (p : Pick). p ≡ free.At c → c < st.head.chunks) st.free.fit _ _
-      (λ f. on_done_keeps (λ (p : Pick). p ≡ free.At c → c < st.head.chunks) (checked_of vol m st) _ _
+      pick_keeps_by (λ (p : Result (Option ℕ) Error). p ≡ Ok (Some c) → c < st.head.chunks) st.free.fit _ _
+      (λ f. on_done_keeps (λ (p : Result (Option ℕ) Error). p ≡ Ok (Some c) → c < st.head.chunks) (checked_of vol m st) _ Err
       (λ _. in_range _ f (chosen_of_lem st.free.words st.head.cursor) _ refl)
       (λ e _ q. absurd (let z : ◌≡◌ {A = ℕ} 0 1 = cc in omega arith)))
       (λ _. walk_range vol m st)

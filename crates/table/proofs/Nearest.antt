@@ -1,4 +1,5 @@
 -- The chunk that `walk_free_of` picks is free, and no free chunk is nearer after the cursor. Assumes nothing.
+use Rattle.std.specs.Prelude.{Option, Some, None, Result, Ok, Err}
 use Prim.Native.Nat.{ℕ, ◌+◌, ◌-◌, ◌%◌, ◌<◌, ◌≤◌}
 use mathlib.Core.Path.{◌≡◌, refl, sym, ◌∙◌, ap, subst}
 use mathlib.Core.Bool.{Bool, true, false, ◌&&◌}
@@ -9,10 +10,9 @@ use borrow.Author.Tests.{ltb-true, ltb-false, leb-true, leb-false, lt-ltb, le-lt
 use borrow.Author.Count.{below_more, below_none}
 use lib.Dec.{ltb, leb}
 use Rattle.le.proofs.Choices.{pick_true, pick_false, pick_keeps_by}
+use Rattle.medium.specs.declared.Error.{Error}
 use Rattle.medium.specs.declared.Medium.{Medium}
 use Rattle.handles.specs.declared.Store.{Store}
-use Rattle.table.specs.declared.Pick.{Pick}
-use Rattle.table.specs.declared.Pick.TheVariants as free
 use Rattle.table.specs.declared.LinkAt.{LinkAt}
 use Rattle.table.specs.declared.LinkAt.TheVariants as link
 use Rattle.table.specs.Link.{link_at}
@@ -56,24 +56,22 @@ module _ (cursor chunks : ℕ) (inside : cursor < chunks) where
     pub later_nearer : (t : Bool) → (ltb b cursor && leb cursor i) ≡ t → nearer ≡ t
     later_nearer t e = between _ _ refl refl ∙ e
 
-pub later_near : (cursor chunks i b : ℕ) → cursor < chunks → i < chunks → b < i → (ltb b cursor && leb cursor i) ≡ true → free.At i ≡ free_step cursor chunks i (free.At b)
+pub later_near : (cursor chunks i b : ℕ) → cursor < chunks → i < chunks → b < i → (ltb b cursor && leb cursor i) ≡ true → Some i ≡ free_step cursor chunks i (Some b)
 unfolding free_step
 later_near cursor chunks i b c h k e = sym (pick_true _ _ (later_nearer cursor chunks c i b h k true e))
 
-pub later_far : (cursor chunks i b : ℕ) → cursor < chunks → i < chunks → b < i → (ltb b cursor && leb cursor i) ≡ false → free.At b ≡ free_step cursor chunks i (free.At b)
+pub later_far : (cursor chunks i b : ℕ) → cursor < chunks → i < chunks → b < i → (ltb b cursor && leb cursor i) ≡ false → Some b ≡ free_step cursor chunks i (Some b)
 unfolding free_step
 later_far cursor chunks i b c h k e = sym (pick_false _ _ (later_nearer cursor chunks c i b h k false e))
 
-pub before_more : (i : ℕ) (s : Pick) → Before i s → Before (i + 1) s
-before_more i (free.Refused e) h = tt
-before_more i free.Nothing h = tt
-before_more i (free.At b) h = omega arith
+pub before_more : (i : ℕ) (s : Option ℕ) → Before i s → Before (i + 1) s
+before_more i None h = tt
+before_more i (Some b) h = omega arith
 
-pub before_step : (cursor chunks i : ℕ) (s : Pick) → Before i s → Before (i + 1) (free_step cursor chunks i s)
+pub before_step : (cursor chunks i : ℕ) (s : Option ℕ) → Before i s → Before (i + 1) (free_step cursor chunks i s)
 unfolding free_step
-before_step cursor chunks i (free.Refused e) h = tt
-before_step cursor chunks i free.Nothing h = omega arith
-before_step cursor chunks i (free.At b) h = pick_keeps_by (Before (i + 1)) _ (free.At i) (free.At b) (λ q. omega arith) (λ q. omega arith)
+before_step cursor chunks i None h = omega arith
+before_step cursor chunks i (Some b) h = pick_keeps_by (Before (i + 1)) _ (Some i) (Some b) (λ q. omega arith) (λ q. omega arith)
 
 -- ---- the pick is free, and no free chunk is nearer
 
@@ -82,35 +80,36 @@ module _ (vol : List ℕ) (m : Medium) (st : Store) where
   dist = distance_of st.head.cursor st.head.chunks
 
   -- of the chunks below n: none is free; or b is, and none is nearer
-  abbrev pub Nearest : ℕ → Pick → Type 0
-  Nearest n (free.Refused e) = Unit
-  Nearest n free.Nothing = (j : ℕ) → j < n → link_at vol m st j ≡ link.Free → ⊥
-  Nearest n (free.At b) = (link_at vol m st b ≡ link.Free) × ((j : ℕ) → j < n → link_at vol m st j ≡ link.Free → dist b ≤ dist j)
+  abbrev Near : ℕ → Option ℕ → Type 0
+  Near n None = (j : ℕ) → j < n → link_at vol m st j ≡ Ok link.Free → ⊥
+  Near n (Some b) = (link_at vol m st b ≡ Ok link.Free) × ((j : ℕ) → j < n → link_at vol m st j ≡ Ok link.Free → dist b ≤ dist j)
+
+  abbrev pub Nearest : ℕ → Result (Option ℕ) Error → Type 0
+  Nearest n (Err e) = Unit
+  Nearest n (Ok t) = Near n t
 
   -- a chunk that is not free changes nothing
-  other : (k : ℕ) (t : Pick) (x : LinkAt) → link_at vol m st k ≡ x → (x ≡ link.Free → ⊥) → Nearest k t → Nearest (k + 1) t
-  other k (free.Refused e) x q h p = tt
-  other k free.Nothing x q h p = below_more (λ (j : ℕ). link_at vol m st j ≡ link.Free → ⊥) k p (λ f. h (sym q ∙ f))
-  other k (free.At b) x q h p = (p.0, below_more (λ (j : ℕ). link_at vol m st j ≡ link.Free → dist b ≤ dist j) k p.1 (λ f. absurd (h (sym q ∙ f))))
+  other : (k : ℕ) (t : Option ℕ) (x : Result LinkAt Error) → link_at vol m st k ≡ x → (x ≡ Ok link.Free → ⊥) → Near k t → Near (k + 1) t
+  other k None x q h p = below_more (λ (j : ℕ). link_at vol m st j ≡ Ok link.Free → ⊥) k p (λ f. h (sym q ∙ f))
+  other k (Some b) x q h p = (p.0, below_more (λ (j : ℕ). link_at vol m st j ≡ Ok link.Free → dist b ≤ dist j) k p.1 (λ f. absurd (h (sym q ∙ f))))
 
-  met : (k : ℕ) (t : Pick) → Nearest k t → link_at vol m st k ≡ link.Free → Nearest (k + 1) (free_step st.head.cursor st.head.chunks k t)
+  met : (k : ℕ) (t : Option ℕ) → Near k t → link_at vol m st k ≡ Ok link.Free → Near (k + 1) (free_step st.head.cursor st.head.chunks k t)
   unfolding free_step
-  met k (free.Refused e) p h = tt
-  met k free.Nothing p h = (h, below_more (λ (j : ℕ). link_at vol m st j ≡ link.Free → dist k ≤ dist j) k (λ j l f. absurd (p j l f)) (λ f. le_refl _))
-  met k (free.At b) p h =
-      pick_keeps_by (Nearest (k + 1)) (ltb (dist k) (dist b)) (free.At k) (free.At b)
-      (λ q. (h, below_more (λ (j : ℕ). link_at vol m st j ≡ link.Free → dist k ≤ dist j) k (λ j l f. omega (arith, ltb-true (dist k) (dist b) q, p.1 j l f)) (λ f. le_refl _)))
-      (λ q. (p.0, below_more (λ (j : ℕ). link_at vol m st j ≡ link.Free → dist b ≤ dist j) k p.1 (λ f. ltb-false (dist k) (dist b) q)))
+  met k None p h = (h, below_more (λ (j : ℕ). link_at vol m st j ≡ Ok link.Free → dist k ≤ dist j) k (λ j l f. absurd (p j l f)) (λ f. le_refl _))
+  met k (Some b) p h =
+      pick_keeps_by (Near (k + 1)) (ltb (dist k) (dist b)) (Some k) (Some b)
+      (λ q. (h, below_more (λ (j : ℕ). link_at vol m st j ≡ Ok link.Free → dist k ≤ dist j) k (λ j l f. omega (arith, ltb-true (dist k) (dist b) q, p.1 j l f)) (λ f. le_refl _)))
+      (λ q. (p.0, below_more (λ (j : ℕ). link_at vol m st j ≡ Ok link.Free → dist b ≤ dist j) k p.1 (λ f. ltb-false (dist k) (dist b) q)))
 
   pub free_nearest : Nearest (links_of st.head.chunks) (walk_free_of vol m st)
   unfolding walk_free_of
   free_nearest =
-      table_keeps (free_v st.head.cursor st.head.chunks) vol m st Nearest (Nearest (links_of st.head.chunks))
+      table_keeps (free_v st.head.cursor st.head.chunks) vol m st Near (Nearest (links_of st.head.chunks))
       (λ k t e h p q. tt)
-      (λ k t p q. other k t link.Past q (λ e. let z : ◌≡◌ {A = ℕ} 0 1 = cc in omega arith) p)
+      (λ k t p q. other k t (Ok link.Past) q (λ e. let z : ◌≡◌ {A = ℕ} 0 1 = cc in omega arith) p)
       (λ k t p h q. met k t p q)
-      (λ k l t p h d q. other k t (link.Linked l) q (λ e. let z : ◌≡◌ {A = ℕ} 0 1 = cc in omega arith) p)
-      (λ t p. p) free.Nothing (below_none _)
+      (λ k l t p h d q. other k t (Ok (link.Linked l)) q (λ e. let z : ◌≡◌ {A = ℕ} 0 1 = cc in omega arith) p)
+      (λ t p. p) None (below_none _)
 
-  pub walk_range : {c : ℕ} → walk_free_of vol m st ≡ free.At c → c < st.head.chunks
+  pub walk_range : {c : ℕ} → walk_free_of vol m st ≡ Ok (Some c) → c < st.head.chunks
   walk_range {c} e = found_free vol m st c refl (subst (Nearest (links_of st.head.chunks)) e free_nearest).0

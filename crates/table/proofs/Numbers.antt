@@ -26,7 +26,7 @@ use Rattle.handles.specs.Handles.{base_of}
 use Rattle.handles.specs.Body.{body_at, due_of}
 use Rattle.table.specs.declared.Link.{Link}
 use Rattle.table.specs.declared.LinkAt.{LinkAt}
-use Rattle.table.specs.declared.LinkAt.TheVariants.{Refused, Past, Free, Linked}
+use Rattle.table.specs.declared.LinkAt.TheVariants.{Past, Free, Linked}
 use Rattle.table.specs.Link.{owner_of, place_of, link_bytes, link_fits, link_of, link_in, link_part, link_at, owned_by}
 
 -- ---- what is found
@@ -39,11 +39,11 @@ pub record Sound (l : Link) (size : ℕ) : Type 0 where
   pub whole : l.partial ≡ false → l.records ≡ 0
 
 -- what an answer tells of the low 7 bits and of the chunk
-pub data Said (low : ℕ) (inside : Bool) (size : ℕ) : LinkAt → Type 0 where
-  refused : {e : Error} → Said low inside size (Refused e)
-  past : low ≡ 0 → Said low inside size Past
-  free : low ≡ 0 → inside ≡ true → Said low inside size Free
-  linked : {l : Link} → low ≡ l.slot + 1 → inside ≡ true → Sound l size → Said low inside size (Linked l)
+pub data Said (low : ℕ) (inside : Bool) (size : ℕ) : Result LinkAt Error → Type 0 where
+  refused : {e : Error} → Said low inside size (Err e)
+  past : low ≡ 0 → Said low inside size (Ok Past)
+  free : low ≡ 0 → inside ≡ true → Said low inside size (Ok Free)
+  linked : {l : Link} → low ≡ l.slot + 1 → inside ≡ true → Sound l size → Said low inside size (Ok (Linked l))
 
 pub fits_sound : (owner place size : ℕ) → link_fits owner place size ≡ true
     → Sound (record { slot = owner % 128 - 1; position = place % 32768; partial = leb 32768 place; records = owner / 128 }) size
@@ -71,7 +71,7 @@ link_said owner place inside size =
     (λ z.
     let e : owner ≡ 0 = eqb-true _ _ (and_true (eqb owner 0) (eqb place 0) z).0 in
     let low : owner % 128 ≡ 0 = omega arith in
-    pick_keeps_by (Said (owner % 128) inside size) inside Free Past (free low) (λ q. past low))
+    pick_keeps_by (Said (owner % 128) inside size) inside (Ok Free) (Ok Past) (free low) (λ q. past low))
     (λ z.
     pick_keeps_by (Said (owner % 128) inside size) (inside && link_fits owner place size) _ _
     (λ t.
@@ -81,7 +81,7 @@ link_said owner place inside size =
     (λ q. refused))
 
 module _ (vol : List ℕ) (m : Medium) (st : Store) (c : ℕ) where
-  abbrev Told : LinkAt → Type 0
+  abbrev Told : Result LinkAt Error → Type 0
   Told = Said (get_le 2 0 (link_part vol st c) % 128) (ltb c st.head.chunks) st.head.chunk
 
   links_said : Told (link_at vol m st c)
@@ -89,17 +89,21 @@ module _ (vol : List ℕ) (m : Medium) (st : Store) (c : ℕ) where
   links_said = on_done_keeps Told _ _ _ (λ q. link_said _ _ _ _) (λ e q. refused)
 
   -- what a call at c found
-  pub found_free : {x : LinkAt} → x ≡ link_at vol m st c → x ≡ Free → c < st.head.chunks
+  pub found_free : {x : Result LinkAt Error} → x ≡ link_at vol m st c → x ≡ Ok Free → c < st.head.chunks
   found_free e q = out (subst Told (sym e ∙ q) links_said)
     where
-      out : Told Free → c < st.head.chunks
+      out : Told (Ok Free) → c < st.head.chunks
       out (free z h) = ltb-true _ _ h
 
-  pub found_link : {x : LinkAt} {l : Link} → x ≡ link_at vol m st c → x ≡ Linked l → (c < st.head.chunks) × Sound l st.head.chunk
+  pub found_link : {x : Result LinkAt Error} {l : Link} → x ≡ link_at vol m st c → x ≡ Ok (Linked l) → (c < st.head.chunks) × Sound l st.head.chunk
   found_link {l = l} e q = out (subst Told (sym e ∙ q) links_said)
     where
-      out : Told (Linked l) → (c < st.head.chunks) × Sound l st.head.chunk
+      out : Told (Ok (Linked l)) → (c < st.head.chunks) × Sound l st.head.chunk
       out (linked o h s) = (ltb-true _ _ h, s)
+
+  -- and so its slot is one of the 64
+  pub linked_slot : {r : Result LinkAt Error} {x : LinkAt} {l : Link} → r ≡ link_at vol m st c → r ≡ Ok x → x ≡ Linked l → l.slot < 64
+  linked_slot e f q = (found_link e (f ∙ ap Ok q)).1.slot
 
 -- ---- both ways
 
@@ -138,7 +142,7 @@ module _ (l : Link) (size : ℕ) (s : Sound l size) where
       (marked_or_none l.partial refl)
 
   -- the numbers of a link are read as the link
-  pub link_back : link_of (owner_of l) (place_of l) true size ≡ Linked l
+  pub link_back : link_of (owner_of l) (place_of l) true size ≡ Ok (Linked l)
   unfolding link_of
   link_back =
       pick_false _ _ some_owner ∙ pick_true _ _ fits_back
@@ -158,7 +162,7 @@ module _ (l : Link) (size : ℕ) (s : Sound l size) (most : size ≤ 512) where
   unfolding get_le part link_bytes le_bytes le_number
   place_got = let h = place_most in omega arith
 
-  pub link_bytes_lem : link_in (link_bytes l) true size ≡ Linked l
+  pub link_bytes_lem : link_in (link_bytes l) true size ≡ Ok (Linked l)
   unfolding link_in
   link_bytes_lem = ap₂ (λ (x y : ℕ). link_of x y true size) owner_got place_got ∙ link_back l size s
 
@@ -175,7 +179,7 @@ link_put_lem k at l h =
     ap (λ (n : ℕ). over (at + n) (le_bytes 2 (place_of k)) (over at (le_bytes 2 (owner_of k)) l)) (sym a) ∙ over_over at (le_bytes 2 (owner_of k)) (le_bytes 2 (place_of k)) l (omega arith)
 
 -- and read back from the sector in which it was written
-pub link_written : (k : Link) (size c : ℕ) (l : List ℕ) → Sound k size → size ≤ 512 → length l ≡ 512 → link_in (part (4 * (c % 128)) 4 (over (4 * (c % 128)) (link_bytes k) l)) true size ≡ Linked k
+pub link_written : (k : Link) (size c : ℕ) (l : List ℕ) → Sound k size → size ≤ 512 → length l ≡ 512 → link_in (part (4 * (c % 128)) 4 (over (4 * (c % 128)) (link_bytes k) l)) true size ≡ Ok (Linked k)
 link_written k size c l s most long =
     let e : length (link_bytes k) ≡ 4 = length_link k in
     let room : 4 * (c % 128) + length (link_bytes k) ≤ length l = omega arith in
@@ -184,7 +188,7 @@ link_written k size c l s most long =
     ∙ link_bytes_lem k size s most
 
 -- a zero link
-pub link_zero : (inside : Bool) (size : ℕ) → link_in (zeros 4) inside size ≡ pick inside Free Past
+pub link_zero : (inside : Bool) (size : ℕ) → link_in (zeros 4) inside size ≡ pick inside (Ok Free) (Ok Past)
 unfolding link_in link_of get_le le_number part zeros pick
 link_zero inside size = refl
 
@@ -205,11 +209,11 @@ unfolding owned_by
 link_owned vol st c slot {at} e f = ap (λ (x : ℕ). eqb (x % 128) (slot + 1)) (f ∙ link_field vol st c at 0 (omega arith) (omega arith))
 
 module _ (vol : List ℕ) (m : Medium) (st : Store) (c : ℕ) {o : Result Unit Error} (asked : o ≡ due_of vol m st (eqb (c % 128) 0) (8 + c / 128)) where
-  pub link_refused : {e : Error} → o ≡ Err e → Refused e ≡ link_at vol m st c
+  pub link_refused : {e : Error} → o ≡ Err e → Err e ≡ link_at vol m st c
   unfolding link_at on_done
   link_refused q = rw (← asked, q)
 
-  pub link_read : {r : LinkAt} {at owner place : ℕ} → o ≡ Ok tt → at ≡ 512 * (base_of st.copy + 9) + 4 * c → owner ≡ get_le 2 at vol → place ≡ get_le 2 (at + 2) vol
+  pub link_read : {r : Result LinkAt Error} {at owner place : ℕ} → o ≡ Ok tt → at ≡ 512 * (base_of st.copy + 9) + 4 * c → owner ≡ get_le 2 at vol → place ≡ get_le 2 (at + 2) vol
       → r ≡ link_of owner place (ltb c st.head.chunks) st.head.chunk → r ≡ link_at vol m st c
   unfolding link_at on_done link_in
   link_read {at = at} q f g h k =

@@ -1,10 +1,11 @@
 -- A link and the counts never give 11. Assumes nothing.
-use Rattle.std.specs.Prelude.{Err}
+use Rattle.std.specs.Prelude.{Err, Result, Ok}
 use mathlib.Core.Path.{refl, subst}
 use mathlib.Core.List.{List}
 use Prim.Native.Nat.{ℕ, ◌+◌, ◌/◌, ◌%◌}
 use lib.Dec.{eqb}
 use Rattle.le.proofs.Choices.{pick_keeps}
+use Rattle.medium.specs.declared.Error.{Error}
 use Rattle.medium.specs.declared.Medium.{Medium}
 use Rattle.medium.proofs.Laws.{on_done_keeps}
 use Rattle.medium.proofs.Stale.{NotStale, no_stale}
@@ -18,11 +19,11 @@ use Rattle.table.specs.Table.{count_v, count_of}
 use Rattle.table.proofs.Walks.{table_keeps}
 
 module _ (vol : List ℕ) (m : Medium) (st : Store) where
-  abbrev Seen : LinkAt → Type 0
-  Seen (link.Refused e) = NotStale (Err e)
-  Seen link.Past = Unit
-  Seen link.Free = Unit
-  Seen (link.Linked l) = Unit
+  abbrev Seen : Result LinkAt Error → Type 0
+  Seen (Err e) = NotStale (Err e)
+  Seen (Ok link.Past) = Unit
+  Seen (Ok link.Free) = Unit
+  Seen (Ok (link.Linked l)) = Unit
 
   seen : (c : ℕ) → Seen (link_at vol m st c)
   unfolding link_at link_in link_of

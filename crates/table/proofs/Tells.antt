@@ -1,4 +1,5 @@
 -- S-3: a map tells the table of the store's own copy, as bytes: its checksums are not asked. The map that mount makes tells it. Assumes nothing.
+use Rattle.std.specs.Prelude.{Result, Ok, Err}
 use Prim.Native.Nat.{ℕ, ◌+◌, ◌/◌, ◌%◌, ◌<◌, ◌≤◌}
 use mathlib.Core.Path.{◌≡◌, refl, sym, ap, ◌∙◌, subst}
 use mathlib.Core.Bool.{Bool, true, false, false≢true, ◌&&◌}
@@ -29,22 +30,22 @@ use Rattle.table.proofs.Walks.{table_keeps}
 
 -- ---- the table as bytes: its checksums are not asked
 
-unfoldable pub is_free : LinkAt → Bool
-is_free (link.Refused e) = false
-is_free link.Past = false
-is_free link.Free = true
-is_free (link.Linked l) = false
+unfoldable pub is_free : Result LinkAt Error → Bool
+is_free (Err e) = false
+is_free (Ok link.Past) = false
+is_free (Ok link.Free) = true
+is_free (Ok (link.Linked l)) = false
 
-pub is_free_lem : (x : LinkAt) → is_free x ≡ true → x ≡ link.Free
+pub is_free_lem : (x : Result LinkAt Error) → is_free x ≡ true → x ≡ Ok link.Free
 unfolding is_free
-is_free_lem (link.Refused e) q = absurd (false≢true q)
-is_free_lem link.Past q = absurd (false≢true q)
-is_free_lem link.Free q = refl
-is_free_lem (link.Linked l) q = absurd (false≢true q)
+is_free_lem (Err e) q = absurd (false≢true q)
+is_free_lem (Ok link.Past) q = absurd (false≢true q)
+is_free_lem (Ok link.Free) q = refl
+is_free_lem (Ok (link.Linked l)) q = absurd (false≢true q)
 
 -- no link is refused, and a bit is set exactly where the chunk's link is free
 pub record Tells (vol : List ℕ) (st : Store) (ws : List ℕ) : Type 0 where
-  pub sound : (c : ℕ) → c < links_of st.head.chunks → (e : Error) → link_held vol st c ≡ link.Refused e → ⊥
+  pub sound : (c : ℕ) → c < links_of st.head.chunks → (e : Error) → link_held vol st c ≡ Err e → ⊥
   pub bits : (c : ℕ) → c < st.head.chunks → marks ws c ≡ is_free (link_held vol st c)
 
 -- of a fit map
@@ -53,16 +54,16 @@ Mapped vol st = st.free.fit ≡ true → Tells vol st st.free.words
 
 module _ (vol : List ℕ) (m : Medium) (st : Store) where
   -- a link that a walk meets is what its bytes say
-  abbrev pub Met : LinkAt → Type 0
-  Met (link.Refused e) = ⊥
-  Met link.Past = Unit
-  Met link.Free = Unit
-  Met (link.Linked l) = Unit
+  abbrev pub Met : Result LinkAt Error → Type 0
+  Met (Err e) = ⊥
+  Met (Ok link.Past) = Unit
+  Met (Ok link.Free) = Unit
+  Met (Ok (link.Linked l)) = Unit
 
-  pub met_held : (k : ℕ) (x : LinkAt) → Met x → link_at vol m st k ≡ x → link_held vol st k ≡ x
+  pub met_held : (k : ℕ) (x : Result LinkAt Error) → Met x → link_at vol m st k ≡ x → link_held vol st k ≡ x
   unfolding link_at
   met_held k x h =
-      on_done_keeps (λ (y : LinkAt). y ≡ x → link_held vol st k ≡ x) (due_of vol m st (eqb (k % 128) 0) (8 + k / 128)) _ _ (λ _ q. q)
+      on_done_keeps (λ (y : Result LinkAt Error). y ≡ x → link_held vol st k ≡ x) (due_of vol m st (eqb (k % 128) 0) (8 + k / 128)) _ _ (λ _ q. q)
       (λ e _ q. absurd (subst Met (sym q) h))
 
 -- a link past the last chunk is no free one
@@ -70,7 +71,8 @@ pub outside : (vol : List ℕ) (st : Store) (c : ℕ) → st.head.chunks ≤ c �
 unfolding link_in link_of is_free
 outside vol st c h =
     rw (le-ltb c st.head.chunks h)
-    (pick_keeps (λ (x : LinkAt). is_free x ≡ false) _ _ _ (rw (pick_false link.Free link.Past refl)) (rw (pick_false {A = LinkAt} _ (link.Refused Corrupt) refl)))
+    (pick_keeps (λ (x : Result LinkAt Error). is_free x ≡ false) _ _ _ (rw (pick_false {A = Result LinkAt Error} (Ok link.Free) (Ok link.Past) refl))
+    (rw (pick_false {A = Result LinkAt Error} _ (Err Corrupt) refl)))
 
 -- ---- the map that mount makes
 
@@ -82,7 +84,7 @@ module _ (vol : List ℕ) (m : Medium) (st : Store) where
   abbrev pub Passes : ℕ → Type 0
   Passes k = (c : ℕ) → c < k → Met vol m st (link_at vol m st c)
 
-  pub passes_sound : {k : ℕ} → Passes k → (c : ℕ) → c < k → (e : Error) → link_held vol st c ≡ link.Refused e → ⊥
+  pub passes_sound : {k : ℕ} → Passes k → (c : ℕ) → c < k → (e : Error) → link_held vol st c ≡ Err e → ⊥
   passes_sound p c h e q = subst (Met vol m st) (sym (met_held vol m st c (link_at vol m st c) (p c h) refl) ∙ q) (p c h)
 
   -- of the links below k
@@ -90,29 +92,29 @@ module _ (vol : List ℕ) (m : Medium) (st : Store) where
     passes : Passes k
     words : ws ≡ words_of (upto (λ c. false) frees k)
 
-  one_more : (k : ℕ) (x : LinkAt) → Met vol m st x → Passes k → link_at vol m st k ≡ x → Passes (k + 1)
+  one_more : (k : ℕ) (x : Result LinkAt Error) → Met vol m st x → Passes k → link_at vol m st k ≡ x → Passes (k + 1)
   one_more k x h p q = below_more (λ (c : ℕ). Met vol m st (link_at vol m st c)) k p (subst (Met vol m st) (sym q) h)
 
   -- a link that is not free
-  unfree : (k : ℕ) (ws : List ℕ) (x : LinkAt) → Met vol m st x → is_free x ≡ false → Built k ws → link_at vol m st k ≡ x → Built (k + 1) ws
+  unfree : (k : ℕ) (ws : List ℕ) (x : Result LinkAt Error) → Met vol m st x → is_free x ≡ false → Built k ws → link_at vol m st k ≡ x → Built (k + 1) ws
   unfree k ws x h f b q =
       record {
         passes = one_more k x h b.passes q;
         words = b.words ∙ upto_same (λ c. false) frees k (ap is_free (met_held vol m st k x h q) ∙ f);
       }
 
-  freed : (k : ℕ) (ws : List ℕ) → Built k ws → link_at vol m st k ≡ link.Free → Built (k + 1) (put_of ws k true)
+  freed : (k : ℕ) (ws : List ℕ) → Built k ws → link_at vol m st k ≡ Ok link.Free → Built (k + 1) (put_of ws k true)
   unfolding is_free
   freed k ws b q =
       record {
-        passes = one_more k link.Free tt b.passes q;
-        words = ap (λ (x : List ℕ). put_of x k true) b.words ∙ upto_more (λ c. false) frees k (ap is_free (met_held vol m st k link.Free tt q));
+        passes = one_more k (Ok link.Free) tt b.passes q;
+        words = ap (λ (x : List ℕ). put_of x k true) b.words ∙ upto_more (λ c. false) frees k (ap is_free (met_held vol m st k (Ok link.Free) tt q));
       }
 
   -- that of the free links where none is refused, and else the unfit one
   pub data Filled (map : FreeMap) : Type 0 where
     whole : Passes (links_of st.head.chunks) → map ≡ map_of frees → Filled map
-    broken : {c : ℕ} {e : Error} → c < links_of st.head.chunks → link_at vol m st c ≡ link.Refused e → map ≡ unfit_of → Filled map
+    broken : {c : ℕ} {e : Error} → c < links_of st.head.chunks → link_at vol m st c ≡ Err e → map ≡ unfit_of → Filled map
 
   filled : (ws : List ℕ) → Built (links_of st.head.chunks) ws → Filled (record { fit = true; words = ws })
   filled ws b =
@@ -128,9 +130,9 @@ module _ (vol : List ℕ) (m : Medium) (st : Store) where
   mount_fills =
       table_keeps map_v vol m st Built Filled
       (λ k ws e i b q. broken i q refl)
-      (λ k ws b q. unfree k ws link.Past tt refl b q)
+      (λ k ws b q. unfree k ws (Ok link.Past) tt refl b q)
       (λ k ws b h q. freed k ws b q)
-      (λ k l ws b h d q. unfree k ws (link.Linked l) tt refl b q)
+      (λ k l ws b h d q. unfree k ws (Ok (link.Linked l)) tt refl b q)
       filled (zeros 32) (record { passes = below_none _; words = zeros_words ∙ upto_none (λ c. false) frees })
 
 module _ (vol : List ℕ) (m : Medium) (st : Store) (most : st.head.chunks ≤ 2048) where

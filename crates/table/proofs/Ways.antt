@@ -1,10 +1,9 @@
 -- The ways to an answer by the map: with an unfit one the walk's, else the first refusal of the table's sectors, else the map's own. Assumes nothing.
 use Rattle.std.specs.Prelude.{Err, Ok, Result}
-use mathlib.Core.Path.{◌≡◌, refl, sym, ◌∙◌}
-use mathlib.Core.Bool.{true, false, not}
+use mathlib.Core.Path.{◌≡◌, refl, sym, ap, ◌∙◌}
+use mathlib.Core.Bool.{true, false}
 use mathlib.Core.List.{List}
 use Prim.Native.Nat.{ℕ}
-use borrow.Author.Tests.{not-true, not-false}
 use Rattle.le.specs.Choice.{pick}
 use Rattle.le.proofs.Choices.{pick_true, pick_false, pick_keeps_by}
 use Rattle.medium.specs.declared.Error.{Error}
@@ -18,8 +17,8 @@ module _ {A : Type 0} (vol : List ℕ) (m : Medium) (st : Store) (mapped : A) (r
   abbrev answer : A
   answer = pick st.free.fit (on_done (checked_of vol m st) mapped refuse) walked
 
-  pub by_walk : {r : A} → not st.free.fit ≡ true → r ≡ walked → r ≡ answer
-  by_walk u e = e ∙ sym (pick_false _ _ (not-true _ u))
+  pub by_walk : {r : A} → st.free.fit ≡ false → r ≡ walked → r ≡ answer
+  by_walk u e = e ∙ sym (pick_false _ _ u)
 
   -- where the map's own answer is the walk's, and so is each refusal, every answer is
   pub as_walked : (st.free.fit ≡ true → checked_of vol m st ≡ Ok tt → mapped ≡ walked)
@@ -27,9 +26,12 @@ module _ {A : Type 0} (vol : List ℕ) (m : Medium) (st : Store) (mapped : A) (r
   as_walked p q =
       pick_keeps_by (λ (r : A). r ≡ walked) st.free.fit _ _ (λ f. on_done_keeps (λ (r : A). r ≡ walked) (checked_of vol m st) _ _ (p f) (q f)) (λ _. refl)
 
-  module _ (f : not st.free.fit ≡ false) {o : Result Unit Error} (asked : o ≡ checked_of vol m st) where
+  module _ (f : st.free.fit ≡ true) {o : Result Unit Error} (asked : o ≡ checked_of vol m st) where
+    pub by_checked : {r : A} → r ≡ on_done o mapped refuse → r ≡ answer
+    by_checked e = e ∙ ap (λ (x : Result Unit Error). on_done x mapped refuse) asked ∙ sym (pick_true _ _ f)
+
     pub by_refusal : {e : Error} → o ≡ Err e → refuse e ≡ answer
-    by_refusal q = sym (pick_true _ _ (not-false _ f) ∙ on_done_no _ _ (sym asked ∙ q))
+    by_refusal q = sym (pick_true _ _ f ∙ on_done_no _ _ (sym asked ∙ q))
 
     pub by_map : {r : A} → o ≡ Ok tt → r ≡ mapped → r ≡ answer
-    by_map q e = e ∙ sym (pick_true _ _ (not-false _ f) ∙ on_done_done _ _ (sym asked ∙ q))
+    by_map q e = e ∙ sym (pick_true _ _ f ∙ on_done_done _ _ (sym asked ∙ q))

@@ -1,8 +1,8 @@
 -- 01, "Link": The free chunk taken is the first at or after the cursor, going round. A chain passes when some link has position 0 and the largest
 -- position is the count − 1. Where positions repeat, reading takes the highest chunk number; appending takes the lowest with the largest position.
 -- And "Directory entry": the count buffer holds the chunks linked to each slot; a state refusal keeps the counts made before it. Assumes nothing.
-use Rattle.std.specs.Prelude.{Err, Ok, Result}
-use Rattle.std.specs.Prelude.{ℕ, ◌+◌, ◌-◌, ◌*◌, ◌%◌, ◌<◌, Bool, ◌&&◌, ◌||◌, List, eqb, ltb, get_or, set}
+use Rattle.std.specs.Prelude.{ℕ, ◌+◌, ◌-◌, ◌*◌, ◌%◌, ◌<◌, Bool, ◌&&◌, ◌||◌, List, eqb, ltb, get_or, set, Option, Some, None, Result, Ok, Err}
+use Rattle.std.specs.Option.{ok_or}
 use Rattle.le.specs.Choice.{pick}
 use Rattle.medium.specs.declared.Error.{Error}
 use Rattle.medium.specs.declared.Error.TheVariants.{Corrupt}
@@ -14,13 +14,8 @@ use Rattle.table.specs.declared.Link.{Link}
 use Rattle.table.specs.declared.LinkAt.{LinkAt}
 use Rattle.table.specs.declared.LinkAt.TheVariants as link
 use Rattle.table.specs.declared.Place.{Place}
-use Rattle.table.specs.declared.Place.TheVariants as place
-use Rattle.table.specs.declared.Pick.{Pick}
-use Rattle.table.specs.declared.Pick.TheVariants as free
 use Rattle.table.specs.declared.ChainState.{ChainState}
 use Rattle.table.specs.declared.ChainParts.{ChainParts}
-use Rattle.table.specs.declared.Chained.{Chained}
-use Rattle.table.specs.declared.Chained.TheVariants as chained
 use Rattle.table.specs.Link.{link_at}
 
 -- what a walk of the table does: at a refusal, at a free chunk, at a linked one, at the end
@@ -30,11 +25,11 @@ pub record TableVisit (S R : Type 0) : Type 0 where
   pub linked : ℕ → Link → S → S
   pub done : S → R
 
-abbrev pub on_link : {S R : Type 0} → TableVisit S R → ℕ → S → LinkAt → Visit S R
-on_link v i s (link.Refused e) = stop (v.refuse e s)
-on_link v i s link.Past = next s
-on_link v i s link.Free = next (v.free i s)
-on_link v i s (link.Linked l) = next (v.linked i l s)
+abbrev pub on_link : {S R : Type 0} → TableVisit S R → ℕ → S → Result LinkAt Error → Visit S R
+on_link v i s (Err e) = stop (v.refuse e s)
+on_link v i s (Ok link.Past) = next s
+on_link v i s (Ok link.Free) = next (v.free i s)
+on_link v i s (Ok (link.Linked l)) = next (v.linked i l s)
 
 -- links in the table's sectors
 abbrev pub links_of : ℕ → ℕ
@@ -48,19 +43,24 @@ over_table v vol m st s = visits (on_link v) (link_at vol m st) v.done (links_of
 abbrev pub sought : ℕ → ℕ → Link → Bool
 sought slot position l = eqb l.slot slot && eqb l.position position
 
+-- a chunk with its link
+abbrev pub place_at : ℕ → Link → Place
+place_at i l = record { chunk = i; link = l }
+
 -- the chunk that has it: of several the last, and without one the table is corrupt
-unfoldable pub locate_step : ℕ → ℕ → ℕ → Link → Place → Place
-locate_step slot position i l s = pick (sought slot position l) (place.At i l) s
+unfoldable pub locate_step : ℕ → ℕ → ℕ → Link → Option Place → Option Place
+locate_step slot position i l s = pick (sought slot position l) (Some (place_at i l)) s
 
-abbrev pub locate_v : ℕ → ℕ → TableVisit Place Place
-locate_v slot position = record { refuse = λ e s. place.Refused e; free = λ i s. s; linked = locate_step slot position; done = λ s. s }
+abbrev pub locate_v : ℕ → ℕ → TableVisit (Option Place) (Result Place Error)
+locate_v slot position =
+    record { refuse = λ e s. Err e; free = λ i s. s; linked = locate_step slot position; done = λ s. ok_or s Corrupt }
 
-unfoldable pub locate_of : List ℕ → Medium → Store → ℕ → ℕ → Place
-locate_of vol m st slot position = over_table (locate_v slot position) vol m st (place.Refused Corrupt)
+unfoldable pub locate_of : List ℕ → Medium → Store → ℕ → ℕ → Result Place Error
+locate_of vol m st slot position = over_table (locate_v slot position) vol m st None
 
 -- the chain of a slot: its count, the chunk of position 0, of several the last, and the first chunk with the largest position
-unfoldable pub first_step : ℕ → Link → Place → Place
-first_step i l s = pick (eqb l.position 0) (place.At i l) s
+unfoldable pub first_step : ℕ → Link → Option Place → Option Place
+first_step i l s = pick (eqb l.position 0) (Some (place_at i l)) s
 
 abbrev pub higher : Link → ChainState → Bool
 higher l s = eqb s.count 0 || ltb s.top l.position
@@ -78,23 +78,23 @@ unfoldable pub chain_step : ℕ → ℕ → Link → ChainState → ChainState
 chain_step slot i l s = pick (eqb l.slot slot) (chain_more i l s) s
 
 -- it passes when some link has position 0 and the largest position is the count - 1
-abbrev pub whole_of : ChainState → Place → Chained
-whole_of s (place.Refused e) = chained.Refused e
-whole_of s (place.At i l) =
+abbrev pub whole_of : ChainState → Option Place → Result ChainParts Error
+whole_of s None = Err Corrupt
+whole_of s (Some p) =
     pick (eqb (s.top + 1) s.count)
-    (chained.Whole (record { count = s.count; first = i; partial = l.partial; records = l.records; last = s.last }))
-    (chained.Refused Corrupt)
+    (Ok (record { count = s.count; first = p.chunk; partial = p.link.partial; records = p.link.records; last = s.last }))
+    (Err Corrupt)
 
-unfoldable pub chain_end : ChainState → Chained
+unfoldable pub chain_end : ChainState → Result ChainParts Error
 chain_end s = whole_of s s.first
 
 abbrev pub no_chain : ChainState
-no_chain = record { count = 0; first = place.Refused Corrupt; top = 0; last = 0 }
+no_chain = record { count = 0; first = None; top = 0; last = 0 }
 
-abbrev pub chain_v : ℕ → TableVisit ChainState Chained
-chain_v slot = record { refuse = λ e s. chained.Refused e; free = λ i s. s; linked = chain_step slot; done = chain_end }
+abbrev pub chain_v : ℕ → TableVisit ChainState (Result ChainParts Error)
+chain_v slot = record { refuse = λ e s. Err e; free = λ i s. s; linked = chain_step slot; done = chain_end }
 
-unfoldable pub chain_of : List ℕ → Medium → Store → ℕ → Chained
+unfoldable pub chain_of : List ℕ → Medium → Store → ℕ → Result ChainParts Error
 chain_of vol m st slot = over_table (chain_v slot) vol m st no_chain
 
 -- chunks from the cursor on to a chunk, going round
@@ -102,22 +102,20 @@ unfoldable pub distance_of : ℕ → ℕ → ℕ → ℕ
 distance_of cursor chunks i = (i + (chunks - cursor)) % chunks
 
 -- the free chunk that is nearest so
-unfoldable pub free_step : ℕ → ℕ → ℕ → Pick → Pick
-free_step cursor chunks i (free.Refused e) = free.Refused e
-free_step cursor chunks i free.Nothing = free.At i
-free_step cursor chunks i (free.At b) = pick (ltb (distance_of cursor chunks i) (distance_of cursor chunks b)) (free.At i) (free.At b)
+unfoldable pub free_step : ℕ → ℕ → ℕ → Option ℕ → Option ℕ
+free_step cursor chunks i None = Some i
+free_step cursor chunks i (Some b) = pick (ltb (distance_of cursor chunks i) (distance_of cursor chunks b)) (Some i) (Some b)
 
-abbrev pub free_v : ℕ → ℕ → TableVisit Pick Pick
-free_v cursor chunks = record { refuse = λ e s. free.Refused e; free = free_step cursor chunks; linked = λ i l s. s; done = λ s. s }
+abbrev pub free_v : ℕ → ℕ → TableVisit (Option ℕ) (Result (Option ℕ) Error)
+free_v cursor chunks = record { refuse = λ e s. Err e; free = free_step cursor chunks; linked = λ i l s. s; done = Ok }
 
-unfoldable pub walk_free_of : List ℕ → Medium → Store → Pick
-walk_free_of vol m st = over_table (free_v st.head.cursor st.head.chunks) vol m st free.Nothing
+unfoldable pub walk_free_of : List ℕ → Medium → Store → Result (Option ℕ) Error
+walk_free_of vol m st = over_table (free_v st.head.cursor st.head.chunks) vol m st None
 
 -- a pick, if there is one, lies before chunk i
-abbrev pub Before : ℕ → Pick → Type 0
-Before i (free.Refused e) = Unit
-Before i free.Nothing = Unit
-Before i (free.At b) = b < i
+abbrev pub Before : ℕ → Option ℕ → Type 0
+Before i None = Unit
+Before i (Some b) = b < i
 
 -- the chunks linked to each slot, added to the counts; a refusal keeps what was counted before it
 pub record Counted : Type 0 where
@@ -138,15 +136,15 @@ count_of vol m st counts = over_table count_v vol m st counts
 
 -- ---- decisions by what a walk answers. They stay shut in proofs
 
-unfoldable pub on_place : {A : Type 0} → Place → (Error → A) → (ℕ → Link → A) → A
-on_place (place.Refused e) f g = f e
-on_place (place.At chunk l) f g = g chunk l
+unfoldable pub on_place : {A : Type 0} → Result Place Error → (Error → A) → (ℕ → Link → A) → A
+on_place (Err e) f g = f e
+on_place (Ok p) f g = g p.chunk p.link
 
-unfoldable pub on_chain : {A : Type 0} → Chained → (Error → A) → (ChainParts → A) → A
-on_chain (chained.Refused e) f g = f e
-on_chain (chained.Whole p) f g = g p
+unfoldable pub on_chain : {A : Type 0} → Result ChainParts Error → (Error → A) → (ChainParts → A) → A
+on_chain (Err e) f g = f e
+on_chain (Ok p) f g = g p
 
-unfoldable pub on_pick : {A : Type 0} → Pick → (Error → A) → A → (ℕ → A) → A
-on_pick (free.Refused e) f a g = f e
-on_pick free.Nothing f a g = a
-on_pick (free.At chunk) f a g = g chunk
+unfoldable pub on_pick : {A : Type 0} → Result (Option ℕ) Error → (Error → A) → A → (ℕ → A) → A
+on_pick (Err e) f a g = f e
+on_pick (Ok None) f a g = a
+on_pick (Ok (Some chunk)) f a g = g chunk

@@ -25,22 +25,23 @@ pub struct Link {
 // What the table says of a chunk; `Past`: a zero link past the last chunk.
 #[derive(Clone, Copy)]
 pub enum LinkAt {
-    Refused(Error),
     Past,
     Free,
     Linked(Link),
 }
 
 // The second number of a link: the position, and the mark of a partial chunk.
+#[tactic(auto, unfolding(crate::specs::Link::place_of, le::specs::Choice::pick))]
 fn marked(link: Link) -> u16
     requires { link.position < 32768 }
     ensures { result ≡ place_of link }
 {
     let position = link.position as u16;
     if link.partial {
-        return position + 32768;
+        position + 32768
+    } else {
+        position
     }
-    position
 }
 
 // Writes the link of `chunk` in its sector of the table.
@@ -50,9 +51,8 @@ pub fn put_link(sector: &mut [u8], chunk: u32, link: Link)
 {
     let at = 4 * ((chunk % 128) as usize);
     let owner = ((link.slot as u32) + 1 + 128 * link.records) as u16;
-    let second = marked(link);
     le::put_u16(sector, at, owner);
-    le::put_u16(sector, at + 2, second);
+    le::put_u16(sector, at + 2, marked(link));
 }
 
 // Zeroes the link at `i` where its owner is `slot`; nothing else of the link is looked at.
@@ -61,10 +61,9 @@ fn clear_link(sector: &mut [u8], slot: usize, i: usize)
     ensures { sector.new ≡ clear_link slot i sector.old }
 {
     let owner = le::get_u16(sector, 4 * i);
-    if ((owner % 128) as usize) != slot + 1 {
-        return;
+    if ((owner % 128) as usize) == slot + 1 {
+        runs::put_zeros(sector, 4 * i, 4);
     }
-    runs::put_zeros(sector, 4 * i, 4);
 }
 
 // Zeroes every link of `slot` in a sector of the table.
@@ -78,50 +77,45 @@ pub fn clear_links(sector: &mut [u8], slot: usize)
 }
 
 // A link's two numbers, of a chunk inside the store or past its last.
-fn link_of(owner: u16, place: u16, inside: bool, size: u32) -> LinkAt
+#[tactic(auto, unfolding(crate::specs::Link::link_of, crate::specs::Link::link_fits, le::specs::Choice::pick))]
+fn link_of(owner: u16, place: u16, inside: bool, size: u32) -> Result<LinkAt, Error>
     ensures { result ≡ link_of owner place inside size }
 {
-    if (owner == 0) & (place == 0) {
-        if inside {
-            return LinkAt::Free;
-        }
-        return LinkAt::Past;
+    if owner == 0 && place == 0 {
+        return Ok(if inside { LinkAt::Free } else { LinkAt::Past });
     }
     let low = owner % 128;
     let records = (owner / 128) as u32;
     let partial = 32768 <= place;
-    let fits = ((1 <= low) & (low <= 64)) & ((records < size) & (partial | (records == 0)));
-    if inside & fits {
-        return LinkAt::Linked(Link {
+    let fits = 1 <= low && low <= 64 && (records < size) && (partial || records == 0);
+    if inside && fits {
+        Ok(LinkAt::Linked(Link {
             slot: (low - 1) as usize,
             position: (place % 32768) as u32,
             partial,
             records,
-        });
+        }))
+    } else {
+        Err(Error::Corrupt)
     }
-    LinkAt::Refused(Error::Corrupt)
 }
 
 // What the table says of `chunk`.
-pub fn link_at(volume: &[u8], medium: Medium, store: Store, chunk: u32) -> LinkAt
+pub fn link_at(volume: &[u8], medium: Medium, store: Store, chunk: u32) -> Result<LinkAt, Error>
     requires { (64 ≤ sectors_of volume.now) × (chunk < 2048) }
     ensures { result ≡ link_at volume.now medium store chunk }
 {
-    let o = handles::due(
+    handles::due(
         store,
         volume,
         medium,
         chunk % 128 == 0,
         8 + (chunk / 128) as usize,
-    );
-    if let Err(e) = o {
-        return LinkAt::Refused(e);
-    }
-    let h = store.head;
+    )?;
     let at = 512 * ((handles::base(store.copy) + 9) as usize) + 4 * (chunk as usize);
     let owner = le::get_u16(volume, at);
     let place = le::get_u16(volume, at + 2);
-    link_of(owner, place, chunk < h.chunks, h.chunk)
+    link_of(owner, place, chunk < store.head.chunks, store.head.chunk)
 }
 
 // Whether the link of `chunk` has `slot` as its owner; nothing else of the link is looked at. A commit that finishes has read and checked the sector.
@@ -144,45 +138,38 @@ fn links(chunks: u32) -> u32
 
 // The chunk that is linked to a slot at a position, with its link.
 #[derive(Clone, Copy)]
-pub enum Place {
-    Refused(Error),
-    At { chunk: u32, link: Link },
+pub struct Place {
+    pub chunk: u32,
+    pub link: Link,
 }
 
 // The chunk of `slot` at `position`; where several are, the highest.
-pub fn locate(volume: &[u8], medium: Medium, store: Store, slot: usize, position: u32) -> Place
+pub fn locate(
+    volume: &[u8],
+    medium: Medium,
+    store: Store,
+    slot: usize,
+    position: u32,
+) -> Result<Place, Error>
     requires { (64 ≤ sectors_of volume.now) × (store.head.chunks ≤ 2048) }
     ensures { result ≡ locate_of volume.now medium store slot position }
 {
-    let h = store.head;
-    let n = links(h.chunks);
-    let mut found = Place::Refused(Error::Corrupt);
-    let mut next: u32 = 0;
-    while next < n {
-        let i = next;
-        let e = link_at(volume, medium, store, i);
-        next += 1;
-        match e {
-            LinkAt::Refused(c) => {
-                return Place::Refused(c);
-            }
-            LinkAt::Past => {}
-            LinkAt::Free => {}
-            LinkAt::Linked(l) => {
-                if (l.slot == slot) & (l.position == position) {
-                    found = Place::At { chunk: i, link: l };
-                }
+    let mut found = None;
+    for chunk in 0..links(store.head.chunks) {
+        if let LinkAt::Linked(link) = link_at(volume, medium, store, chunk)? {
+            if link.slot == slot && link.position == position {
+                found = Some(Place { chunk, link });
             }
         }
     }
-    found
+    found.ok_or(Error::Corrupt)
 }
 
 // What a walk has seen of a slot's chain: how many chunks, the chunk of position 0, the largest position and the lowest chunk that has it.
 #[derive(Clone, Copy)]
 pub struct ChainState {
     pub count: u32,
-    pub first: Place,
+    pub first: Option<Place>,
     pub top: u32,
     pub last: u32,
 }
@@ -197,132 +184,87 @@ pub struct ChainParts {
     pub last: u32,
 }
 
-#[derive(Clone, Copy)]
-pub enum Chained {
-    Refused(Error),
-    Whole(ChainParts),
-}
-
 // The chunk of position 0 so far, after chunk `i` with the link `l`.
-fn first_step(i: u32, l: Link, first: Place) -> Place
+#[tactic(auto, unfolding(crate::specs::Table::first_step, le::specs::Choice::pick))]
+fn first_step(i: u32, l: Link, first: Option<Place>) -> Option<Place>
     ensures { result ≡ first_step i l first }
 {
     if l.position == 0 {
-        return Place::At { chunk: i, link: l };
+        Some(Place { chunk: i, link: l })
+    } else {
+        first
     }
-    first
 }
 
 // The chain so far, after its chunk `i` with the link `l`.
+#[tactic(auto, unfolding(crate::specs::Table::chain_more, le::specs::Choice::pick))]
 fn chain_step(i: u32, l: Link, s: ChainState) -> ChainState
     requires { s.count < 2048 }
     ensures { result ≡ chain_more i l s }
 {
-    let f = s.first;
-    let first = first_step(i, l, f);
+    let first = first_step(i, l, s.first);
     let count = s.count + 1;
-    if (s.count == 0) | (s.top < l.position) {
-        return ChainState {
+    if s.count == 0 || (s.top < l.position) {
+        ChainState {
             count,
             first,
             top: l.position,
             last: i,
-        };
-    }
-    ChainState {
-        count,
-        first,
-        top: s.top,
-        last: s.last,
+        }
+    } else {
+        ChainState { count, first, ..s }
     }
 }
 
 // Whether the chunks seen are a chain.
-fn chain_end(s: ChainState) -> Chained
+#[tactic(auto, unfolding(crate::specs::Table::chain_end, le::specs::Choice::pick))]
+fn chain_end(s: ChainState) -> Result<ChainParts, Error>
     ensures { result ≡ chain_end s }
 {
-    let f = s.first;
-    match f {
-        Place::Refused(e) => Chained::Refused(e),
-        Place::At { chunk, link } => {
-            if (s.top as u64) + 1 != s.count as u64 {
-                return Chained::Refused(Error::Corrupt);
-            }
-            Chained::Whole(ChainParts {
-                count: s.count,
-                first: chunk,
-                partial: link.partial,
-                records: link.records,
-                last: s.last,
-            })
-        }
+    let Place { chunk, link } = s.first.ok_or(Error::Corrupt)?;
+    if (s.top as u64) + 1 != s.count as u64 {
+        return Err(Error::Corrupt);
     }
+    Ok(ChainParts {
+        count: s.count,
+        first: chunk,
+        partial: link.partial,
+        records: link.records,
+        last: s.last,
+    })
 }
 
 // The chain of `slot`.
-pub fn chain(volume: &[u8], medium: Medium, store: Store, slot: usize) -> Chained
+pub fn chain(volume: &[u8], medium: Medium, store: Store, slot: usize) -> Result<ChainParts, Error>
     requires { (64 ≤ sectors_of volume.now) × (store.head.chunks ≤ 2048) }
     ensures { result ≡ chain_of volume.now medium store slot }
 {
-    let h = store.head;
-    let n = links(h.chunks);
     let mut s = ChainState {
         count: 0,
-        first: Place::Refused(Error::Corrupt),
+        first: None,
         top: 0,
         last: 0,
     };
-    let mut next: u32 = 0;
-    while next < n {
-        let i = next;
-        let e = link_at(volume, medium, store, i);
-        next += 1;
-        match e {
-            LinkAt::Refused(c) => {
-                return Chained::Refused(c);
-            }
-            LinkAt::Past => {}
-            LinkAt::Free => {}
-            LinkAt::Linked(l) => {
-                if l.slot == slot {
-                    s = chain_step(i, l, s);
-                }
+    for i in 0..links(store.head.chunks) {
+        if let LinkAt::Linked(l) = link_at(volume, medium, store, i)? {
+            if l.slot == slot {
+                s = chain_step(i, l, s);
             }
         }
     }
     chain_end(s)
 }
 
-// A free chunk.
-#[derive(Clone, Copy)]
-pub enum Pick {
-    Refused(Error),
-    Nothing,
-    At(u32),
-}
-
-// How many chunks are free.
-#[derive(Clone, Copy)]
-pub enum FreeCount {
-    Refused(Error),
-    Is(u32),
-}
-
 // The nearer of the best free chunk so far and the free chunk `i` after it. Of two chunks in order the later is nearer only where the
 // cursor lies between them, so no distance is computed.
-fn free_step(cursor: u32, chunks: u32, i: u32, best: Pick) -> Pick
+#[tactic(auto, using(crate::proofs::Nearest::later_near, crate::proofs::Nearest::later_far), unfolding(crate::specs::Table::free_step))]
+fn free_step(cursor: u32, chunks: u32, i: u32, best: Option<u32>) -> Option<u32>
     requires { (cursor < chunks) × (i < chunks) × Before i best }
     ensures { result ≡ free_step cursor chunks i best }
 {
     match best {
-        Pick::Refused(e) => Pick::Refused(e),
-        Pick::Nothing => Pick::At(i),
-        Pick::At(b) => {
-            if (b < cursor) & (cursor <= i) {
-                return Pick::At(i);
-            }
-            Pick::At(b)
-        }
+        Some(b) if cursor <= b || i < cursor => Some(b),
+        _ => Some(i),
     }
 }
 
@@ -332,22 +274,9 @@ pub fn count(volume: &[u8], medium: Medium, store: Store, counts: &mut [u16]) ->
     ensures { (result ≡ (count_of volume.now medium store counts.old).outcome)
         × (counts.new ≡ (count_of volume.now medium store counts.old).counts) }
 {
-    let h = store.head;
-    let n = links(h.chunks);
-    let mut next: u32 = 0;
-    while next < n {
-        let e = link_at(volume, medium, store, next);
-        next += 1;
-        match e {
-            LinkAt::Refused(c) => {
-                return Err(c);
-            }
-            LinkAt::Past => {}
-            LinkAt::Free => {}
-            LinkAt::Linked(l) => {
-                let s = l.slot;
-                counts[s] = counts[s] + 1;
-            }
+    for chunk in 0..links(store.head.chunks) {
+        if let LinkAt::Linked(link) = link_at(volume, medium, store, chunk)? {
+            counts[link.slot] += 1;
         }
     }
     Ok(())

@@ -1,4 +1,5 @@
 -- What the views have of a finished commit, whatever its edit: the sectors edited, an entry and a link put into them, and the numbers. Assumes nothing.
+use Rattle.std.specs.Prelude.{Ok}
 use mathlib.Core.Path.{◌≡◌, refl, ap, ◌∙◌}
 use mathlib.Core.Logic.{◌≢◌}
 use mathlib.Core.List.{List}
@@ -109,7 +110,7 @@ module _ {edit : Edit} {name vol : List ℕ} {st : Store} {v : List ℕ} {t : St
   same_records = records_stay vol st v t same_id same_shape.size done.rest
 
   -- a link made, and a link as it was
-  pub linked_now : (c : ℕ) (l : Link) → Sound l st.head.chunk → c < st.head.chunks → link_part v t c ≡ link_bytes l → link_view v t c ≡ link.Linked l
+  pub linked_now : (c : ℕ) (l : Link) → Sound l st.head.chunk → c < st.head.chunks → link_part v t c ≡ link_bytes l → link_view v t c ≡ Ok (link.Linked l)
   linked_now c l sound h e =
       link_shown v t c l (rw same_shape.size sound) (rw same_shape.size sane.size_most) (rw same_shape.chunks h) e
 

@@ -1,4 +1,5 @@
 -- A finished commit of create, and of extending, seen through the views. Assumes nothing.
+use Rattle.std.specs.Prelude.{Ok}
 use mathlib.Core.Path.{◌≡◌, refl, sym, ap, ◌∙◌}
 use mathlib.Core.Logic.{◌≢◌}
 use mathlib.Core.Bool.{Bool, true, false, true≢false}
@@ -78,7 +79,7 @@ module _ {slot id chunk : ℕ} {name vol : List ℕ} {st : Store} {v : List ℕ}
       ∙ link_apart k (entered k) (entered_whole c h) chunk (plain_link slot 0) (4 * (c % 128)) 4 (λ e q. omega (arith, n))
       ∙ entry_apart k (old k) whole slot (entry_bytes name id) made (4 * (c % 128)) 4 (λ e q. omega arith)
 
-  pub created_link : link_view v t chunk ≡ link.Linked (plain_link slot 0)
+  pub created_link : link_view v t chunk ≡ Ok (link.Linked (plain_link slot 0))
   created_link = linked_now sane done chunk (plain_link slot 0) (record { slot = hs; position = omega arith; records = sane.size_least; whole = λ q. refl }) hc link_made_there
 
   pub created_links : (c : ℕ) → c < links_of st.head.chunks → c ≢ chunk → link_view v t c ≡ link_view vol st c
@@ -147,7 +148,7 @@ module _ {slot position next last : ℕ} {partial : Bool} {records : ℕ} {name 
   links_linked c h n = links_marked c h ∙ mark_apart (8 + c / 128) (4 * (c % 128)) 4 (omega arith) (λ q e r. let x : c ≢ last = n q in omega (arith, x))
 
   -- the new link, and the others but for the one that is marked
-  pub new_now : (partial ≡ true → next ≢ last) → link_view v t next ≡ link.Linked new
+  pub new_now : (partial ≡ true → next ≢ last) → link_view v t next ≡ Ok (link.Linked new)
   new_now n =
       let k : ℕ = 8 + next / 128 in
       linked_now sane done next new (record { slot = hs; position = hp; records = sane.size_least; whole = λ q. refl }) hn
@@ -161,7 +162,7 @@ module _ {slot position next last : ℕ} {partial : Bool} {records : ℕ} {name 
       (links_linked c h m ∙ link_apart k (body k) (body_whole k (omega arith)) next new (4 * (c % 128)) 4 (λ e q. omega (arith, n)))
 
   -- the mark on the last chunk before, where there is one
-  pub mark_now : partial ≡ true → records < st.head.chunk → link_view v t last ≡ link.Linked mark
+  pub mark_now : partial ≡ true → records < st.head.chunk → link_view v t last ≡ Ok (link.Linked mark)
   mark_now q hr =
       let k : ℕ = 8 + last / 128 in
       linked_now sane done last mark (record { slot = hs; position = omega arith; records = hr; whole = λ f. absurd (true≢false f) }) hl
@@ -173,7 +174,7 @@ module _ {slot position next last : ℕ} {partial : Bool} {records : ℕ} {name 
     new_of : is_of slot (link_view v t next) ≡ true
     new_of = case next last (λ e. go partial refl (λ q. ap (link_view v t) e ∙ mark_now q (few q))) (λ e. is_of_lem slot (new_now (λ _. e)) refl)
       where
-        go : (p : Bool) → partial ≡ p → (partial ≡ true → link_view v t next ≡ link.Linked mark) → is_of slot (link_view v t next) ≡ true
+        go : (p : Bool) → partial ≡ p → (partial ≡ true → link_view v t next ≡ Ok (link.Linked mark)) → is_of slot (link_view v t next) ≡ true
         go true q f = is_of_lem slot (f q) refl
         go false q f = is_of_lem slot (new_now (λ y. absurd (true≢false (sym y ∙ q)))) refl
 
@@ -181,14 +182,14 @@ module _ {slot position next last : ℕ} {partial : Bool} {records : ℕ} {name 
     still_of c h n own =
         case c last (λ e. go partial refl (λ q. ap (link_view v t) e ∙ mark_now q (few q))) (λ e. ap (is_of slot) (links_same c (omega arith) n (λ _. e)) ∙ own)
       where
-        go : (p : Bool) → partial ≡ p → (partial ≡ true → link_view v t c ≡ link.Linked mark) → is_of slot (link_view v t c) ≡ true
+        go : (p : Bool) → partial ≡ p → (partial ≡ true → link_view v t c ≡ Ok (link.Linked mark)) → is_of slot (link_view v t c) ≡ true
         go true q f = is_of_lem slot (f q) refl
         go false q f = ap (is_of slot) (links_same c (omega arith) n (λ y. absurd (true≢false (sym y ∙ q)))) ∙ own
 
-    pub extended_more : link_view vol st next ≡ link.Free → linked_to (disk_of vol st) slot + 1 ≤ linked_to (disk_of v t) slot
+    pub extended_more : link_view vol st next ≡ Ok link.Free → linked_to (disk_of vol st) slot + 1 ≤ linked_to (disk_of v t) slot
     extended_more unused = linked_more (disk_of vol st) (disk_of v t) slot (same_shape sane done).chunks next hn (free_of_lem slot unused) new_of still_of
 
-  extended : {m : Link} → next ≢ last → link_view v t last ≡ link.Linked m → Extended (disk_of vol st) (disk_of v t) next last new m
+  extended : {m : Link} → next ≢ last → link_view v t last ≡ Ok (link.Linked m) → Extended (disk_of vol st) (disk_of v t) next last new m
   unfolding next_after
   extended other e =
       record {
@@ -205,6 +206,6 @@ module _ {slot position next last : ℕ} {partial : Bool} {records : ℕ} {name 
       → Extended (disk_of vol st) (disk_of v t) next last (plain_link slot (position + 1)) (record { slot = slot; position = position; partial = true; records = records })
   extended_partial other q hr = extended other (mark_now q hr)
 
-  pub extended_full : {m : Link} → next ≢ last → partial ≡ false → (disk_of vol st).link last ≡ link.Linked m
+  pub extended_full : {m : Link} → next ≢ last → partial ≡ false → (disk_of vol st).link last ≡ Ok (link.Linked m)
       → Extended (disk_of vol st) (disk_of v t) next last (plain_link slot (position + 1)) m
   extended_full other q e = extended other (links_same last (omega arith) (λ y. other (sym y)) (λ y. absurd (true≢false (sym y ∙ q))) ∙ e)

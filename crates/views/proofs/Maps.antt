@@ -1,5 +1,6 @@
 -- S-3: after a finished commit the map tells the new body's table, where it told the old one's: the edit moves the bits of the links that it changes.
 -- Assumes nothing.
+use Rattle.std.specs.Prelude.{Result, Ok, Err}
 use Prim.Native.Nat.{ℕ, ◌+◌, ◌*◌, ◌/◌, ◌%◌, ◌<◌, ◌≤◌}
 use mathlib.Core.Path.{◌≡◌, refl, sym, ap, ◌∙◌, subst}
 use mathlib.Core.Logic.{◌≢◌}
@@ -44,22 +45,22 @@ use Rattle.views.proofs.Makes.{created_link, created_links, new_now, links_same,
 use Rattle.views.proofs.Removes.{links_cleared}
 
 -- what is told of a link: it is not refused, and its bit is b
-abbrev Told : LinkAt → Bool → Type 0
-Told x b = ((e : Error) → x ≡ link.Refused e → ⊥) × (b ≡ is_free x)
+abbrev Told : Result LinkAt Error → Bool → Type 0
+Told x b = ((e : Error) → x ≡ Err e → ⊥) × (b ≡ is_free x)
 
 -- a chunk that is linked, whatever its bit was
-linked_told : {x : LinkAt} {l : Link} (b t : Bool) → x ≡ link.Linked l → t ≡ true → Told x (b && not t)
+linked_told : {x : Result LinkAt Error} {l : Link} (b t : Bool) → x ≡ Ok (link.Linked l) → t ≡ true → Told x (b && not t)
 unfolding is_free
 linked_told {x} {l} b t q e = (λ r z. no_link (sym q ∙ z), rw (q, e) (and-false b))
   where
-    no_link : {r : Error} → link.Linked l ≡ link.Refused r → ⊥
+    no_link : {r : Error} → ◌≡◌ {A = Result LinkAt Error} (Ok (link.Linked l)) (Err r) → ⊥
     no_link z = let n : ◌≡◌ {A = ℕ} 0 1 = cc in omega arith
 
 -- one that stays as it was
-same_told : {x y : LinkAt} (b t : Bool) → x ≡ y → t ≡ false → Told y b → Told x (b && not t)
+same_told : {x y : Result LinkAt Error} (b t : Bool) → x ≡ y → t ≡ false → Told y b → Told x (b && not t)
 same_told b t q e h = (λ r z. h.0 r (sym q ∙ z), rw (q, e) (and-true b ∙ h.1))
 
-free_link : {e : Error} → link.Free ≡ link.Refused e → ⊥
+free_link : {e : Error} → ◌≡◌ {A = Result LinkAt Error} (Ok link.Free) (Err e) → ⊥
 free_link z = let n : ◌≡◌ {A = ℕ} 0 1 = cc in omega arith
 
 -- an edit whose numbers are those of the store, and whose mark has fewer records than the chunk
@@ -70,7 +71,7 @@ Fitting st (Extend slot position next last partial records) =
     (slot < 64) × (position + 1 < 32768) × (next < st.head.chunks) × (last < st.head.chunks) × (partial ≡ true → records < st.head.chunk)
 Fitting st (Remove slot) = slot < 64
 
-past_link : {e : Error} → link.Past ≡ link.Refused e → ⊥
+past_link : {e : Error} → ◌≡◌ {A = Result LinkAt Error} (Ok link.Past) (Err e) → ⊥
 past_link z = let n : ◌≡◌ {A = ℕ} 0 1 = cc in omega arith
 
 module _ (name vol : List ℕ) (st : Store) (v : List ℕ) (t : Store) (sane : Sane st.head (sectors_of vol)) where
@@ -114,15 +115,15 @@ module _ (name vol : List ℕ) (st : Store) (v : List ℕ) (t : Store) (sane : S
         was : link_part v t c ≡ pick (owned_by slot (link_part vol st c)) (zeros 4) (link_part vol st c)
         was = links_cleared sane done hs c h
 
-        zeroed : owned_by slot (link_part vol st c) ≡ true → (b : Bool) → ltb c st.head.chunks ≡ b → link_view v t c ≡ pick b link.Free link.Past
+        zeroed : owned_by slot (link_part vol st c) ≡ true → (b : Bool) → ltb c st.head.chunks ≡ b → link_view v t c ≡ pick b (Ok link.Free) (Ok link.Past)
         zeroed q b e =
             ap (λ (x : List ℕ). link_in x (ltb c t.head.chunks) t.head.chunk) (was ∙ pick_true _ _ q)
-            ∙ link_zero (ltb c t.head.chunks) t.head.chunk ∙ ap (λ (x : Bool). pick x link.Free link.Past) (ap (ltb c) (same_shape sane done).chunks ∙ e)
+            ∙ link_zero (ltb c t.head.chunks) t.head.chunk ∙ ap (λ (x : Bool). pick x (Ok link.Free) (Ok link.Past)) (ap (ltb c) (same_shape sane done).chunks ∙ e)
 
         go : (o b : Bool) → owned_by slot (link_part vol st c) ≡ o → ltb c st.head.chunks ≡ b → Told (link_view v t c) (bit c || (b && o))
-        go true true q e = let f : link_view v t c ≡ link.Free = zeroed q true e ∙ pick_true _ _ refl in (λ r z. free_link (sym f ∙ z), or-true (bit c) ∙ sym (ap is_free f))
+        go true true q e = let f : link_view v t c ≡ Ok link.Free = zeroed q true e ∙ pick_true _ _ refl in (λ r z. free_link (sym f ∙ z), or-true (bit c) ∙ sym (ap is_free f))
         go true false q e =
-            let f : link_view v t c ≡ link.Past = zeroed q false e ∙ pick_false _ _ refl in
+            let f : link_view v t c ≡ Ok link.Past = zeroed q false e ∙ pick_false _ _ refl in
             (λ r z. past_link (sym f ∙ z), or-false (bit c) ∙ (before c h).1 ∙ outside vol st c (ltb-false _ _ e) ∙ sym (ap is_free f))
         go false b q e =
             let f : link_view v t c ≡ link_view vol st c = link_same sane done c (was ∙ pick_false _ _ q) in
@@ -193,7 +194,7 @@ zeroed_mapped vol st body most full _ = record { sound = λ c h e q. absurd (ref
     marked : (c : ℕ) → c < st.head.chunks → marks st.free.words c ≡ true
     marked c h = ap (λ (x : FreeMap). marks x.words c) full ∙ marks_words _ c (omega arith) ∙ lt-ltb c st.head.chunks h
 
-    refused : (c : ℕ) → c < links_of st.head.chunks → (e : Error) → link_view vol st c ≡ link.Refused e → ⊥
+    refused : (c : ℕ) → c < links_of st.head.chunks → (e : Error) → link_view vol st c ≡ Err e → ⊥
     refused c h e q = go (ltb c st.head.chunks) refl
       where
         go : (b : Bool) → ltb c st.head.chunks ≡ b → ⊥

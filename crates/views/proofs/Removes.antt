@@ -1,4 +1,5 @@
 -- A finished commit of a file's removal seen through the views: the links of its slot are free, and no others change. Assumes nothing.
+use Rattle.std.specs.Prelude.{Ok, Err}
 use mathlib.Core.Path.{◌≡◌, refl, ap, ◌∙◌}
 use mathlib.Core.Logic.{◌≢◌, ◌⊎◌, ⊎_elim}
 use mathlib.Core.Bool.{Bool, true, false}
@@ -70,18 +71,18 @@ module _ {slot : ℕ} {name vol : List ℕ} {st : Store} {v : List ℕ} {t : Sto
       ap (is_of s) (link_same sane done c (links_cleared c (omega arith) ∙ pick_false _ _ other)) ∙ own)
 
   -- no link is refused: inside the store it is free or a file's, and past the last chunk it is zero
-  module _ (either : (c : ℕ) → c < st.head.chunks → ((disk_of vol st).link c ≡ link.Free) ⊎ ((l : Link) × ((disk_of vol st).link c ≡ link.Linked l)))
-      (past : (c : ℕ) → st.head.chunks ≤ c → c < links_of st.head.chunks → (disk_of vol st).link c ≡ link.Past) where
-    passes : (c : ℕ) → c < links_of st.head.chunks → (e : Error) → link_view vol st c ≡ link.Refused e → ⊥
+  module _ (either : (c : ℕ) → c < st.head.chunks → ((disk_of vol st).link c ≡ Ok link.Free) ⊎ ((l : Link) × ((disk_of vol st).link c ≡ Ok (link.Linked l))))
+      (past : (c : ℕ) → st.head.chunks ≤ c → c < links_of st.head.chunks → (disk_of vol st).link c ≡ Ok link.Past) where
+    passes : (c : ℕ) → c < links_of st.head.chunks → (e : Error) → link_view vol st c ≡ Err e → ⊥
     passes c h e q = go (ltb c st.head.chunks) refl
       where
         go : (b : Bool) → ltb c st.head.chunks ≡ b → ⊥
         go true i =
             ⊎_elim
-            (λ (f : link_view vol st c ≡ link.Free). let z : ◌≡◌ {A = ℕ} 0 1 = cc in omega arith)
-            (λ (f : (l : Link) × (link_view vol st c ≡ link.Linked l)). let g : link_view vol st c ≡ link.Linked f.0 = f.1 in let z : ◌≡◌ {A = ℕ} 0 1 = cc in omega arith)
+            (λ (f : link_view vol st c ≡ Ok link.Free). let z : ◌≡◌ {A = ℕ} 0 1 = cc in omega arith)
+            (λ (f : (l : Link) × (link_view vol st c ≡ Ok (link.Linked l))). let g : link_view vol st c ≡ Ok (link.Linked f.0) = f.1 in let z : ◌≡◌ {A = ℕ} 0 1 = cc in omega arith)
             (either c (ltb-true c st.head.chunks i))
-        go false i = let f : link_view vol st c ≡ link.Past = past c (ltb-false c st.head.chunks i) h in let z : ◌≡◌ {A = ℕ} 0 1 = cc in omega arith
+        go false i = let f : link_view vol st c ≡ Ok link.Past = past c (ltb-false c st.head.chunks i) h in let z : ◌≡◌ {A = ℕ} 0 1 = cc in omega arith
 
     owned_same : (c : ℕ) → c < links_of st.head.chunks → owned_by slot (link_part vol st c) ≡ is_of slot ((disk_of vol st).link c)
     owned_same c h = owned_shown vol st c slot (passes c h)

@@ -1,4 +1,5 @@
 -- What the bytes of an entry, a link and a record show in the views: of those made, of zeros, and of those found. Assumes nothing.
+use Rattle.std.specs.Prelude.{Result, Ok, Err}
 use mathlib.Core.Path.{◌≡◌, refl, ◌∙◌}
 use mathlib.Core.Bool.{Bool, true, false}
 use mathlib.Core.List.{List}
@@ -10,9 +11,9 @@ use lib.Dec.{eqb, eqb-suc-suc}
 use lib.ListN.{length}
 use Rattle.le.specs.Part.{zeros}
 use Rattle.le.proofs.Choices.{pick_true, pick_false}
+use Rattle.medium.specs.declared.Error.{Error}
 use Rattle.names.specs.Names.{name_ok}
 use Rattle.names.proofs.Laws.{name_short}
-use Rattle.medium.specs.declared.Error.{Error}
 use Rattle.handles.specs.declared.Store.{Store}
 use Rattle.directory.specs.Entry.{entry_bytes, entry_of}
 use Rattle.directory.proofs.Entries.{entry_made, entry_name, entry_cleared}
@@ -43,27 +44,27 @@ entry_vacant = rw entry_cleared
 -- ---- a link
 
 -- whose link it is: the low 7 bits say it, but where the link is refused
-owned_said : (slot : ℕ) {low : ℕ} {inside : Bool} {size : ℕ} (x : LinkAt) → Said low inside size x → ((e : Error) → x ≡ link.Refused e → ⊥) → eqb low (slot + 1) ≡ is_of slot x
+owned_said : (slot : ℕ) {low : ℕ} {inside : Bool} {size : ℕ} (x : Result LinkAt Error) → Said low inside size x → ((e : Error) → x ≡ Err e → ⊥) → eqb low (slot + 1) ≡ is_of slot x
 unfolding is_of
-owned_said slot (link.Refused e) refused passes = absurd (passes e refl)
-owned_said slot {low} link.Past (past z) passes = ne_eqb low (slot + 1) (λ q. omega arith)
-owned_said slot {low} link.Free (free z h) passes = ne_eqb low (slot + 1) (λ q. omega arith)
-owned_said slot (link.Linked l) (linked o h s) passes = rw (o, add-one l.slot, add-one slot) (eqb-suc-suc l.slot slot)
+owned_said slot (Err e) refused passes = absurd (passes e refl)
+owned_said slot {low} (Ok link.Past) (past z) passes = ne_eqb low (slot + 1) (λ q. omega arith)
+owned_said slot {low} (Ok link.Free) (free z h) passes = ne_eqb low (slot + 1) (λ q. omega arith)
+owned_said slot (Ok (link.Linked l)) (linked o h s) passes = rw (o, add-one l.slot, add-one slot) (eqb-suc-suc l.slot slot)
 
 module _ (vol : List ℕ) (st : Store) (c : ℕ) where
-  pub link_shown : (l : Link) → Sound l st.head.chunk → st.head.chunk ≤ 512 → c < st.head.chunks → link_part vol st c ≡ link_bytes l → link_view vol st c ≡ link.Linked l
+  pub link_shown : (l : Link) → Sound l st.head.chunk → st.head.chunk ≤ 512 → c < st.head.chunks → link_part vol st c ≡ link_bytes l → link_view vol st c ≡ Ok (link.Linked l)
   unfolding link_view
   link_shown l s most h e = rw (e, lt-ltb c st.head.chunks h) (link_bytes_lem l st.head.chunk s most)
 
-  pub link_freed : link_part vol st c ≡ zeros 4 → c < st.head.chunks → link_view vol st c ≡ link.Free
+  pub link_freed : link_part vol st c ≡ zeros 4 → c < st.head.chunks → link_view vol st c ≡ Ok link.Free
   unfolding link_view
   link_freed e h = rw (e, lt-ltb c st.head.chunks h) (link_zero true st.head.chunk ∙ pick_true _ _ refl)
 
-  pub link_past : link_part vol st c ≡ zeros 4 → st.head.chunks ≤ c → link_view vol st c ≡ link.Past
+  pub link_past : link_part vol st c ≡ zeros 4 → st.head.chunks ≤ c → link_view vol st c ≡ Ok link.Past
   unfolding link_view
   link_past e h = rw (e, le-ltb c st.head.chunks h) (link_zero false st.head.chunk ∙ pick_false _ _ refl)
 
-  pub owned_shown : (slot : ℕ) → ((e : Error) → link_view vol st c ≡ link.Refused e → ⊥) → owned_by slot (link_part vol st c) ≡ is_of slot (link_view vol st c)
+  pub owned_shown : (slot : ℕ) → ((e : Error) → link_view vol st c ≡ Err e → ⊥) → owned_by slot (link_part vol st c) ≡ is_of slot (link_view vol st c)
   unfolding link_view link_in owned_by
   owned_shown slot passes = owned_said slot (link_view vol st c) (link_said _ _ _ _) passes
 

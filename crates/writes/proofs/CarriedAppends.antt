@@ -1,4 +1,5 @@
 -- Each part of append, sync and create carries more writes through: another chunk, a record, a rollover, a new file. Assumes nothing.
+use Rattle.std.specs.Prelude.{Option, Some, None, Result, Ok, Err}
 use Prim.Native.Nat.{ℕ, zero, suc, ◌+◌, ◌-◌, ◌^◌}
 use mathlib.Core.Path.{refl}
 use mathlib.Core.Bool.{Bool, true, false}
@@ -18,8 +19,6 @@ use Rattle.directory.specs.declared.Looked.{Looked}
 use Rattle.directory.specs.declared.Looked.TheVariants as looked
 use Rattle.directory.specs.Entry.{slot_at}
 use Rattle.directory.specs.Scan.{look_of, on_looked}
-use Rattle.table.specs.declared.Pick.{Pick}
-use Rattle.table.specs.declared.Pick.TheVariants as free
 use Rattle.table.specs.Link.{link_at}
 use Rattle.table.specs.Table.{on_pick, walk_free_of}
 use Rattle.table.specs.Free.{checked_of, free_of}
@@ -85,10 +84,10 @@ module _ {d : ℕ} where
   unfolding free_of walk_free_of checked_of link_at due_of check_of read_of on_pick
   free_carries vol st {f} {n} {g} p q r = given (λ m. free_of vol m st) (λ x m. on_pick x (f m) (n m) (g m)) (λ m. refl) go
     where
-      go : (x : Pick) → Carries d alone handed (λ m. on_pick x (f m) (n m) (g m))
-      go (free.Refused e) = p e
-      go free.Nothing = q
-      go (free.At c) = r c
+      go : (x : Result (Option ℕ) Error) → Carries d alone handed (λ m. on_pick x (f m) (n m) (g m))
+      go (Err e) = p e
+      go (Ok None) = q
+      go (Ok (Some c)) = r c
 
   -- ---- another chunk
 

@@ -1,3 +1,4 @@
+use borrow.Author.Rules.{rules}
 use borrow.Author.Tests.{not-false}
 use borrow.Author.Tests.{not-true}
 use Rattle.std.proofs.Common.{refl}
@@ -35,7 +36,7 @@ make-x-requires c =
       c.requires.1,
       (look_free a.volume.now a.medium a.store a.name.now (told c.look-found.ensures c.in-Done.is)
           (not-false _ c.if-not-seen.false)).below,
-      free_range a.volume.now a.medium a.store (store_facts _ _ c.requires.0).map (told c.free_chunk-p.ensures c.in-At.is),
+      free_range a.volume.now a.medium a.store (store_facts _ _ c.requires.0).map (told c.free_chunk-p.ensures (search rules)),
     )
 
 pub returns-in-Refused : goal.returns-in-Refused
@@ -44,23 +45,23 @@ returns-in-Refused c =
     ended_with c.ended.ensures (settled_by (refl, c.refused.ensures)
     (round_unread a.name.now a.rollover a.volume.now a.medium a.store c.look-found.ensures c.in-Refused.is))
 
-pub returns-in-Refused-p : goal.returns-in-Refused-p
-returns-in-Refused-p c =
+pub returns-in-Err : goal.returns-in-Err
+returns-in-Err c =
     let a = c.args in
-    ended_with c.ended-in-Refused-p.ensures (settled_by (refl, c.refused-in-Refused-p.ensures) (round_untold a.name.now a.rollover a.volume.now a.medium
+    ended_with c.ended-in-Err.ensures (settled_by (refl, c.refused-in-Err.ensures) (round_untold a.name.now a.rollover a.volume.now a.medium
     a.store c.look-found.ensures c.in-Done.is c.if-seen.false (not-false _ c.if-not-seen.false)
-    c.free_chunk-p.ensures c.in-Refused-p.is))
+    c.free_chunk-p.ensures c.in-Err.is))
 
-pub returns-in-Nothing : goal.returns-in-Nothing
-returns-in-Nothing c =
+pub returns-in-Ok-None : goal.returns-in-Ok-None
+returns-in-Ok-None c =
     let a = c.args in
-    turned_as c.roll-in-Nothing.ensures (round_full a.name.now a.rollover a.volume.now a.medium a.store
+    turned_as c.roll-in-Ok-None.ensures (round_full a.name.now a.rollover a.volume.now a.medium a.store
     c.look-found.ensures c.in-Done.is c.if-seen.false (not-false _ c.if-not-seen.false)
-    c.free_chunk-p.ensures c.in-Nothing.is)
+    c.free_chunk-p.ensures (search rules))
 
-pub returns-in-At : goal.returns-in-At
-returns-in-At c =
+pub returns-in-Ok-Some : goal.returns-in-Ok-Some
+returns-in-Ok-Some c =
     let a = c.args in
-    ended_with c.ended-in-At.ensures (settled_by c.make-x.ensures (round_made a.name.now a.rollover a.volume.now a.medium a.store
+    ended_with c.ended-in-Ok-Some.ensures (settled_by c.make-x.ensures (round_made a.name.now a.rollover a.volume.now a.medium a.store
     c.look-found.ensures c.in-Done.is c.if-seen.false (not-false _ c.if-not-seen.false)
-    c.free_chunk-p.ensures c.in-At.is))
+    c.free_chunk-p.ensures (search rules)))

@@ -8,30 +8,30 @@ chain-c-requires c = let h = store_facts _ _ c.requires in (h.enough, h.head.chu
 pub overflow_sub-position : goal.overflow_sub-position
 overflow_sub-position c =
     let a = c.args in
-    (last_placed a.rollover a.volume.now a.medium a.store a.slot a.id c.chain-c.ensures c.in-Whole.is
+    (last_placed a.rollover a.volume.now a.medium a.store a.slot a.id c.chain-c.ensures c.in-Ok.is
     c.requires).0
 
 pub count_records-n-requires : goal.count_records-n-requires
 count_records-n-requires c =
     let a = c.args in
-    let l = last_placed a.rollover a.volume.now a.medium a.store a.slot a.id c.chain-c.ensures c.in-Whole.is
+    let l = last_placed a.rollover a.volume.now a.medium a.store a.slot a.id c.chain-c.ensures c.in-Ok.is
     c.requires in
     (c.requires, l.1, l.2)
+
+pub returns-in-Err : goal.returns-in-Err
+returns-in-Err c =
+    let a = c.args in
+    no_chain_lem a.rollover a.volume.now a.medium a.store a.slot a.id c.chain-c.ensures c.in-Err.is
+    c.refused.ensures
 
 pub returns-in-Refused : goal.returns-in-Refused
 returns-in-Refused c =
     let a = c.args in
-    no_chain_lem a.rollover a.volume.now a.medium a.store a.slot a.id c.chain-c.ensures c.in-Refused.is
-    c.refused.ensures
-
-pub returns-in-Refused-n : goal.returns-in-Refused-n
-returns-in-Refused-n c =
-    let a = c.args in
-    no_count a.rollover a.volume.now a.medium a.store a.slot a.id c.chain-c.ensures c.in-Whole.is
-    c.count_records-n.ensures c.in-Refused-n.is c.refused-in-Refused-n.ensures
+    no_count a.rollover a.volume.now a.medium a.store a.slot a.id c.chain-c.ensures c.in-Ok.is
+    c.count_records-n.ensures c.in-Refused.is c.refused-in-Refused.ensures
 
 pub returns-in-Are : goal.returns-in-Are
 returns-in-Are c =
     let a = c.args in
-    file_opened a.rollover a.volume.now a.medium a.store a.slot a.id c.chain-c.ensures c.in-Whole.is
+    file_opened a.rollover a.volume.now a.medium a.store a.slot a.id c.chain-c.ensures c.in-Ok.is
     c.count_records-n.ensures c.in-Are.is c.tail_for-tail.ensures c.opened.ensures

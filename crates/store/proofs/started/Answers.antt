@@ -6,14 +6,14 @@ returns-in-Refused c =
     let a = c.args in
     not_found a.volume.now a.medium a.store c.in-Refused.is c.no_reader.ensures
 
-pub returns-in-Refused-c : goal.returns-in-Refused-c
-returns-in-Refused-c c =
+pub returns-in-Err : goal.returns-in-Err
+returns-in-Err c =
     let a = c.args in
     no_chain_lem a.volume.now a.medium a.store c.in-At.is c.chain-c.ensures
-    c.in-Refused-c.is c.no_reader-in-Refused-c.ensures
+    c.in-Err.is c.no_reader-in-Err.ensures
 
-pub returns-in-Whole : goal.returns-in-Whole
-returns-in-Whole c =
+pub returns-in-Ok : goal.returns-in-Ok
+returns-in-Ok c =
     let a = c.args in
     whole_chain a.volume.now a.medium a.store c.in-At.is c.chain-c.ensures
-    c.in-Whole.is c.start-reader.ensures
+    c.in-Ok.is c.start-reader.ensures

@@ -1,38 +1,35 @@
-use mathlib.Core.Path.{refl, ap}
+use Rattle.std.proofs.Common.{rules}
+use mathlib.Core.Path.{refl, sym, ◌∙◌}
 use native.Mathlib.Omega.{arith}
 use Rattle.le.proofs.Choices.{pick_true, pick_false}
-use Rattle.walk.specs.Walk as walk
-use Rattle.walk.proofs.Laws.{at_start, at_next, at_stop, at_end}
+use Rattle.walk.proofs.Laws.{at_start, at_end}
 use Rattle.table.specs.Table.{locate_step, locate_of}
+use Rattle.table.proofs.Turns.{refused_turn, linked_turn, unlinked_turn}
 use Rattle.table.proofs.locate.Goals as goal
+use Rattle.table.proofs.locate.Goals.{in-Linked+then-link-slot+then-link-position, in-Linked+else-link-slot, else-link-slot-via-then-link-slot+else-link-position, else-link-slot-via-else-link-slot, in_default}
 
-pub loop-next-init : goal.loop-next-init
+pub loop-chunk-init : goal.loop-chunk-init
 unfolding locate_of
-loop-next-init c = at_start _ _ _ _ _
+loop-chunk-init c = at_start _ _ _ _ _
 
-pub returns-in-Refused : goal.returns-in-Refused
-returns-in-Refused c =
-    at_stop c.loop-next.invariant (omega arith) c.link_at-e.ensures c.in-Refused.is refl
+pub returns-in_err-link : goal.returns-in_err-link
+returns-in_err-link c =
+    search (rules, refused_turn c.loop-chunk.invariant (omega arith) c.link_at.ensures c.in_err-link.was)
 
-pub loop-next-preserved-in-Past : goal.loop-next-preserved-in-Past
-loop-next-preserved-in-Past c = at_next c.loop-next.invariant (omega arith) c.link_at-e.ensures c.in-Past.is refl
-
-pub loop-next-preserved-in-Free : goal.loop-next-preserved-in-Free
-loop-next-preserved-in-Free c = at_next c.loop-next.invariant (omega arith) c.link_at-e.ensures c.in-Free.is refl
-
-pub loop-next-preserved-then-l-slot : goal.loop-next-preserved-then-l-slot
+pub loop-chunk-preserved : goal.loop-chunk-preserved
 unfolding locate_step
-loop-next-preserved-then-l-slot c =
-    at_next c.loop-next.invariant (omega arith)
-    c.link_at-e.ensures c.in-Linked.is
-    (ap walk.next (pick_true _ _ c.if-l-slot.true))
-
-pub loop-next-preserved : goal.loop-next-preserved
-unfolding locate_step
-loop-next-preserved c =
-    at_next c.loop-next.invariant (omega arith)
-    c.link_at-e.ensures c.in-Linked.is
-    (ap walk.next (pick_false _ _ c.if-l-slot.false))
+loop-chunk-preserved c =
+    let l = c.loop-chunk in
+    elim c.match-branch-2.branch [
+      | in-Linked+then-link-slot+then-link-position w ↦
+          linked_turn l.invariant (omega arith) c.link_at.ensures c.in_ok-link.was w.in-Linked.is
+          (w.found-is ∙ sym (pick_true _ _ (search (rules, arith))))
+      | in-Linked+else-link-slot w ↦
+          linked_turn l.invariant (omega arith) c.link_at.ensures c.in_ok-link.was w.in-Linked.is
+          (w.found-is ∙ sym (pick_false _ _ (search (rules, arith))))
+      | in_default w ↦
+          unlinked_turn l.invariant (omega arith) c.link_at.ensures c.in_ok-link.was (λ k u. refl) w.in_default.not-Linked w.found-is
+    ]
 
 pub returns : goal.returns
-returns c = at_end c.loop-next.invariant (omega arith)
+returns c = search (rules, at_end c.loop-chunk.invariant (omega arith))

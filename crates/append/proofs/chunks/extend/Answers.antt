@@ -1,3 +1,4 @@
+use borrow.Author.Rules.{rules}
 use Rattle.le.proofs.Turns.{told}
 use Rattle.handles.proofs.Laws.{store_facts}
 use Rattle.table.proofs.Mapped.{free_range}
@@ -21,7 +22,7 @@ pub returns-then-appender : goal.returns-then-appender
 returns-then-appender c =
     let a = c.args in
     extend_rolled a.volume.now a.medium a.store a.appender a.partial a.records c.if-appender-ge32767.false
-    c.free_chunk-p.ensures c.in-Nothing.is c.if-appender.true c.rolled.ensures
+    c.free_chunk-p.ensures (search rules) c.if-appender.true c.rolled.ensures
 
 pub link-requires : goal.link-requires
 link-requires c = (
@@ -29,23 +30,23 @@ link-requires c = (
   c.requires.1,
   c.if-appender-ge32767.false,
   c.requires.2,
-  free_range _ _ _ (store_facts _ _ c.requires.0).map (told c.free_chunk-p.ensures c.in-At.is),
+  free_range _ _ _ (store_facts _ _ c.requires.0).map (told c.free_chunk-p.ensures (search rules)),
 )
 
-pub returns-in-Refused : goal.returns-in-Refused
-returns-in-Refused c =
+pub returns-in-Err : goal.returns-in-Err
+returns-in-Err c =
     let a = c.args in
-    made_of c.stopped-in-Refused.ensures (extend_unread a.volume.now a.medium a.store a.appender a.partial a.records
-    c.if-appender-ge32767.false c.free_chunk-p.ensures c.in-Refused.is)
+    made_of c.stopped-in-Err.ensures (extend_unread a.volume.now a.medium a.store a.appender a.partial a.records
+    c.if-appender-ge32767.false c.free_chunk-p.ensures c.in-Err.is)
 
 pub returns-else-appender : goal.returns-else-appender
 returns-else-appender c =
     let a = c.args in
-    made_of c.stopped-in-Nothing.ensures (extend_full a.volume.now a.medium a.store a.appender a.partial a.records
-    c.if-appender-ge32767.false c.free_chunk-p.ensures c.in-Nothing.is c.if-appender.false)
+    made_of c.stopped-in-Ok-None.ensures (extend_full a.volume.now a.medium a.store a.appender a.partial a.records
+    c.if-appender-ge32767.false c.free_chunk-p.ensures (search rules) c.if-appender.false)
 
-pub returns-in-At : goal.returns-in-At
-returns-in-At c =
+pub returns-in-Ok-Some : goal.returns-in-Ok-Some
+returns-in-Ok-Some c =
     let a = c.args in
     extend_linked a.volume.now a.medium a.store a.appender a.partial a.records c.if-appender-ge32767.false
-    c.free_chunk-p.ensures c.in-At.is c.link.ensures
+    c.free_chunk-p.ensures (search rules) c.link.ensures

@@ -44,35 +44,35 @@ pub link-requires : goal.link-requires
 link-requires c =
     let count : length c.args.store.head.crcs ≡ 24 = search (rules, c.well_formed.1.1.0.0) in
     let after : After c.remove_oldest-g.new.volume c.remove_oldest-g.result.store c.args.appender = rolled_after c.args.volume.now c.args.medium c.args.store c.args.appender c.requires.0 count c.requires.1 _ _ _ c.remove_oldest-g.ensures in
-    (after.ok, after.fit, c.requires.2, c.requires.3, free_range _ _ _ (store_facts _ _ after.ok).map (told c.free_chunk-p.ensures c.in-At.is))
+    (after.ok, after.fit, c.requires.2, c.requires.3, free_range _ _ _ (store_facts _ _ after.ok).map (told c.free_chunk-p.ensures (search rules)))
 
-pub shape_of-volume-in-Refused : goal.shape_of-volume-in-Refused
-shape_of-volume-in-Refused c = c.remove_oldest-g.auto.volume
+pub shape_of-volume-in-Err-p : goal.shape_of-volume-in-Err-p
+shape_of-volume-in-Err-p c = c.remove_oldest-g.auto.volume
 
-pub returns-in-Refused : goal.returns-in-Refused
-returns-in-Refused c =
+pub returns-in-Err-p : goal.returns-in-Err-p
+returns-in-Err-p c =
     let a = c.args in
-    made_of c.stopped-in-Refused.ensures (rolled_unread a.volume.now a.medium a.store a.appender a.partial a.records (dir_slice a.appender.dir)
+    made_of c.stopped-in-Err-p.ensures (rolled_unread a.volume.now a.medium a.store a.appender a.partial a.records (dir_slice a.appender.dir)
     c.is_open-keeping.ensures c.open_id-keep.ensures c.remove_oldest-g.ensures c.in_default.is
-    (not-false _ c.if-not-g.false) c.free_chunk-p.ensures c.in-Refused.is)
+    (not-false _ c.if-not-g.false) c.free_chunk-p.ensures c.in-Err-p.is)
 
-pub shape_of-volume-in-Nothing : goal.shape_of-volume-in-Nothing
-shape_of-volume-in-Nothing c = c.remove_oldest-g.auto.volume
+pub shape_of-volume-in-Ok-None : goal.shape_of-volume-in-Ok-None
+shape_of-volume-in-Ok-None c = c.remove_oldest-g.auto.volume
 
-pub returns-in-Nothing : goal.returns-in-Nothing
-returns-in-Nothing c =
+pub returns-in-Ok-None : goal.returns-in-Ok-None
+returns-in-Ok-None c =
     let a = c.args in
-    made_of c.stopped-in-Nothing.ensures (rolled_corrupt a.volume.now a.medium a.store a.appender a.partial a.records
+    made_of c.stopped-in-Ok-None.ensures (rolled_corrupt a.volume.now a.medium a.store a.appender a.partial a.records
     (dir_slice a.appender.dir) c.is_open-keeping.ensures c.open_id-keep.ensures c.remove_oldest-g.ensures
     c.in_default.is (not-false _ c.if-not-g.false) c.free_chunk-p.ensures
-    c.in-Nothing.is)
+    (search rules))
 
-pub shape_of-volume-in-At : goal.shape_of-volume-in-At
-shape_of-volume-in-At c = c.link.auto.volume ∙ c.remove_oldest-g.auto.volume
+pub shape_of-volume-in-Ok-Some : goal.shape_of-volume-in-Ok-Some
+shape_of-volume-in-Ok-Some c = c.link.auto.volume ∙ c.remove_oldest-g.auto.volume
 
-pub returns-in-At : goal.returns-in-At
-returns-in-At c =
+pub returns-in-Ok-Some : goal.returns-in-Ok-Some
+returns-in-Ok-Some c =
     let a = c.args in
     rolled_linked a.volume.now a.medium a.store a.appender a.partial a.records (dir_slice a.appender.dir)
     c.is_open-keeping.ensures c.open_id-keep.ensures c.remove_oldest-g.ensures c.in_default.is
-    (not-false _ c.if-not-g.false) c.free_chunk-p.ensures c.in-At.is c.link.ensures
+    (not-false _ c.if-not-g.false) c.free_chunk-p.ensures (search rules) c.link.ensures

@@ -8,4 +8,4 @@ use Rattle.table.proofs.free.checked.Given as goal
 
 abbrev pub invariant-loop-t : goal.invariant-loop-t
 invariant-loop-t l =
-    At (λ i s. on_check) (λ i. check_of l.volume l.medium l.store (8 + i)) (λ s. (Ok tt)) (table_of l.store.head.chunks) (checked_of l.volume l.medium l.store) l.t tt
+    At (λ i s. on_check) (λ i. check_of l.volume l.medium l.store (8 + i)) (λ s. Ok tt) (table_of l.store.head.chunks) (checked_of l.volume l.medium l.store) l.t tt

@@ -1,19 +1,13 @@
-use mathlib.Core.Path.{ap}
-use Rattle.table.specs.declared.FreeCount.TheVariants.{Is}
+use Rattle.std.proofs.Common.{rules}
+use Rattle.medium.specs.Refusal.{on_done}
 use Rattle.table.specs.Free.{free_count_of}
-use Rattle.table.proofs.Ways.{by_walk, by_refusal, by_map}
+use Rattle.table.proofs.Ways.{by_walk, by_checked}
 use Rattle.table.proofs.free.free_count.Goals as goal
 
-pub returns-then-not-map : goal.returns-then-not-map
+pub returns-else-store : goal.returns-else-store
 unfolding free_count_of
-returns-then-not-map c = by_walk _ _ _ _ _ _ c.if-not-map.true c.walk_count.ensures
+returns-else-store c = by_walk _ _ _ _ _ _ c.if-store.false c.walk_count.ensures
 
-pub returns-in-Err : goal.returns-in-Err
-unfolding free_count_of
-returns-in-Err c =
-    by_refusal _ _ _ _ _ _ c.if-not-map.false c.checked-o.ensures c.in-Err.is
-
-pub returns : goal.returns
-unfolding free_count_of
-returns c =
-    by_map _ _ _ _ _ _ c.if-not-map.false c.checked-o.ensures c.in_default.is (ap Is c.count.ensures)
+pub returns-then-store : goal.returns-then-store
+unfolding free_count_of on_done
+returns-then-store c = by_checked _ _ _ _ _ _ c.if-store.true c.checked.ensures (search rules)

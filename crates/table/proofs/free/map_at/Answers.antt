@@ -1,29 +1,28 @@
 use mathlib.Core.Path.{refl, ◌∙◌}
 use native.Mathlib.Omega.{arith}
 use Rattle.le.specs.Part.{zeros}
-use Rattle.walk.proofs.Laws.{at_start, at_next, at_stop, at_end}
+use Rattle.walk.proofs.Laws.{at_start, at_end}
 use Rattle.table.specs.Free.{map_at}
+use Rattle.table.proofs.Turns.{refused_turn, free_turn, unfree_turn}
 use Rattle.table.proofs.free.map_at.Goals as goal
+use Rattle.table.proofs.free.map_at.Goals.{in-Free, in_default-link}
 
-pub loop-next-init : goal.loop-next-init
+pub loop-i-init : goal.loop-i-init
 unfolding map_at zeros
-loop-next-init c = at_start _ _ _ _ _
+loop-i-init c = at_start _ _ _ _ _
 
-pub returns-in-Refused : goal.returns-in-Refused
-returns-in-Refused c =
-    c.unfit.ensures
-    ∙ at_stop c.loop-next.invariant (omega arith) c.link_at-e.ensures c.in-Refused.is refl
+pub returns-in_default : goal.returns-in_default
+returns-in_default c = c.unfit.ensures ∙ refused_turn c.loop-i.invariant (omega arith) c.link_at.ensures c.in_default.is
 
-pub loop-next-preserved-in-Past : goal.loop-next-preserved-in-Past
-loop-next-preserved-in-Past c = at_next c.loop-next.invariant (omega arith) c.link_at-e.ensures c.in-Past.is refl
-
-pub loop-next-preserved-in-Free : goal.loop-next-preserved-in-Free
-loop-next-preserved-in-Free c =
-    rw c.put.ensures
-    (at_next c.loop-next.invariant (omega arith) c.link_at-e.ensures c.in-Free.is refl)
-
-pub loop-next-preserved : goal.loop-next-preserved
-loop-next-preserved c = at_next c.loop-next.invariant (omega arith) c.link_at-e.ensures c.in-Linked.is refl
+pub loop-i-preserved : goal.loop-i-preserved
+loop-i-preserved c =
+    let l = c.loop-i in
+    elim c.match-link.branch [
+      | in-Free w ↦
+          free_turn l.invariant (omega arith) c.link_at.ensures c.in-Ok.is w.in-Free.is (w.words-is ∙ w.put.ensures)
+      | in_default-link w ↦
+          unfree_turn l.invariant (omega arith) c.link_at.ensures c.in-Ok.is (λ k l u. refl) w.in_default-link.not-Free w.words-is
+    ]
 
 pub returns : goal.returns
-returns c = at_end c.loop-next.invariant (omega arith)
+returns c = at_end c.loop-i.invariant (omega arith)

@@ -1,13 +1,9 @@
-use Prim.Native.Nat.{◌-◌}
 use Rattle.walk.proofs.Laws.{At}
 use Rattle.table.specs.Link.{link_at}
 use Rattle.table.specs.Table.{on_link, links_of}
 use Rattle.table.specs.Free.{map_v, map_at}
 use Rattle.table.proofs.free.map_at.Given as goal
 
-abbrev pub invariant-loop-next : goal.invariant-loop-next
-invariant-loop-next l =
-    At (on_link map_v) (link_at l.volume l.medium l.store) map_v.done (links_of l.store.head.chunks) (map_at l.volume l.medium l.store) l.next l.words
-
-abbrev pub decreases-loop-next : goal.decreases-loop-next
-decreases-loop-next l = l.n - l.next
+abbrev pub invariant-loop-i : goal.invariant-loop-i
+invariant-loop-i l =
+    At (on_link map_v) (link_at l.volume l.medium l.store) map_v.done (links_of l.store.head.chunks) (map_at l.volume l.medium l.store) l.i l.words

@@ -1,5 +1,5 @@
 -- What writing gives, by the way that it goes: a law for each return, over plain values. Assumes nothing.
-use Rattle.std.specs.Prelude.{Err, Ok}
+use Rattle.std.specs.Prelude.{Err, Ok, Option}
 use mathlib.Core.Path.{◌≡◌, refl, sym, ap, ◌∙◌}
 use mathlib.Core.Bool.{Bool, true, false}
 use mathlib.Core.List.{List, []}
@@ -15,7 +15,7 @@ use Rattle.medium.specs.declared.Written.{Written}
 use Rattle.medium.specs.Refusal.{on_done}
 use Rattle.medium.proofs.Laws.{on_done_done}
 use Rattle.handles.specs.declared.Store.{Store}
-use Rattle.handles.specs.Handles.{is_open, open_id}
+use Rattle.handles.specs.Handles.{open_file}
 use Rattle.table.specs.declared.Pick.{Pick}
 use Rattle.table.specs.declared.Pick.TheVariants as free
 use Rattle.table.specs.Table.{on_pick}
@@ -69,10 +69,10 @@ module _ (vol : List ℕ) (m : Medium) (st : Store) (a : Appender) (partial : Bo
 
   -- ---- with a rollover
 
-  module _ {dir : List ℕ} {keeping : Bool} {keep : ℕ} (hd : dir ≡ dir_bytes a.dir) (hk : keeping ≡ is_open st.writer) (hi : keep ≡ open_id st.writer) {v : List ℕ} {g : Gone}
-      (h : GivesG v g (remove_oldest_of vol m st dir keeping keep)) where
-    gone : GivesG v g (remove_oldest_of vol m st (dir_bytes a.dir) (is_open st.writer) (open_id st.writer))
-    gone = rw (← hd, ← hk, ← hi) h
+  module _ {dir : List ℕ} {spared : Option ℕ} (hd : dir ≡ dir_bytes a.dir) (hs : spared ≡ open_file st.writer) {v : List ℕ} {g : Gone}
+      (h : GivesG v g (remove_oldest_of vol m st dir spared)) where
+    gone : GivesG v g (remove_oldest_of vol m st (dir_bytes a.dir) (open_file st.writer))
+    gone = rw (← hd, ← hs) h
 
     pub rolled_refused : {e : Error} → g.outcome ≡ Err e → GivesA v (refusal e g.medium g.store a) (rolled_out vol m st a partial records)
     unfolding rolled_out on_done

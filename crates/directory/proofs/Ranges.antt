@@ -26,7 +26,7 @@ use Rattle.directory.specs.declared.Old.{Old}
 use Rattle.directory.specs.declared.Seen.{Seen}
 use Rattle.directory.specs.Entry.{file_of, entry_of, entry_at, slot_at}
 use Rattle.directory.specs.Rows.{row_of, Made, row_made, listing, rows_of}
-use Rattle.directory.specs.Scan.{scan_of, found_at, first, find_of, find_id_of, free_seen, file_seen, looking, look_of, is_spared, is_older, older_of, seeking, oldest_of}
+use Rattle.directory.specs.Scan.{scan_of, found_at, first, find_of, find_id_of, free_seen, file_seen, looking, look_of, spares, is_older, older_of, seeking, oldest_of}
 use Rattle.directory.proofs.Entries.{found_file, slot_file, slot_free}
 use Rattle.directory.proofs.RowParts.{length_row}
 use Rattle.directory.proofs.Scans.{Left, scan_keeps}
@@ -62,7 +62,7 @@ pub record OldAt (vol : List ℕ) (st : Store) (dir : List ℕ) (spared : Option
   pub short : o.len ≤ 40
   pub file : FileAt vol st o.slot o.id (part 0 o.len (entry_at vol st o.slot))
   pub inside : in_dir dir (part 0 o.len (entry_at vol st o.slot)) ≡ true
-  pub goes : is_spared spared o.id ≡ false
+  pub goes : spares spared o.id ≡ false
 
 -- no more rows are made than this; their lent bytes stay as many, and those past the rows as they were
 pub record MadeFrom (rows : List ℕ) (most : ℕ) (s : Made) : Type 0 where
@@ -133,20 +133,20 @@ module _ (vol : List ℕ) (m : Medium) (st : Store) where
     OldQ (Ok o) = OldP o
 
     old_kept : (i id : ℕ) (name : List ℕ) (o : Option Old) → FileAt vol st i id name → OldP o
-        → OldP (older_of i id (length name) (in_dir dir name && not (is_spared spared id)) o)
+        → OldP (older_of i id (length name) (in_dir dir name && not (spares spared id)) o)
     unfolding older_of
     old_kept i id name o f p =
-        let counts : Bool = in_dir dir name && not (is_spared spared id) in
+        let counts : Bool = in_dir dir name && not (spares spared id) in
         let first : Bool = is_older id o in
         pick_keeps_by OldP (counts && first) _ _
         (λ t.
         let a = and_true counts first t in
-        let b = and_true (in_dir dir name) (not (is_spared spared id)) a.0 in
+        let b = and_true (in_dir dir name) (not (spares spared id)) a.0 in
         record {
           short = f.short;
           file = rw f.named f;
           inside = rw f.named b.0;
-          goes = not-true (is_spared spared id) b.1;
+          goes = not-true (spares spared id) b.1;
         })
         (λ _. p)
 

@@ -87,8 +87,8 @@ unfoldable pub look_of : List ℕ → Medium → Store → List ℕ → Result S
 look_of vol m st name = scan_of (looking name) vol m st (record { exists = false; free = None })
 
 -- the oldest file in a directory: smallest id, of equal ids the lowest slot; the id that is spared does not go
-abbrev pub is_spared : Option ℕ → ℕ → Bool
-is_spared spared id = option_eq eqb (Some id) spared
+abbrev pub spares : Option ℕ → ℕ → Bool
+spares spared id = option_eq eqb (Some id) spared
 
 -- whether a file of this id is older than the oldest so far
 abbrev pub is_older : ℕ → Option Old → Bool
@@ -103,7 +103,7 @@ seeking dir spared =
     record {
       refuse = λ e s. Err e;
       free = λ i s. next s;
-      file = λ i id n s. next (older_of i id (length n) (in_dir dir n && not (is_spared spared id)) s);
+      file = λ i id n s. next (older_of i id (length n) (in_dir dir n && not (spares spared id)) s);
       done = Ok;
     }
 
@@ -115,6 +115,11 @@ oldest_of vol m st dir spared = scan_of (seeking dir spared) vol m st None
 unfoldable pub on_found : {A : Type 0} → Result Found Error → (Error → A) → (ℕ → ℕ → A) → A
 on_found (Err e) f g = f e
 on_found (Ok x) f g = g x.slot x.id
+
+-- by the free slot that create's look saw, if any
+unfoldable pub on_free : {A : Type 0} → Option ℕ → A → (ℕ → A) → A
+on_free None a f = a
+on_free (Some slot) a f = f slot
 
 unfoldable pub on_looked : {A : Type 0} → Result Seen Error → (Error → A) → (Seen → A) → A
 on_looked (Err e) f g = f e

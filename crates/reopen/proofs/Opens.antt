@@ -11,8 +11,7 @@ use Rattle.medium.specs.Sector.{sectors_of}
 use Rattle.medium.proofs.Laws.{not_done}
 use Rattle.handles.specs.declared.Store.{Store}
 use Rattle.handles.specs.Handles.{store_ok}
-use Rattle.directory.specs.declared.Found.TheVariants as found
-use Rattle.directory.specs.Scan.{find_of}
+use Rattle.directory.specs.Scan.{find_of, found_at}
 use Rattle.directory.proofs.Ranges.{find_name}
 use Rattle.directory.proofs.Decides.{on_found_keeps}
 use Rattle.table.specs.declared.Chained.TheVariants as chained
@@ -45,7 +44,7 @@ pub record Reads (vol : List ℕ) (m : Medium) (st : Store) (o : AppOut) : Type 
 
 -- what an accepted call hands back: an appender of the file found, which passes where its rollover does, and the store that it writes
 pub record Opens (name : List ℕ) (rollover : Rollover) (vol : List ℕ) (m : Medium) (st : Store) (r : Handed) : Type 0 where
-  pub named : find_of vol m st name ≡ found.At r.appender.slot r.appender.id
+  pub named : find_of vol m st name ≡ found_at r.appender.slot r.appender.id
   pub medium : r.medium ≡ with_token m
   pub store : r.store ≡ written_by (next_token m) r.appender.id st
   pub held : store_ok r.store (sectors_of vol) ≡ true
@@ -62,7 +61,7 @@ module _ (name : List ℕ) (rollover : Rollover) (vol : List ℕ) (m : Medium) (
   no e = (record { same = refl; still = refl; refused = λ x q. ap (λ (o : Result Unit Error). record { outcome = o; medium = m; store = st; appender = no_appender }) q }, not_done)
 
   module _ (ok : store_ok st (sectors_of vol) ≡ true) where
-    opened : (slot id : ℕ) (p : ChainParts) (n : ℕ) → find_of vol m st name ≡ found.At slot id → chain_of vol m st slot ≡ chained.Whole p → n ≤ st.head.chunk
+    opened : (slot id : ℕ) (p : ChainParts) (n : ℕ) → find_of vol m st name ≡ found_at slot id → chain_of vol m st slot ≡ chained.Whole p → n ≤ st.head.chunk
         → Leaves (opened_out vol m st slot id p.last (p.count - 1) (tail_for st.head.chunk n) rollover)
     unfolding opened_out store_ok
     opened slot id p n f c h =

@@ -4,6 +4,7 @@ use mathlib.Core.Bool.{true}
 use mathlib.Core.List.{List, []}
 use Prim.Native.Nat.{ℕ, ◌-◌, ◌≤◌, ◌<◌}
 use native.Mathlib.Omega.{arith}
+use Rattle.std.specs.Prelude.{Result, Ok, Err}
 use Rattle.le.proofs.Turns.{told}
 use Rattle.medium.specs.declared.Error.{Error}
 use Rattle.medium.specs.declared.Medium.{Medium}
@@ -12,8 +13,7 @@ use Rattle.handles.specs.declared.Store.{Store}
 use Rattle.handles.specs.Handles.{store_ok}
 use Rattle.handles.proofs.Laws.{Held, store_facts}
 use Rattle.directory.specs.declared.Found.{Found}
-use Rattle.directory.specs.declared.Found.TheVariants as found
-use Rattle.directory.specs.Scan.{find_of, on_found}
+use Rattle.directory.specs.Scan.{find_of, on_found, found_at}
 use Rattle.table.specs.declared.Chained.{Chained}
 use Rattle.table.specs.declared.Chained.TheVariants as chained
 use Rattle.table.specs.declared.ChainParts.{ChainParts}
@@ -60,11 +60,11 @@ module _ (rollover : Rollover) (vol : List ℕ) (m : Medium) (st : Store) (slot 
 
 -- ---- the name
 
-module _ (name : List ℕ) (rollover : Rollover) (vol : List ℕ) (m : Medium) (st : Store) {f : Found} (asked : f ≡ find_of vol m st name) where
-  pub not_found : {e : Error} {r : Handed} → f ≡ found.Refused e → r ≡ (refused_at [] m st e).ans → r ≡ (reopen_of name rollover vol m st).ans
+module _ (name : List ℕ) (rollover : Rollover) (vol : List ℕ) (m : Medium) (st : Store) {f : Result Found Error} (asked : f ≡ find_of vol m st name) where
+  pub not_found : {e : Error} {r : Handed} → f ≡ Err e → r ≡ (refused_at [] m st e).ans → r ≡ (reopen_of name rollover vol m st).ans
   unfolding reopen_of on_found
   not_found q h = rw (h, ← asked, q)
 
-  pub name_found : {slot id : ℕ} {r : Handed} → f ≡ found.At slot id → r ≡ (file_out rollover vol m st slot id).ans → r ≡ (reopen_of name rollover vol m st).ans
+  pub name_found : {slot id : ℕ} {r : Handed} → f ≡ found_at slot id → r ≡ (file_out rollover vol m st slot id).ans → r ≡ (reopen_of name rollover vol m st).ans
   unfolding reopen_of on_found
   name_found q h = rw (h, ← asked, q)

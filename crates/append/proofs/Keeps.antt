@@ -18,7 +18,7 @@ use Rattle.medium.proofs.Laws.{on_done_keeps, not_done}
 use Rattle.medium.specs.Frame.{Kept}
 use Rattle.medium.proofs.Frame.{kept_rest, write_spends, write_kept}
 use Rattle.handles.specs.declared.Store.{Store}
-use Rattle.handles.specs.Handles.{is_open, open_id}
+use Rattle.handles.specs.Handles.{open_file}
 use Rattle.handles.proofs.Laws.{Held, store_facts}
 use Rattle.table.specs.Free.{free_of}
 use Rattle.table.proofs.Mapped.{free_range}
@@ -80,8 +80,8 @@ module _ (vol : List ℕ) (m : Medium) (st : Store) (a : Appender) (partial : Bo
   pub rolled_goes : a.position < 32767 → Goes vol m st (rolled_out vol m st a partial records)
   unfolding rolled_out
   rolled_goes near =
-      let g : GoneOut = remove_oldest_of vol m st (dir_bytes a.dir) (is_open st.writer) (open_id st.writer) in
-      let k : GoneStands vol m st g = oldest_stands vol m st (dir_bytes a.dir) (is_open st.writer) (open_id st.writer) good in
+      let g : GoneOut = remove_oldest_of vol m st (dir_bytes a.dir) (open_file st.writer) in
+      let k : GoneStands vol m st g = oldest_stands vol m st (dir_bytes a.dir) (open_file st.writer) good in
       let f : Fit a g.ans.store = fit_still k.chunks k.chunk fit in
       let no : (e : Error) → Goes vol m st (stopped g.vol g.ans.medium g.ans.store a e) = λ e. (k, f) in
       on_done_keeps (Goes vol m st) g.ans.outcome _ _

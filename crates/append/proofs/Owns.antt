@@ -9,7 +9,7 @@ use Rattle.medium.specs.declared.Error.{Error}
 use Rattle.medium.specs.declared.Medium.{Medium}
 use Rattle.medium.proofs.Laws.{on_done_keeps}
 use Rattle.handles.specs.declared.Store.{Store}
-use Rattle.handles.specs.Handles.{is_open, open_id}
+use Rattle.handles.specs.Handles.{open_file}
 use Rattle.table.specs.Free.{free_of}
 use Rattle.table.proofs.Decides.{on_pick_keeps}
 use Rattle.plan.specs.declared.Edit.TheVariants.{Extend}
@@ -64,8 +64,8 @@ module _ (vol : List ℕ) (m : Medium) (st : Store) (a : Appender) (partial : Bo
   rolled_owned : Owned st a (rolled_out vol m st a partial records)
   unfolding rolled_out
   rolled_owned =
-      let g : GoneOut = remove_oldest_of vol m st (dir_bytes a.dir) (is_open st.writer) (open_id st.writer) in
-      let k : GoneStands vol m st g = oldest_stands vol m st (dir_bytes a.dir) (is_open st.writer) (open_id st.writer) good in
+      let g : GoneOut = remove_oldest_of vol m st (dir_bytes a.dir) (open_file st.writer) in
+      let k : GoneStands vol m st g = oldest_stands vol m st (dir_bytes a.dir) (open_file st.writer) good in
       let w : g.ans.store.writer ≡ st.writer = spared_writer vol m st good (dir_bytes a.dir) in
       let no : (e : Error) → Owned st a (stopped g.vol g.ans.medium g.ans.store a e) = λ e. (w, bound) in
       on_done_keeps (Owned st a) g.ans.outcome _ _

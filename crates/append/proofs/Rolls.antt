@@ -7,6 +7,7 @@ use native.Mathlib.Omega.{arith}
 use borrow.Author.Tests.{ltb-true}
 use lib.Dec.{leb, ltb}
 use lib.ListN.{length, take, drop, length-take}
+use Rattle.std.specs.Prelude.{Option}
 use Rattle.le.specs.Part.{part}
 use Rattle.le.proofs.Bools.{and_true}
 use Rattle.medium.specs.declared.Medium.{Medium}
@@ -57,9 +58,9 @@ pub record After (vol : List ℕ) (st : Store) (a : Appender) : Type 0 where
   pub fit : Fit a st
 
 module _ (vol : List ℕ) (m : Medium) (st : Store) (a : Appender) (ok : store_ok st (sectors_of vol) ≡ true) (count : length st.head.crcs ≡ 24) (fit : Fit a st) where
-  pub rolled_after : (dir : List ℕ) (keeping : Bool) (keep : ℕ) {v : List ℕ} {g : Gone} → GivesG v g (remove_oldest_of vol m st dir keeping keep) → After v g.store a
-  rolled_after dir keeping keep h =
-      let k : GoneStands vol m st (remove_oldest_of vol m st dir keeping keep) = oldest_stands vol m st dir keeping keep (record { ok = ok; count = count }) in
+  pub rolled_after : (dir : List ℕ) (spared : Option ℕ) {v : List ℕ} {g : Gone} → GivesG v g (remove_oldest_of vol m st dir spared) → After v g.store a
+  rolled_after dir spared h =
+      let k : GoneStands vol m st (remove_oldest_of vol m st dir spared) = oldest_stands vol m st dir spared (record { ok = ok; count = count }) in
       rw (h.0, h.1) (record { ok = k.good.ok; fit = fit_still k.chunks k.chunk fit })
 
   pub extended_after : (partial : Bool) (records : ℕ) {v : List ℕ} {x : Handed} → GivesA v x (extend_of vol m st a partial records) → After v x.store x.appender

@@ -15,7 +15,7 @@ use Rattle.medium.specs.declared.Written.{Written}
 use Rattle.medium.specs.Refusal.{on_done}
 use Rattle.medium.proofs.Laws.{on_done_done}
 use Rattle.handles.specs.declared.Store.{Store}
-use Rattle.handles.specs.Handles.{is_open, open_id}
+use Rattle.handles.specs.Handles.{is_open, open_id, open_file}
 use Rattle.table.specs.Table.{on_pick}
 use Rattle.table.specs.Free.{free_of}
 use Rattle.record.specs.Record.{number_at, write_record_of}
@@ -67,10 +67,10 @@ module _ (vol : List ℕ) (m : Medium) (st : Store) (a : Appender) (partial : Bo
 
   -- ---- with a rollover
 
-  module _ {dir : List ℕ} {keeping : Bool} {keep : ℕ} (hd : dir ≡ dir_bytes a.dir) (hk : keeping ≡ is_open st.writer) (hi : keep ≡ open_id st.writer) {v : List ℕ} {g : Gone}
-      (h : GivesG v g (remove_oldest_of vol m st dir keeping keep)) where
-    gone : GivesG v g (remove_oldest_of vol m st (dir_bytes a.dir) (is_open st.writer) (open_id st.writer))
-    gone = rw (← hd, ← hk, ← hi) h
+  module _ {dir : List ℕ} {spared : Option ℕ} (hd : dir ≡ dir_bytes a.dir) (hs : spared ≡ open_file st.writer) {v : List ℕ} {g : Gone}
+      (h : GivesG v g (remove_oldest_of vol m st dir spared)) where
+    gone : GivesG v g (remove_oldest_of vol m st (dir_bytes a.dir) (open_file st.writer))
+    gone = rw (← hd, ← hs) h
 
     pub rolled_refused : {e : Error} → g.outcome ≡ Err e → GivesA v (refusal e g.medium g.store a) (rolled_out vol m st a partial records)
     unfolding rolled_out on_done

@@ -9,7 +9,7 @@ use Rattle.medium.specs.declared.Medium.{Medium}
 use Rattle.medium.specs.Refusal.{on_done}
 use Rattle.medium.specs.Sector.{WriteOut}
 use Rattle.handles.specs.declared.Store.{Store}
-use Rattle.handles.specs.Handles.{is_open, open_id}
+use Rattle.handles.specs.Handles.{open_file}
 use Rattle.table.specs.Table.{on_pick}
 use Rattle.table.specs.Free.{free_of}
 use Rattle.record.specs.Record.{number_at, write_record_of}
@@ -96,7 +96,7 @@ after_gone g ap next =
 -- no chunk is free: the open file is spared, and extending once more must find one
 unfoldable pub rolled_out : List ℕ → Medium → Store → Appender → Bool → ℕ → AppOut
 rolled_out vol m st ap partial records =
-    after_gone (remove_oldest_of vol m st (dir_bytes ap.dir) (is_open st.writer) (open_id st.writer)) ap
+    after_gone (remove_oldest_of vol m st (dir_bytes ap.dir) (open_file st.writer)) ap
     (λ v n s. on_pick (free_of v n s) (stopped v n s ap) (stopped v n s ap Corrupt) (link_out v n s ap partial records))
 
 -- another chunk. A link has no place for a position past 32,767. No call gets there unless a commit of it leaves a body sector unwritten that does not

@@ -59,13 +59,11 @@ fn rolled(
     ensures { (volume.new ≡ (rolled_out volume.old medium store appender partial records).vol)
         × (result ≡ (rolled_out volume.old medium store appender partial records).ans) }
 {
-    let writer = store.writer;
-    let keeping = handles::is_open(writer);
-    let keep = handles::open_id(writer);
+    let spared = handles::open_file(store.writer);
     let dir = appender.dir;
     let bytes = dir.bytes;
     let n = dir.length;
-    let g = remove::remove_oldest(&mut *volume, medium, store, &bytes[0..n], keeping, keep);
+    let g = remove::remove_oldest(&mut *volume, medium, store, &bytes[0..n], spared);
     let o = g.outcome;
     let m = g.medium;
     let s = g.store;

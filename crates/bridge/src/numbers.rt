@@ -190,22 +190,22 @@ pub fn count_words(n: Result<u32, Error>) -> [u64; 3]
 }
 
 // 0, or the number of a refusal of `find`.
-pub fn found_code(f: Found) -> u32
+pub fn found_code(f: Result<Found, Error>) -> u32
     ensures { result ≡ code_of (found_answer f) }
 {
     match f {
-        Found::Refused(e) => medium::number(e),
-        Found::At { slot: _, id: _ } => 0,
+        Err(e) => medium::number(e),
+        Ok(_) => 0,
     }
 }
 
 // The slot and the file id.
-pub fn found_words(f: Found) -> [u64; 3]
+pub fn found_words(f: Result<Found, Error>) -> [u64; 3]
     ensures { result ≡ found_words (found_answer f) }
 {
     match f {
-        Found::Refused(_) => [0, 0, 0],
-        Found::At { slot, id } => [slot as u64, id as u64, 0],
+        Err(_) => [0, 0, 0],
+        Ok(Found { slot, id }) => [slot as u64, id as u64, 0],
     }
 }
 

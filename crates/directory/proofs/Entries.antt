@@ -8,6 +8,7 @@ use native.Mathlib.Omega.{arith}
 use borrow.Author.Tests.{eqb-false, ne_eqb, not-true}
 use lib.Dec.{eqb}
 use lib.ListN.{length, length-take}
+use Rattle.std.specs.Prelude.{Option, None, Some, Result, Ok, Err}
 use Rattle.le.specs.Choice.{pick}
 use Rattle.le.specs.Field.{get_le}
 use Rattle.le.specs.Part.{part, over, zeros}
@@ -23,9 +24,8 @@ use Rattle.medium.specs.declared.Error.{Error}
 use Rattle.medium.specs.declared.Medium.{Medium}
 use Rattle.medium.proofs.Laws.{on_done_keeps}
 use Rattle.handles.specs.declared.Store.{Store}
-use Rattle.directory.specs.declared.Slot.{Slot}
-use Rattle.directory.specs.declared.Slot.TheVariants.{Refused, Free, File}
-use Rattle.directory.specs.Entry.{entry_bytes, len_of, entry_ok, entry_of, entry_at, slot_at}
+use Rattle.directory.specs.declared.File.{File}
+use Rattle.directory.specs.Entry.{entry_bytes, len_of, entry_ok, file_of, entry_of, entry_at, slot_at}
 
 -- ---- what an entry tells
 
@@ -36,10 +36,10 @@ pub record Holds (e : List ℕ) (id len : ℕ) : Type 0 where
   pub whole : length (part 0 len e) ≡ len
   pub name : name_ok (part 0 len e) ≡ true
 
-pub data Tells (e : List ℕ) : Slot → Type 0 where
-  refused : {c : Error} → Tells e (Refused c)
-  free : Tells e Free
-  file : {id len : ℕ} → Holds e id len → Tells e (File id len)
+pub data Tells (e : List ℕ) : Result (Option File) Error → Type 0 where
+  refused : {c : Error} → Tells e (Err c)
+  free : Tells e (Ok None)
+  file : {id len : ℕ} → Holds e id len → Tells e (file_of id len)
 
 length_first : (n : ℕ) (e : List ℕ) → length (part 0 n e) ≤ n
 unfolding part
@@ -79,28 +79,33 @@ unfolding slot_at
 slot_tells vol m st i = on_done_keeps (Tells (entry_at vol st i)) _ _ _ (λ _. entry_tells (entry_at vol st i)) (λ e _. refused)
 
 -- what a call found at a slot; x is its answer
-pub found_file : (vol : List ℕ) (m : Medium) (st : Store) (i : ℕ) {x : Slot} {id len : ℕ} → x ≡ slot_at vol m st i → x ≡ File id len → Holds (entry_at vol st i) id len
+pub found_file : (vol : List ℕ) (m : Medium) (st : Store) (i : ℕ) {x : Result (Option File) Error} {id len : ℕ} → x ≡ slot_at vol m st i → x ≡ file_of id len → Holds (entry_at vol st i) id len
 found_file vol m st i {id = id} {len = len} e q = out (subst (Tells (entry_at vol st i)) (sym e ∙ q) (slot_tells vol m st i))
   where
-    out : Tells (entry_at vol st i) (File id len) → Holds (entry_at vol st i) id len
+    out : Tells (entry_at vol st i) (file_of id len) → Holds (entry_at vol st i) id len
     out (file h) = h
 
+-- the same of the call's answer, part by part
+pub found_at_slot : (vol : List ℕ) (m : Medium) (st : Store) (i : ℕ) {x : Result (Option File) Error} {o : Option File} {f : File} → x ≡ slot_at vol m st i → x ≡ Ok o → o ≡ Some f
+    → Holds (entry_at vol st i) f.id f.len
+found_at_slot vol m st i e p q = found_file vol m st i e (p ∙ ap Ok q)
+
 -- what is not refused is what the entry says
-pub slot_entry : (vol : List ℕ) (m : Medium) (st : Store) (i : ℕ) (x : Slot) → ((e : Error) → Refused e ≡ x → ⊥) → slot_at vol m st i ≡ x → entry_of (entry_at vol st i) ≡ x
+pub slot_entry : (vol : List ℕ) (m : Medium) (st : Store) (i : ℕ) (x : Result (Option File) Error) → ((e : Error) → Err e ≡ x → ⊥) → slot_at vol m st i ≡ x → entry_of (entry_at vol st i) ≡ x
 unfolding slot_at
 slot_entry vol m st i x passes =
-    on_done_keeps (λ (y : Slot). y ≡ x → entry_of (entry_at vol st i) ≡ x) _ _ _ (λ _ q. q) (λ e _ q. absurd (passes e q))
+    on_done_keeps (λ (y : Result (Option File) Error). y ≡ x → entry_of (entry_at vol st i) ≡ x) _ _ _ (λ _ q. q) (λ e _ q. absurd (passes e q))
 
 module _ (vol : List ℕ) (m : Medium) (st : Store) (i : ℕ) where
-  pub slot_file : {id len : ℕ} → slot_at vol m st i ≡ File id len → entry_of (entry_at vol st i) ≡ File id len
-  slot_file {id = id} {len = len} = slot_entry vol m st i (File id len) (λ e q. let z : ◌≡◌ {A = ℕ} 0 1 = cc in omega arith)
+  pub slot_file : {id len : ℕ} → slot_at vol m st i ≡ file_of id len → entry_of (entry_at vol st i) ≡ file_of id len
+  slot_file {id = id} {len = len} = slot_entry vol m st i (file_of id len) (λ e q. let z : ◌≡◌ {A = ℕ} 0 1 = cc in omega arith)
 
-  pub slot_free : slot_at vol m st i ≡ Free → entry_of (entry_at vol st i) ≡ Free
-  slot_free = slot_entry vol m st i Free (λ e q. let z : ◌≡◌ {A = ℕ} 0 1 = cc in omega arith)
+  pub slot_free : slot_at vol m st i ≡ Ok None → entry_of (entry_at vol st i) ≡ Ok None
+  slot_free = slot_entry vol m st i (Ok None) (λ e q. let z : ◌≡◌ {A = ℕ} 0 1 = cc in omega arith)
 
 -- ---- an entry made, and cleared
 
-pub entry_cleared : entry_of (zeros 64) ≡ Free
+pub entry_cleared : entry_of (zeros 64) ≡ Ok None
 unfolding entry_of
 entry_cleared = pick_true _ _ (zeros_pass 64)
 
@@ -187,8 +192,8 @@ module _ (name : List ℕ) (id : ℕ) (ok : name_ok name ≡ true) where
       )
 
   -- an entry that is made is read back
-  pub entry_made : (id ≡ 0 → ⊥) → id < 2 ^ 32 → entry_of (entry_bytes name id) ≡ File id (length name)
+  pub entry_made : (id ≡ 0 → ⊥) → id < 2 ^ 32 → entry_of (entry_bytes name id) ≡ file_of id (length name)
   unfolding entry_of
   entry_made some small =
       pick_false _ _ not_cleared ∙ pick_true _ _ (entry_ok_lem some small)
-      ∙ ap₂ File (entry_id name id short small) entry_len
+      ∙ ap₂ file_of (entry_id name id short small) entry_len

@@ -1,6 +1,5 @@
 pub mod Places
 pub mod Entries
-pub mod Answers
 pub mod Scans
 pub mod RowParts
 pub mod Ranges

@@ -4,7 +4,7 @@ use mathlib.Core.List.{List}
 use Prim.Native.Nat.{ℕ, ◌+◌, ◌-◌, ◌*◌, ◌/◌, ◌%◌, ◌≤◌}
 use native.Mathlib.Nat.{add-sub_cancel_left}
 use native.Mathlib.Omega.{arith}
-use lib.ListN.{length, length-take, take, drop}
+use lib.ListN.{take, drop}
 use Rattle.le.specs.Part.{part}
 use Rattle.le.proofs.Parts.{part_part}
 use Rattle.medium.specs.Sector.{sector_at}
@@ -39,6 +39,3 @@ module _ (vol : List ℕ) (st : Store) (i : ℕ) {a : ℕ} (e : a ≡ place_of s
   pub name_slice : {len : ℕ} → len ≤ 40 → take (a + len - a) (drop a vol) ≡ part 0 len (entry_at vol st i)
   unfolding part
   name_slice {len = len} h = rw (add-sub_cancel_left a len, e) (sym (name_place vol st i len (omega arith)))
-
-pub slice_short : (a len : ℕ) (vol : List ℕ) → len ≤ 40 → length (take (a + len - a) (drop a vol)) ≤ 40
-slice_short a len vol h = omega (arith, length-take (a + len - a) (drop a vol))

@@ -5,6 +5,8 @@ use mathlib.Core.Bool.{Bool, true, false}
 use Prim.Native.Nat.{ℕ, ◌+◌, ◌-◌, ◌*◌, ◌<◌, ◌≤◌, zero-le}
 use native.Mathlib.Omega.{arith}
 use lib.ListN.{length, get_or, length-append}
+use Rattle.std.specs.Prelude.{Option, None, Some, Result, Ok, Err}
+use Rattle.medium.specs.declared.Error.{Error}
 use Rattle.le.specs.Choice.{pick}
 use Rattle.le.specs.Field.{le_bytes, put_le}
 use Rattle.le.specs.Part.{part, over, zeros}
@@ -17,8 +19,7 @@ use Rattle.medium.specs.declared.Medium.{Medium}
 use Rattle.handles.specs.declared.Store.{Store}
 use Rattle.walk.specs.Walk.{next, visits}
 use Rattle.walk.proofs.Laws.{walk_alike}
-use Rattle.directory.specs.declared.Slot.{Slot}
-use Rattle.directory.specs.declared.Slot.TheVariants as slot
+use Rattle.directory.specs.declared.File.{File}
 use Rattle.directory.specs.Entry.{entry_at, slot_at}
 use Rattle.directory.specs.Rows.{row_of, Made, row_made, listing, rows_of}
 use Rattle.directory.specs.Scan.{on_slot}
@@ -72,11 +73,11 @@ module _ (dir counts : List ℕ) (i id : ℕ) (name rows : List ℕ) (count : �
 -- ---- counts that agree at the 64 slots give the same rows
 
 module _ (vol : List ℕ) (m : Medium) (st : Store) (dir c d : List ℕ) (same : (i : ℕ) → i < 64 → get_or c i 0 ≡ get_or d i 0) where
-  visited : (i : ℕ) (s : Made) → i < 64 → (x : Slot) → on_slot (listing dir c) (entry_at vol st) i s x ≡ on_slot (listing dir d) (entry_at vol st) i s x
-  visited i s h (slot.Refused e) = refl
-  visited i s h slot.Free = refl
-  visited i s h (slot.File id len) =
-      let name : List ℕ = part 0 len (entry_at vol st i) in ap (λ (n : ℕ). next (pick (in_dir dir name) (row_made name id n s) s)) (same i h)
+  visited : (i : ℕ) (s : Made) → i < 64 → (x : Result (Option File) Error) → on_slot (listing dir c) (entry_at vol st) i s x ≡ on_slot (listing dir d) (entry_at vol st) i s x
+  visited i s h (Err e) = refl
+  visited i s h (Ok None) = refl
+  visited i s h (Ok (Some f)) =
+      let name : List ℕ = part 0 f.len (entry_at vol st i) in ap (λ (n : ℕ). next (pick (in_dir dir name) (row_made name f.id n s) s)) (same i h)
 
   pub rows_same : (rows : List ℕ) → rows_of vol m st dir c rows ≡ rows_of vol m st dir d rows
   unfolding rows_of visits

@@ -1,5 +1,5 @@
 -- A slot, find and the rows of a list never give 11. Assumes nothing.
-use Rattle.std.specs.Prelude.{Err}
+use Rattle.std.specs.Prelude.{Option, None, Some, Result, Ok, Err}
 use mathlib.Core.Path.{◌≡◌, refl, subst}
 use mathlib.Core.List.{List}
 use Prim.Native.Nat.{ℕ, ◌/◌, ◌%◌}
@@ -12,20 +12,18 @@ use Rattle.medium.proofs.Stale.{NotStale, no_stale}
 use Rattle.handles.specs.declared.Store.{Store}
 use Rattle.handles.specs.Body.{due_of}
 use Rattle.handles.proofs.Laws.{due_not_stale}
-use Rattle.directory.specs.declared.Slot.{Slot}
-use Rattle.directory.specs.declared.Slot.TheVariants as slot
+use Rattle.directory.specs.declared.File.{File}
 use Rattle.directory.specs.declared.Found.{Found}
-use Rattle.directory.specs.declared.Found.TheVariants as found
 use Rattle.directory.specs.Entry.{entry_of, slot_at}
 use Rattle.directory.specs.Rows.{listing, rows_of}
 use Rattle.directory.specs.Scan.{finding, find_of}
 use Rattle.directory.proofs.Scans.{Left, scan_keeps}
 
 module _ (vol : List ℕ) (m : Medium) (st : Store) where
-  abbrev Seen : Slot → Type 0
-  Seen (slot.Refused e) = NotStale (Err e)
-  Seen slot.Free = Unit
-  Seen (slot.File id len) = Unit
+  abbrev Seen : Result (Option File) Error → Type 0
+  Seen (Err e) = NotStale (Err e)
+  Seen (Ok None) = Unit
+  Seen (Ok (Some f)) = Unit
 
   seen : (i : ℕ) → Seen (slot_at vol m st i)
   unfolding slot_at entry_of
@@ -33,14 +31,14 @@ module _ (vol : List ℕ) (m : Medium) (st : Store) where
       on_done_keeps Seen (due_of vol m st (eqb (i % 8) 0) (i / 8)) _ _ (λ _. pick_keeps Seen _ _ _ tt (pick_keeps Seen _ _ _ tt refl))
       (λ e q. no_stale (due_not_stale vol m st (eqb (i % 8) 0) (i / 8)) q)
 
-  slot_refused : (i : ℕ) {e : Error} → slot_at vol m st i ≡ slot.Refused e → NotStale (Err e)
+  slot_refused : (i : ℕ) {e : Error} → slot_at vol m st i ≡ Err e → NotStale (Err e)
   slot_refused i q = subst Seen q (seen i)
 
-  abbrev Sought : Found → Type 0
-  Sought (found.Refused e) = NotStale (Err e)
-  Sought (found.At i id) = Unit
+  abbrev Sought : Result Found Error → Type 0
+  Sought (Err e) = NotStale (Err e)
+  Sought (Ok x) = Unit
 
-  pub find_not_stale : (name : List ℕ) {e : Error} → find_of vol m st name ≡ found.Refused e → NotStale (Err e)
+  pub find_not_stale : (name : List ℕ) {e : Error} → find_of vol m st name ≡ Err e → NotStale (Err e)
   unfolding find_of
   find_not_stale name q =
       subst Sought q

@@ -1,50 +1,47 @@
 // The directory: entries, and the walks over its 64 slots.
 #![tactic(auto)]
 
-ghost use Rattle.std.specs.Prelude.{◌≡◌, ◌+◌, ◌*◌, ◌<◌, ◌≤◌, length};
+ghost use Rattle.std.specs.Prelude.{◌≡◌, ◌+◌, ◌*◌, ◌<◌, ◌≤◌, length, Ok, Some};
 ghost use Rattle.le.specs.Part.{part, over};
 ghost use Rattle.runs.specs.Run.{same_bytes};
 ghost use Rattle.names.specs.Names.{in_dir};
 ghost use Rattle.medium.specs.Sector.{sectors_of};
 ghost use Rattle.handles.specs.Handles.{base_of};
+ghost use Rattle.directory.specs.declared.File.{File};
 ghost use Rattle.directory.specs.Entry.{entry_bytes, entry_of, entry_at, slot_at};
-ghost use Rattle.directory.specs.Scan.{find_of, find_id_of, free_seen, file_seen, look_of, older_of, oldest_of};
+ghost use Rattle.directory.specs.Scan.{scan_of, first, Decides, find_of, find_id_of, free_seen, file_seen, look_of, is_older, older_of, oldest_of};
 ghost use Rattle.directory.specs.Rows.{row_of, rows_told, rows_of};
 
 use handles::Store;
 use medium::{Error, Medium};
 
-// What a slot holds: the name of a file is the first `len` bytes of its entry.
+// A file as its entry has it: the name is the entry's first `len` bytes.
 #[derive(Clone, Copy)]
-pub enum Slot {
-    Refused(Error),
-    Free,
-    File { id: u32, len: usize },
+pub struct File {
+    pub id: u32,
+    pub len: usize,
 }
 
-// The bytes of an entry, read.
-pub fn decode_entry(entry: &[u8]) -> Slot
+// The bytes of an entry, read: no file where it is free.
+#[tactic(auto, unfolding(crate::specs::Entry::entry_of, crate::specs::Entry::entry_ok, crate::specs::Entry::len_of, le::specs::Part::part, le::specs::Choice::pick))]
+pub fn decode_entry(entry: &[u8]) -> Result<Option<File>, Error>
     requires { length entry.now ≡ 64 }
     ensures { result ≡ entry_of entry.now }
 {
     if runs::all_zero(entry) {
-        return Slot::Free;
+        return Ok(None);
     }
     let len = names::text_len(&entry[0..40]);
-    if !names::name_ok(&entry[0..len]) {
-        return Slot::Refused(Error::Corrupt);
-    }
-    if !runs::all_zero(&entry[len..40]) {
-        return Slot::Refused(Error::Corrupt);
-    }
     let id = le::get_u32(entry, 40);
-    if id == 0 {
-        return Slot::Refused(Error::Corrupt);
+    if names::name_ok(&entry[0..len])
+        && runs::all_zero(&entry[len..40])
+        && id != 0
+        && runs::all_zero(&entry[44..64])
+    {
+        Ok(Some(File { id, len }))
+    } else {
+        Err(Error::Corrupt)
     }
-    if !runs::all_zero(&entry[44..64]) {
-        return Slot::Refused(Error::Corrupt);
-    }
-    Slot::File { id, len }
 }
 
 // An entry made in its place.
@@ -66,25 +63,38 @@ pub fn entry_place(copy: u64, slot: usize) -> usize
 }
 
 // What the directory holds at a slot; its sector is checked at its first entry.
-pub fn slot_at(volume: &[u8], medium: Medium, store: Store, slot: usize) -> Slot
+#[tactic(auto, unfolding(crate::specs::Entry::slot_at, medium::specs::Refusal::on_done))]
+pub fn slot_at(
+    volume: &[u8],
+    medium: Medium,
+    store: Store,
+    slot: usize,
+) -> Result<Option<File>, Error>
     requires { (64 ≤ sectors_of volume.now) × (slot < 64) }
-    ensures { result ≡ slot_at volume.now medium store slot }
+    ensures read { result ≡ slot_at volume.now medium store slot }
+    ensures short { (file : File) → result ≡ Ok (Some file) → file.len ≤ 40 }
 {
-    let o = handles::due(store, volume, medium, slot % 8 == 0, slot / 8);
-    if let Err(e) = o {
-        return Slot::Refused(e);
-    }
+    handles::due(store, volume, medium, slot % 8 == 0, slot / 8)?;
     let a = entry_place(store.copy, slot);
     decode_entry(&volume[a..a + 64])
 }
 
-// Whether the file at a slot, whose name has `len` bytes, has this name.
+// The name of the file at a slot, which has `len` bytes.
+fn name_at(volume: &[u8], store: Store, slot: usize, len: usize) -> &[u8]
+    requires { (64 ≤ sectors_of volume.now) × (slot < 64) × (len ≤ 40) }
+    ensures name { result.now ≡ part 0 len (entry_at volume.now store slot) }
+    ensures short { length result.now ≤ 40 }
+{
+    let a = entry_place(store.copy, slot);
+    &volume[a..a + len]
+}
+
+// Whether the file at a slot has this name.
 pub fn named(volume: &[u8], store: Store, slot: usize, len: usize, name: &[u8]) -> bool
     requires { (64 ≤ sectors_of volume.now) × (slot < 64) × (len ≤ 40) }
     ensures { result ≡ same_bytes name.now (part 0 len (entry_at volume.now store slot)) }
 {
-    let a = entry_place(store.copy, slot);
-    runs::same(name, &volume[a..a + len])
+    runs::same(name, name_at(volume, store, slot, len))
 }
 
 // Whether it is in this directory.
@@ -92,202 +102,162 @@ pub fn is_in(volume: &[u8], store: Store, slot: usize, len: usize, dir: &[u8]) -
     requires { (64 ≤ sectors_of volume.now) × (slot < 64) × (len ≤ 40) }
     ensures { result ≡ in_dir dir.now (part 0 len (entry_at volume.now store slot)) }
 {
-    let a = entry_place(store.copy, slot);
-    names::in_dir(dir, &volume[a..a + len])
+    names::in_dir(dir, name_at(volume, store, slot, len))
 }
 
+// Where a file was found.
 #[derive(Clone, Copy)]
-pub enum Found {
-    Refused(Error),
-    At { slot: usize, id: u32 },
+pub struct Found {
+    pub slot: usize,
+    pub id: u32,
 }
 
-// The file of this name: later sectors are not read.
-pub fn find(volume: &[u8], medium: Medium, store: Store, name: &[u8]) -> Found
+// The first file whose id and name a test takes, or `none`: later sectors are not read.
+fn first<F: Fn(u32, &[u8]) -> bool>(
+    volume: &[u8],
+    medium: Medium,
+    store: Store,
+    takes: F,
+    none: Error,
+) -> Result<Found, Error>
+    requires room { 64 ≤ sectors_of volume.now }
+    requires callable { F.IsAlwaysCallable takes }
+    ensures { (test : _) → Decides (F.post takes) test → result ≡ scan_of (first test none) volume.now medium store tt }
+{
+    for slot in 0..64 {
+        if let Some(file) = slot_at(volume, medium, store, slot)? {
+            if takes(file.id, name_at(volume, store, slot, file.len)) {
+                return Ok(Found { slot, id: file.id });
+            }
+        }
+    }
+    Err(none)
+}
+
+// The file of this name.
+pub fn find(volume: &[u8], medium: Medium, store: Store, name: &[u8]) -> Result<Found, Error>
     requires { 64 ≤ sectors_of volume.now }
     ensures { result ≡ find_of volume.now medium store name.now }
 {
-    let mut next: usize = 0;
-    while next < 64 {
-        let slot = next;
-        let s = slot_at(volume, medium, store, slot);
-        next += 1;
-        match s {
-            Slot::Refused(e) => {
-                return Found::Refused(e);
-            }
-            Slot::Free => {}
-            Slot::File { id, len } => {
-                if named(volume, store, slot, len, name) {
-                    return Found::At { slot, id };
-                }
-            }
-        }
-    }
-    Found::Refused(Error::NotFound)
+    first(
+        volume,
+        medium,
+        store,
+        |_, found| runs::same(name, found),
+        Error::NotFound,
+    )
 }
 
-// The file of this id, in the lowest slot of several: later sectors are not read.
-pub fn find_id(volume: &[u8], medium: Medium, store: Store, id: u32) -> Found
+// The file of this id, in the lowest slot of several.
+pub fn find_id(volume: &[u8], medium: Medium, store: Store, id: u32) -> Result<Found, Error>
     requires { 64 ≤ sectors_of volume.now }
     ensures { result ≡ find_id_of volume.now medium store id }
 {
-    let mut next: usize = 0;
-    while next < 64 {
-        let slot = next;
-        let s = slot_at(volume, medium, store, slot);
-        next += 1;
-        match s {
-            Slot::Refused(e) => {
-                return Found::Refused(e);
-            }
-            Slot::Free => {}
-            Slot::File { id: found, len: _ } => {
-                if found == id {
-                    return Found::At { slot, id: found };
-                }
-            }
-        }
-    }
-    Found::Refused(Error::Lost)
+    first(volume, medium, store, |found, _| found == id, Error::Lost)
 }
 
 // What create looks for: the name, and the lowest free slot.
 #[derive(Clone, Copy)]
 pub struct Seen {
     pub exists: bool,
-    pub free: bool,
-    pub slot: usize,
+    pub free: Option<usize>,
 }
 
-#[derive(Clone, Copy)]
-pub enum Looked {
-    Refused(Error),
-    Done(Seen),
-}
-
-fn free_seen(slot: usize, s: Seen) -> Seen
-    ensures { result ≡ free_seen slot s }
+#[tactic(auto, unfolding(crate::specs::Scan::free_seen))]
+fn free_seen(slot: usize, seen: Seen) -> Seen
+    ensures { result ≡ free_seen slot seen }
 {
-    if s.free {
-        return s;
-    }
     Seen {
-        exists: s.exists,
-        free: true,
-        slot,
+        free: seen.free.or(Some(slot)),
+        ..seen
     }
 }
 
-fn file_seen(same: bool, s: Seen) -> Seen
-    ensures { result ≡ file_seen same s }
+#[tactic(auto, unfolding(crate::specs::Scan::file_seen, le::specs::Choice::pick))]
+fn file_seen(same: bool, seen: Seen) -> Seen
+    ensures { result ≡ file_seen same seen }
 {
     if same {
-        return Seen {
+        Seen {
             exists: true,
-            free: s.free,
-            slot: s.slot,
-        };
+            ..seen
+        }
+    } else {
+        seen
     }
-    s
 }
 
 // All slots are read, whatever is found.
-pub fn look(volume: &[u8], medium: Medium, store: Store, name: &[u8]) -> Looked
+pub fn look(volume: &[u8], medium: Medium, store: Store, name: &[u8]) -> Result<Seen, Error>
     requires { 64 ≤ sectors_of volume.now }
     ensures { result ≡ look_of volume.now medium store name.now }
 {
     let mut seen = Seen {
         exists: false,
-        free: false,
-        slot: 0,
+        free: None,
     };
-    let mut next: usize = 0;
-    while next < 64 {
-        let slot = next;
-        let s = slot_at(volume, medium, store, slot);
-        next += 1;
-        match s {
-            Slot::Refused(e) => {
-                return Looked::Refused(e);
-            }
-            Slot::Free => {
-                seen = free_seen(slot, seen);
-            }
-            Slot::File { id: _, len } => {
-                seen = file_seen(named(volume, store, slot, len, name), seen);
-            }
-        }
+    for slot in 0..64 {
+        seen = match slot_at(volume, medium, store, slot)? {
+            None => free_seen(slot, seen),
+            Some(file) => file_seen(named(volume, store, slot, file.len, name), seen),
+        };
     }
-    Looked::Done(seen)
+    Ok(seen)
 }
 
-// The oldest file so far.
+// The oldest file so far: its slot, its id and the length of its name.
 #[derive(Clone, Copy)]
 pub struct Old {
-    pub any: bool,
     pub slot: usize,
     pub id: u32,
     pub len: usize,
 }
 
-#[derive(Clone, Copy)]
-pub enum OldestFile {
-    Refused(Error),
-    Done(Old),
+// Whether a file of this id is older than the oldest so far.
+fn is_older(id: u32, old: Option<Old>) -> bool
+    ensures { result ≡ is_older id old }
+{
+    match old {
+        None => true,
+        Some(old) => id < old.id,
+    }
 }
 
 // The older of a file and the oldest so far.
-fn older(slot: usize, id: u32, len: usize, counts: bool, s: Old) -> Old
-    ensures { result ≡ older_of slot id len counts s }
+#[tactic(auto, unfolding(crate::specs::Scan::older_of, le::specs::Choice::pick))]
+fn older(slot: usize, file: File, counts: bool, old: Option<Old>) -> Option<Old>
+    ensures { result ≡ older_of slot file.id file.len counts old }
 {
-    if counts & (!s.any | (id < s.id)) {
-        return Old {
-            any: true,
+    if counts & is_older(file.id, old) {
+        Some(Old {
             slot,
-            id,
-            len,
-        };
+            id: file.id,
+            len: file.len,
+        })
+    } else {
+        old
     }
-    s
 }
 
-// The oldest file in a directory; with `keeping`, files of the id `keep` are spared.
+// The oldest file in a directory; a file of the id `spared` does not go.
 pub fn oldest(
     volume: &[u8],
     medium: Medium,
     store: Store,
     dir: &[u8],
-    keeping: bool,
-    keep: u32,
-) -> OldestFile
+    spared: Option<u32>,
+) -> Result<Option<Old>, Error>
     requires { 64 ≤ sectors_of volume.now }
-    ensures { result ≡ oldest_of volume.now medium store dir.now keeping keep }
+    ensures { result ≡ oldest_of volume.now medium store dir.now spared }
 {
-    let mut old = Old {
-        any: false,
-        slot: 0,
-        id: 0,
-        len: 0,
-    };
-    let mut next: usize = 0;
-    while next < 64 {
-        let slot = next;
-        let s = slot_at(volume, medium, store, slot);
-        next += 1;
-        match s {
-            Slot::Refused(e) => {
-                return OldestFile::Refused(e);
-            }
-            Slot::Free => {}
-            Slot::File { id, len } => {
-                let spared = keeping & (id == keep);
-                let within = is_in(volume, store, slot, len, dir);
-                old = older(slot, id, len, within & !spared, old);
-            }
+    let mut old = None;
+    for slot in 0..64 {
+        if let Some(file) = slot_at(volume, medium, store, slot)? {
+            let counts = is_in(volume, store, slot, file.len, dir) & (Some(file.id) != spared);
+            old = older(slot, file, counts, old);
         }
     }
-    OldestFile::Done(old)
+    Ok(old)
 }
 
 // Row `count` of the lent rows: the name with zeros to 40, the id and the chunks.
@@ -303,6 +273,7 @@ fn put_row(rows: &mut [u8], count: usize, name: &[u8], id: u32, chunks: u16)
     le::put_u32(rows, at + 44, chunks as u32);
 }
 
+// How a list ended, and the rows made: those made before a refusal stay and are counted, so the count stands beside the outcome.
 #[derive(Clone, Copy)]
 pub struct Rows {
     pub outcome: Result<(), Error>,
@@ -322,25 +293,21 @@ pub fn list_rows(
     ensures { rows_told result rows.new ≡ rows_of volume.now medium store dir.now counts.now rows.old }
 {
     let mut count: usize = 0;
-    let mut next: usize = 0;
-    while next < 64 {
-        let slot = next;
-        let s = slot_at(volume, medium, store, slot);
-        next += 1;
-        match s {
-            Slot::Refused(e) => {
+    for slot in 0..64 {
+        let found = match slot_at(volume, medium, store, slot) {
+            Ok(found) => found,
+            Err(e) => {
                 return Rows {
                     outcome: Err(e),
                     count,
                 };
             }
-            Slot::Free => {}
-            Slot::File { id, len } => {
-                if is_in(volume, store, slot, len, dir) {
-                    let a = entry_place(store.copy, slot);
-                    put_row(rows, count, &volume[a..a + len], id, counts[slot]);
-                    count += 1;
-                }
+        };
+        if let Some(file) = found {
+            let name = name_at(volume, store, slot, file.len);
+            if names::in_dir(dir, name) {
+                put_row(rows, count, name, file.id, counts[slot]);
+                count += 1;
             }
         }
     }

@@ -1,5 +1,5 @@
 -- What create keeps, accepted or refused: what a caller goes on with. Assumes nothing.
-use Rattle.std.specs.Prelude.{Err, Ok}
+use Rattle.std.specs.Prelude.{Err, Ok, None}
 use Rattle.std.proofs.Common.{◌≡◌, ℕ, zero, suc, ◌+◌, ◌-◌, ◌%◌, ◌^◌, ◌<◌, ◌≤◌, true, false, eqb, List, length, sym, refl, ap, zero-le, lit≤, le-leb}
 use Rattle.le.proofs.Choices.{pick_keeps, pick_keeps_by}
 use Rattle.medium.specs.declared.Error.{Error}
@@ -13,7 +13,7 @@ use Rattle.handles.specs.Handles.{store_ok}
 use Rattle.handles.proofs.Laws.{store_facts}
 use Rattle.directory.specs.Scan.{look_of}
 use Rattle.directory.proofs.Ranges.{look_free}
-use Rattle.directory.proofs.Decides.{on_looked_keeps}
+use Rattle.directory.proofs.Decides.{on_free_keeps, on_looked_keeps}
 use Rattle.table.specs.Free.{free_of}
 use Rattle.table.proofs.Mapped.{free_range}
 use Rattle.table.proofs.Decides.{on_pick_keeps}
@@ -60,8 +60,8 @@ module _ (vol₀ : List ℕ) (m₀ : Medium) (st₀ : Store) (rollover : Rollove
       over_holds : Out_holds (over_out rollover next vol m st)
       unfolding over_out
       over_holds =
-          let g : GoneOut = remove_oldest_of vol m st (dir_bytes rollover.dir) false 0 in
-          let s : GoneStands vol m st g = oldest_stands vol m st (dir_bytes rollover.dir) false 0 k.good in
+          let g : GoneOut = remove_oldest_of vol m st (dir_bytes rollover.dir) None in
+          let s : GoneStands vol m st g = oldest_stands vol m st (dir_bytes rollover.dir) None k.good in
           pick_keeps Out_holds rollover.rolls _ _
           (on_done_keeps Out_holds g.ans.outcome _ _
           (λ _. pick_keeps Out_holds g.ans.any _ _ (hn g.vol g.ans.medium g.ans.store (stands_more k s))
@@ -74,10 +74,9 @@ module _ (vol₀ : List ℕ) (m₀ : Medium) (st₀ : Store) (rollover : Rollove
       round_holds =
           on_looked_keeps Out_holds (look_of vol m st name) _ _ (λ e. p.no vol m st e k)
           (λ s q. pick_keeps Out_holds s.exists _ _ (p.no vol m st Exists k)
-          (pick_keeps_by Out_holds s.free _ _
-          (λ u. on_pick_keeps Out_holds (free_of vol m st) _ _ _ (λ e. p.no vol m st e k) over_holds
-          (λ c w. make_holds s.slot c (look_free vol m st name q u).below (free_range vol m st (store_facts _ _ k.good.ok).map w)))
-          (λ _. over_holds)))
+          (on_free_keeps Out_holds s.free _ _ (λ _. over_holds)
+          (λ slot u. on_pick_keeps Out_holds (free_of vol m st) _ _ _ (λ e. p.no vol m st e k) over_holds
+          (λ c w. make_holds slot c (look_free vol m st name q u).below (free_range vol m st (store_facts _ _ k.good.ok).map w)))))
 
   pub from_holds : (n : ℕ) (vol : List ℕ) (m : Medium) (st : Store) → Stands vol₀ m₀ st₀ vol m st → Out_holds (create_from n name rollover vol m st)
   unfolding create_from

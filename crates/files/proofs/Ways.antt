@@ -9,10 +9,8 @@ use Rattle.medium.specs.declared.Error.TheVariants.{Corrupt, Exists, Full, Spent
 use Rattle.medium.specs.declared.Medium.{Medium}
 use Rattle.medium.specs.Refusal.{on_done}
 use Rattle.handles.specs.declared.Store.{Store}
-use Rattle.directory.specs.declared.Looked.{Looked}
-use Rattle.directory.specs.declared.Looked.TheVariants as looked
 use Rattle.directory.specs.declared.Seen.{Seen}
-use Rattle.directory.specs.Scan.{look_of, on_looked}
+use Rattle.directory.specs.Scan.{look_of, on_looked, on_free}
 use Rattle.table.specs.Table.{on_pick}
 use Rattle.table.specs.Free.{free_of}
 use Rattle.plan.specs.declared.Committed.{Committed}
@@ -73,8 +71,8 @@ module _ (rollover : Rollover) (vol : List ℕ) (m : Medium) (st : Store) where
   unfolding over_out
   roll_none t h next = along (refl, h) (sym (pick_false _ _ t))
 
-  module _ (t : rollover.rolls ≡ true) {dir : List ℕ} (hd : dir ≡ dir_bytes rollover.dir) {v : List ℕ} {g : Gone} (h : GivesG v g (remove_oldest_of vol m st dir false 0)) where
-    gone : GivesG v g (remove_oldest_of vol m st (dir_bytes rollover.dir) false 0)
+  module _ (t : rollover.rolls ≡ true) {dir : List ℕ} (hd : dir ≡ dir_bytes rollover.dir) {v : List ℕ} {g : Gone} (h : GivesG v g (remove_oldest_of vol m st dir None)) where
+    gone : GivesG v g (remove_oldest_of vol m st (dir_bytes rollover.dir) None)
     gone = rw (← hd) h
 
     pub roll_refused : {e : Error} {x : Handed} → g.outcome ≡ Err e → x ≡ refusal e g.medium g.store no_appender → (next : Next) → GivesA v x (over_out rollover next vol m st)
@@ -85,50 +83,53 @@ module _ (rollover : Rollover) (vol : List ℕ) (m : Medium) (st : Store) where
     unfolding over_out pick on_done
     roll_full d a e next = rw (t, ← gone.0, ← gone.1, d, a, e) (refl, refl)
 
-    pub roll_again : g.outcome ≡ Ok tt → g.any ≡ true → (next : Next) → over_out rollover next vol m st ≡ after (rolling (remove_oldest_of vol m st (dir_bytes rollover.dir) false 0).skipped) (next v g.medium g.store)
+    pub roll_again : g.outcome ≡ Ok tt → g.any ≡ true → (next : Next) → over_out rollover next vol m st ≡ after (rolling (remove_oldest_of vol m st (dir_bytes rollover.dir) None).skipped) (next v g.medium g.store)
     unfolding over_out pick on_done
     roll_again d a next = rw (t, ← gone.0, ← gone.1, d, a) refl
 
 -- ---- a round
 
-on_looked_refused : {p : Looked} {e : Error} (f : Error → AppOut) (g : Seen → AppOut) → p ≡ looked.Refused e → on_looked p f g ≡ f e
+on_looked_refused : {p : Result Seen Error} {e : Error} (f : Error → AppOut) (g : Seen → AppOut) → p ≡ Err e → on_looked p f g ≡ f e
 unfolding on_looked
 on_looked_refused f g q = rw q
 
-on_looked_done : {p : Looked} {s : Seen} (f : Error → AppOut) (g : Seen → AppOut) → p ≡ looked.Done s → on_looked p f g ≡ g s
+on_looked_done : {p : Result Seen Error} {s : Seen} (f : Error → AppOut) (g : Seen → AppOut) → p ≡ Ok s → on_looked p f g ≡ g s
 unfolding on_looked
 on_looked_done f g q = rw q
+
+on_free_by : {p q : Option ℕ} (a : AppOut) (f : ℕ → AppOut) → p ≡ q → on_free p a f ≡ on_free q a f
+on_free_by a f e = rw e
 
 on_pick_by : {p q : Result (Option ℕ) Error} (f : Error → AppOut) (a : AppOut) (g : ℕ → AppOut) → p ≡ q → on_pick p f a g ≡ on_pick q f a g
 on_pick_by f a g e = rw e
 
-module _ (name : List ℕ) (rollover : Rollover) (vol : List ℕ) (m : Medium) (st : Store) {f : Looked} (hf : f ≡ look_of vol m st name) where
-  pub round_unread : {e : Error} → f ≡ looked.Refused e → (next : Next) → round_out name rollover next vol m st ≡ refused_at vol m st e
+module _ (name : List ℕ) (rollover : Rollover) (vol : List ℕ) (m : Medium) (st : Store) {f : Result Seen Error} (hf : f ≡ look_of vol m st name) where
+  pub round_unread : {e : Error} → f ≡ Err e → (next : Next) → round_out name rollover next vol m st ≡ refused_at vol m st e
   unfolding round_out
   round_unread q next = on_looked_refused _ _ (sym hf ∙ q)
 
-  module _ {s : Seen} (q : f ≡ looked.Done s) where
+  module _ {s : Seen} (q : f ≡ Ok s) where
     pub round_exists : s.exists ≡ true → (next : Next) → round_out name rollover next vol m st ≡ refused_at vol m st Exists
     unfolding round_out
     round_exists t next = on_looked_done _ _ (sym hf ∙ q) ∙ pick_true _ _ t
 
     module _ (t : s.exists ≡ false) where
-      pub round_crowded : s.free ≡ false → (next : Next) → round_out name rollover next vol m st ≡ over_out rollover next vol m st
-      unfolding round_out
-      round_crowded u next = on_looked_done _ _ (sym hf ∙ q) ∙ pick_false _ _ t ∙ pick_false _ _ u
+      pub round_crowded : s.free ≡ None → (next : Next) → round_out name rollover next vol m st ≡ over_out rollover next vol m st
+      unfolding round_out on_free
+      round_crowded u next = on_looked_done _ _ (sym hf ∙ q) ∙ pick_false _ _ t ∙ on_free_by _ _ u
 
-      module _ (u : s.free ≡ true) {p : Result (Option ℕ) Error} (hp : p ≡ free_of vol m st) where
+      module _ {slot : ℕ} (u : s.free ≡ Some slot) {p : Result (Option ℕ) Error} (hp : p ≡ free_of vol m st) where
         pub round_untold : {e : Error} → p ≡ Err e → (next : Next) → round_out name rollover next vol m st ≡ refused_at vol m st e
-        unfolding round_out on_pick
-        round_untold w next = on_looked_done _ _ (sym hf ∙ q) ∙ pick_false _ _ t ∙ pick_true _ _ u ∙ on_pick_by _ _ _ (sym hp ∙ w)
+        unfolding round_out on_free on_pick
+        round_untold w next = on_looked_done _ _ (sym hf ∙ q) ∙ pick_false _ _ t ∙ on_free_by _ _ u ∙ on_pick_by _ _ _ (sym hp ∙ w)
 
         pub round_full : p ≡ Ok None → (next : Next) → round_out name rollover next vol m st ≡ over_out rollover next vol m st
-        unfolding round_out on_pick
-        round_full w next = on_looked_done _ _ (sym hf ∙ q) ∙ pick_false _ _ t ∙ pick_true _ _ u ∙ on_pick_by _ _ _ (sym hp ∙ w)
+        unfolding round_out on_free on_pick
+        round_full w next = on_looked_done _ _ (sym hf ∙ q) ∙ pick_false _ _ t ∙ on_free_by _ _ u ∙ on_pick_by _ _ _ (sym hp ∙ w)
 
-        pub round_made : {c : ℕ} → p ≡ Ok (Some c) → (next : Next) → round_out name rollover next vol m st ≡ make_out name rollover vol m st s.slot c
-        unfolding round_out on_pick
-        round_made w next = on_looked_done _ _ (sym hf ∙ q) ∙ pick_false _ _ t ∙ pick_true _ _ u ∙ on_pick_by _ _ _ (sym hp ∙ w)
+        pub round_made : {c : ℕ} → p ≡ Ok (Some c) → (next : Next) → round_out name rollover next vol m st ≡ make_out name rollover vol m st slot c
+        unfolding round_out on_free on_pick
+        round_made w next = on_looked_done _ _ (sym hf ∙ q) ∙ pick_false _ _ t ∙ on_free_by _ _ u ∙ on_pick_by _ _ _ (sym hp ∙ w)
 
 -- ---- two rounds
 

@@ -1,11 +1,11 @@
 -- 01, "Directory entry" and refusals 7 to 12: create. Refused, the store is that of the last finished commit. Assumes nothing.
-use Rattle.std.specs.Prelude.{◌≡◌, ℕ, zero, suc, ◌-◌, ◌^◌, true, false, List, ◌==◌}
+use Rattle.std.specs.Prelude.{◌≡◌, ℕ, zero, suc, ◌-◌, ◌^◌, true, false, List, ◌==◌, None}
 use Rattle.le.specs.Choice.{pick}
 use Rattle.medium.specs.declared.Error.TheVariants.{Corrupt, Exists, Full, Spent}
 use Rattle.medium.specs.declared.Medium.{Medium}
 use Rattle.medium.specs.Refusal.{on_done}
 use Rattle.handles.specs.declared.Store.{Store}
-use Rattle.directory.specs.Scan.{look_of, on_looked}
+use Rattle.directory.specs.Scan.{look_of, on_free, on_looked}
 use Rattle.table.specs.Table.{on_pick}
 use Rattle.table.specs.Free.{free_of}
 use Rattle.plan.specs.declared.Edit.TheVariants.{Create}
@@ -36,16 +36,15 @@ make_out name rollover vol m st slot chunk =
 -- a slot or chunk is lacking: the oldest file of the rollover's directory goes, whichever is open, and then `next`
 unfoldable pub over_out : Rollover → Next → List ℕ → Medium → Store → AppOut
 over_out rollover next vol m st =
-    pick rollover.rolls (after_gone (remove_oldest_of vol m st (dir_bytes rollover.dir) false 0) no_appender next) (refused_at vol m st Full)
+    pick rollover.rolls (after_gone (remove_oldest_of vol m st (dir_bytes rollover.dir) None) no_appender next) (refused_at vol m st Full)
 
 -- one round: all of the directory is looked through, and the table only if a slot is free
 unfoldable pub round_out : List ℕ → Rollover → Next → List ℕ → Medium → Store → AppOut
 round_out name rollover next vol m st =
     on_looked (look_of vol m st name) (refused_at vol m st)
     (λ s. pick s.exists (refused_at vol m st Exists)
-    (pick s.free
-    (on_pick (free_of vol m st) (refused_at vol m st) (over_out rollover next vol m st) (make_out name rollover vol m st s.slot))
-    (over_out rollover next vol m st)))
+    (on_free s.free (over_out rollover next vol m st)
+    (λ slot. on_pick (free_of vol m st) (refused_at vol m st) (over_out rollover next vol m st) (make_out name rollover vol m st slot))))
 
 -- two rounds; rolled over twice is 7
 unfoldable pub create_from : ℕ → List ℕ → Rollover → List ℕ → Medium → Store → AppOut

@@ -10,7 +10,6 @@ ghost use Rattle.files.specs.Opened.{refused_at, opened_out, with_token, written
 ghost use Rattle.files.specs.Create.{Turned, make_out, over_out, round_out, create_of};
 
 use append::{Appender, Dir, Handed, Tail};
-use directory::Looked;
 use handles::{Store, Writer};
 use medium::{Error, Medium};
 use plan::Edit;
@@ -170,7 +169,7 @@ fn roll(volume: &mut [u8], medium: Medium, store: Store, rollover: Rollover) -> 
     let dir = rollover.dir;
     let bytes = dir.bytes;
     let n = dir.length;
-    let g = remove::remove_oldest(volume, medium, store, &bytes[0..n], false, 0);
+    let g = remove::remove_oldest(volume, medium, store, &bytes[0..n], None);
     let o = g.outcome;
     let m = g.medium;
     let s = g.store;
@@ -188,25 +187,23 @@ fn round(volume: &mut [u8], medium: Medium, store: Store, name: &[u8], rollover:
     requires { (store_ok store (sectors_of volume.old) ≡ true) × (length name.now ≤ 40) × (rollover.rolls ≡ true → rollover.dir.length ≤ 40) }
     ensures { Turned volume.new result (λ next. round_out name.now rollover next volume.old medium store) }
 {
-    let found = directory::look(&volume[..], medium, store, name);
-    match found {
-        Looked::Refused(e) => ended(refused(e, medium, store)),
-        Looked::Done(seen) => {
-            if seen.exists {
-                return ended(refused(Error::Exists, medium, store));
-            }
-            if !seen.free {
-                return roll(volume, medium, store, rollover);
-            }
-            let p = table::free_chunk(&volume[..], medium, store);
-            match p {
-                Err(e) => ended(refused(e, medium, store)),
-                Ok(None) => roll(volume, medium, store, rollover),
-                Ok(Some(chunk)) => {
-                    let x = make(volume, medium, store, name, rollover, seen.slot, chunk);
-                    ended(x)
-                }
-            }
+    let seen = match directory::look(&volume[..], medium, store, name) {
+        Ok(seen) => seen,
+        Err(e) => return ended(refused(e, medium, store)),
+    };
+    if seen.exists {
+        return ended(refused(Error::Exists, medium, store));
+    }
+    let Some(slot) = seen.free else {
+        return roll(volume, medium, store, rollover);
+    };
+    let p = table::free_chunk(&volume[..], medium, store);
+    match p {
+        Err(e) => ended(refused(e, medium, store)),
+        Ok(None) => roll(volume, medium, store, rollover),
+        Ok(Some(chunk)) => {
+            let x = make(volume, medium, store, name, rollover, slot, chunk);
+            ended(x)
         }
     }
 }

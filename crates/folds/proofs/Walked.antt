@@ -9,6 +9,8 @@ use mathlib.Core.List.{List}
 use native.Mathlib.Omega.{arith}
 use lib.Dec.{eqb, ltb}
 use borrow.Author.Tests.{ltb-true, ltb-false}
+use Rattle.std.specs.Prelude.{Option, None, Some, Result, Ok, Err}
+use Rattle.medium.specs.declared.Error.{Error}
 use Rattle.le.specs.Part.{part}
 use Rattle.medium.specs.declared.Medium.{Medium}
 use Rattle.medium.proofs.Laws.{on_done_done}
@@ -17,9 +19,8 @@ use Rattle.handles.specs.Handles.{table_of}
 use Rattle.handles.proofs.Laws.{due_done}
 use Rattle.walk.specs.Walk.{Visit, visits}
 use Rattle.walk.proofs.Laws.{walk_keeps}
-use Rattle.directory.specs.declared.Slot.{Slot}
-use Rattle.directory.specs.declared.Slot.TheVariants as slot
-use Rattle.directory.specs.Entry.{entry_of, entry_at, slot_at}
+use Rattle.directory.specs.declared.File.{File}
+use Rattle.directory.specs.Entry.{entry_of, entry_at, slot_at, file_of}
 use Rattle.directory.specs.Scan.{Visitor, on_slot, scan_of}
 use Rattle.directory.proofs.Scans.{Left}
 use Rattle.table.specs.declared.Link.{Link}
@@ -60,11 +61,11 @@ module _ (vol : List ℕ) (m : Medium) (st : Store) (ok : Checked vol m st) wher
       (frees : (i : ℕ) (t : S) → i < 64 → P i t → (disk_of vol st).entry i ≡ vacant → Left (P (i + 1)) Q (v.free i t))
       (files : (i : ℕ) (t : S) (n : List ℕ) (id : ℕ) → i < 64 → P i t → (disk_of vol st).entry i ≡ named n id → Left (P (i + 1)) Q (v.file i id n t))
       (ends : (t : S) → P 64 t → Q (v.done t)) where
-    at_slot : (i : ℕ) (t : S) → i < 64 → P i t → (x : Slot) → entry_of (entry_at vol st i) ≡ x → Left (P (i + 1)) Q (on_slot v (entry_at vol st) i t x)
+    at_slot : (i : ℕ) (t : S) → i < 64 → P i t → (x : Result (Option File) Error) → entry_of (entry_at vol st i) ≡ x → Left (P (i + 1)) Q (on_slot v (entry_at vol st) i t x)
     unfolding entry_view
-    at_slot i t h p (slot.Refused e) q = absurd (whole i h (ap (entry_view (entry_at vol st i)) q))
-    at_slot i t h p slot.Free q = frees i t h p (ap (entry_view (entry_at vol st i)) q)
-    at_slot i t h p (slot.File id len) q = files i t (part 0 len (entry_at vol st i)) id h p (ap (entry_view (entry_at vol st i)) q)
+    at_slot i t h p (Err e) q = absurd (whole i h (ap (entry_view (entry_at vol st i)) q))
+    at_slot i t h p (Ok None) q = frees i t h p (ap (entry_view (entry_at vol st i)) q)
+    at_slot i t h p (Ok (Some f)) q = files i t (part 0 f.len (entry_at vol st i)) f.id h p (ap (entry_view (entry_at vol st i)) q)
 
     pub scan_views : (s : S) → P 0 s → Q (scan_of v vol m st s)
     scan_views s p =

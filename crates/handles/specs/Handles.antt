@@ -1,6 +1,6 @@
 -- 01, "Header" and refusals 3 and 10: the numbers of a header, which store values no call accepts, and the open file. 02, S-3: the rule for the map.
 -- Assumes nothing.
-use Rattle.std.specs.Prelude.{ℕ, ◌+◌, ◌*◌, ◌/◌, Bool, true, false, not, ◌&&◌, ltb, leb, eqb}
+use Rattle.std.specs.Prelude.{ℕ, ◌+◌, ◌*◌, ◌/◌, Bool, true, false, not, ◌&&◌, ltb, leb, eqb, Option, None, Some}
 use Rattle.le.specs.Choice.{pick}
 use Rattle.le.specs.Part.{zeros}
 use Rattle.freemap.specs.Map.{unfit_of, map_ok}
@@ -34,6 +34,11 @@ unfoldable pub store_ok : Store → ℕ → Bool
 store_ok st sectors = ltb st.copy 2 && (sane_of st.head sectors && map_ok st.free st.head.chunks)
 
 -- the open file is that of the open appender: whether there is one, and its id
+-- the file that is open, if any
+abbrev pub open_file : Writer → Option ℕ
+open_file Nobody = None
+open_file (Open token id) = Some id
+
 abbrev pub is_open : Writer → Bool
 is_open Nobody = false
 is_open (Open token id) = true

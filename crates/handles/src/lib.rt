@@ -3,7 +3,7 @@
 
 ghost use Rattle.std.specs.Prelude.{◌≡◌, ◌+◌, ◌*◌, ◌<◌, ◌≤◌};
 ghost use Rattle.medium.specs.Sector.{sectors_of};
-ghost use Rattle.handles.specs.Handles.{blank_of, no_store, table_of, body_of, base_of, sane_of, store_ok, is_open, open_id};
+ghost use Rattle.handles.specs.Handles.{blank_of, no_store, table_of, body_of, base_of, sane_of, store_ok, open_file, is_open, open_id};
 ghost use Rattle.handles.specs.Body.{check_of, due_of};
 
 use freemap::FreeMap;
@@ -66,7 +66,17 @@ pub fn no_store() -> Store
     }
 }
 
-// Whether a file is open, and its id: extending and delete_oldest spare it.
+// The file that is open: extending and delete_oldest spare it.
+pub fn open_file(writer: Writer) -> Option<u32>
+    ensures { result ≡ open_file writer }
+{
+    match writer {
+        Writer::Nobody => None,
+        Writer::Open { id, .. } => Some(id),
+    }
+}
+
+// Whether a file is open, and its id.
 pub fn is_open(writer: Writer) -> bool
     ensures { result ≡ is_open writer }
 {

@@ -9,6 +9,8 @@ use native.Mathlib.Omega.{arith}
 use lib.Dec.{eqb}
 use lib.ListN.{length}
 use borrow.Author.Tests.{eqb-false, not-true}
+use Rattle.std.specs.Prelude.{Option, None, Some, Result, Ok, Err}
+use Rattle.medium.specs.declared.Error.{Error}
 use Rattle.le.specs.Field.{get_le}
 use Rattle.le.specs.Part.{part}
 use Rattle.le.proofs.Choices.{pick_keeps_by, pick_true}
@@ -16,11 +18,8 @@ use Rattle.le.proofs.Parts.{length_part}
 use Rattle.le.proofs.Bools.{and_true}
 use Rattle.runs.specs.Run.{all_zero}
 use Rattle.names.specs.Names.{name_ok}
-use Rattle.directory.specs.declared.Slot.{Slot}
-use Rattle.directory.specs.Entry.{len_of, entry_ok, entry_of}
-use Rattle.directory.specs.declared.Slot.TheVariants.{File}
-use Rattle.record.specs.declared.Judged.{Judged}
-use Rattle.record.specs.declared.Judged.TheVariants.{Valid, Other}
+use Rattle.directory.specs.declared.File.{File}
+use Rattle.directory.specs.Entry.{len_of, entry_ok, file_of, entry_of}
 use Rattle.record.specs.Record.{judge_of, carries_of, payload_of}
 use Rattle.record.proofs.RoundTrip.{judge_facts, judge_carries, judge_length, carries_judge}
 use Rattle.layout.specs.Views.{named, Rec, stored, entry_view, rec_view}
@@ -79,7 +78,7 @@ pub record Named (name : List ℕ) (id : ℕ) : Type 0 where
   pub fine : name_ok name ≡ true
   pub some : id ≢ 0
 
-ok_named : (e : List ℕ) {name : List ℕ} {id : ℕ} → entry_ok e ≡ true → entry_view e (File (get_le 4 40 e) (len_of e)) ≡ named name id → Named name id
+ok_named : (e : List ℕ) {name : List ℕ} {id : ℕ} → entry_ok e ≡ true → entry_view e (file_of (get_le 4 40 e) (len_of e)) ≡ named name id → Named name id
 unfolding entry_ok entry_view
 ok_named e {name} {id} ok q =
     let n : part 0 (len_of e) e ≡ name = cc in
@@ -97,5 +96,5 @@ named_facts e {name} {id} =
     pick_keeps_by Meets (all_zero e) _ _ (λ _ q. absurd (let z : ◌≡◌ {A = ℕ} 0 1 = cc in omega arith))
     (λ _. pick_keeps_by Meets (entry_ok e) _ _ (ok_named e) (λ _ q. absurd (let z : ◌≡◌ {A = ℕ} 0 1 = cc in omega arith)))
   where
-    Meets : Slot → Type 0
+    Meets : Result (Option File) Error → Type 0
     Meets x = entry_view e x ≡ named name id → Named name id

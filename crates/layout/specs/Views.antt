@@ -1,14 +1,14 @@
 -- 01, "Directory entry", "Link" and "Record": what the bytes of a mounted volume say, as functions of an index: the entry of a slot, the link of a
 -- chunk, and the record that passes at an index of a chunk. Assumes nothing.
-use Rattle.std.specs.Prelude.{ℕ, List, Result}
+use Rattle.std.specs.Prelude.{ℕ, List, Result, Option, None, Some, Ok, Err}
+use Rattle.medium.specs.declared.Error.{Error}
 use Rattle.le.specs.Choice.{pick}
 use Rattle.le.specs.Field.{get_le}
 use Rattle.le.specs.Part.{part}
 use Rattle.medium.specs.declared.Error.{Error}
 use Rattle.medium.specs.Sector.{sector_at}
 use Rattle.handles.specs.declared.Store.{Store}
-use Rattle.directory.specs.declared.Slot.{Slot}
-use Rattle.directory.specs.declared.Slot.TheVariants as slot
+use Rattle.directory.specs.declared.File.{File}
 use Rattle.directory.specs.Entry.{entry_of, entry_at}
 use Rattle.table.specs.declared.LinkAt.{LinkAt}
 use Rattle.table.specs.Link.{link_held}
@@ -34,10 +34,10 @@ pub record Disk : Type 0 where
   pub link : ℕ → Result LinkAt Error
   pub rec : ℕ → ℕ → Rec
 
-unfoldable pub entry_view : List ℕ → Slot → Entry
-entry_view bytes (slot.Refused e) = broken
-entry_view bytes slot.Free = vacant
-entry_view bytes (slot.File id len) = named (part 0 len bytes) id
+unfoldable pub entry_view : List ℕ → Result (Option File) Error → Entry
+entry_view bytes (Err e) = broken
+entry_view bytes (Ok None) = vacant
+entry_view bytes (Ok (Some f)) = named (part 0 f.len bytes) f.id
 
 unfoldable pub link_view : List ℕ → Store → ℕ → Result LinkAt Error
 link_view vol st c = link_held vol st c

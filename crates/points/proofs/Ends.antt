@@ -29,7 +29,6 @@ use Rattle.record.proofs.Laws.{on_judged_keeps}
 use Rattle.table.specs.Table.{locate_of}
 use Rattle.table.proofs.Decides.{on_place_keeps}
 use Rattle.reader.specs.declared.Reader.{Reader}
-use Rattle.reader.specs.declared.Entered.{Entered}
 use Rattle.reader.specs.declared.Arrived.{Arrived}
 use Rattle.reader.specs.declared.Found.{Found}
 use Rattle.reader.specs.declared.Found.TheVariants as found

@@ -24,8 +24,6 @@ use Rattle.medium.specs.Refusal.{Answer, ok, refused, number_of, on_ok}
 use Rattle.medium.proofs.Laws.{on_done_keeps}
 use Rattle.handles.specs.declared.Store.{Store}
 use Rattle.reader.specs.declared.Next.TheVariants as item
-use Rattle.reader.specs.declared.Numbered.{Numbered}
-use Rattle.reader.specs.declared.Numbered.TheVariants as numbered
 use Rattle.reader.specs.declared.Read.{Read}
 use Rattle.reader.specs.declared.Reader.{Reader}
 use Rattle.reader.specs.Reader.{reader_ok}

@@ -1,13 +1,13 @@
 -- Enough is enough: in a history whose generation is not spent, a call with as many writes left as its commit may take is accepted: delete of a file of
 -- the book, delete_oldest of any directory, and create of a new name that its rules take where the book has room. So is a sync with one write left where the chunk has
 -- room, and a format with its writes left. So none of them gives 4. Assumes nothing.
-use Rattle.std.specs.Prelude.{Ok}
 use Prim.Native.Nat.{ℕ, ◌-◌, ◌^◌, ◌≤◌, ◌<◌}
 use mathlib.Core.Path.{◌≡◌, refl, sym, ap, subst, ◌∙◌}
 use mathlib.Core.Logic.{◌⊎◌, inl, inr}
 use mathlib.Core.Bool.{Bool, true, false}
 use mathlib.Core.Option.{Option}
 use mathlib.Core.List.{List, [], ◌∷◌, Memᴰ}
+use Rattle.std.specs.Prelude.{None, Some, Ok, Option as StdOption}
 use Rattle.le.specs.Choice.{pick}
 use Rattle.names.specs.Names.{name_ok, dir_ok}
 use Rattle.medium.specs.declared.Medium.{Medium}
@@ -15,7 +15,7 @@ use Rattle.medium.specs.Refusal.{on_done}
 use Rattle.medium.specs.Sector.{sectors_of}
 use Rattle.medium.proofs.Laws.{on_done_done}
 use Rattle.handles.specs.declared.Writer.TheVariants.{Open}
-use Rattle.handles.specs.Handles.{is_open, open_id}
+use Rattle.handles.specs.Handles.{open_file}
 use Rattle.header.specs.Copies.{headers_of}
 use Rattle.directory.specs.declared.Old.{Old}
 use Rattle.directory.specs.Entry.{entry_at}
@@ -79,41 +79,38 @@ module _ (w : World) (b : Book) (k : Booked w b) (left : ℕ) (can : CanCommit w
   -- ---- delete_oldest: a file of the book may go and one goes, or none may and no step is made
 
   module _ (dir : List ℕ) (fine : dir_ok dir ≡ true) where
-    abbrev keeping : Bool
-    keeping = is_open w.store.writer
-
-    abbrev kept : ℕ
-    kept = open_id w.store.writer
+    abbrev spared : StdOption ℕ
+    spared = open_file w.store.writer
 
     abbrev gone : GoneOut
-    gone = remove_oldest_of w.vol m w.store dir keeping kept
+    gone = remove_oldest_of w.vol m w.store dir spared
 
     -- what is so of the book where a file went, and where none did
     abbrev Of : Bool → Type 0
     Of true = (f : File) × Memᴰ f b.files × (may_go dir (open_of w.store.writer) f ≡ true)
     Of false = (f : File) → Memᴰ f b.files → may_go dir (open_of w.store.writer) f ≡ false
 
-    spares : (f : File) → may_go dir (spared_by keeping kept) f ≡ may_go dir (open_of w.store.writer) f
+    spares : (f : File) → may_go dir (spared_by spared) f ≡ may_go dir (open_of w.store.writer) f
     spares f = ap (λ (s : Option ℕ). may_go dir s f) (spared_open w.store.writer)
 
-    none_may : (old : Old) → Olds w.vol w.store dir keeping kept 64 old → old.any ≡ false → Of false
-    none_may old o t f mem = go (may_go dir (open_of w.store.writer) f) refl
+    none_may : Olds w.vol w.store dir spared 64 None → Of false
+    none_may o f mem = go (may_go dir (open_of w.store.writer) f) refl
       where
         go : (may : Bool) → may_go dir (open_of w.store.writer) f ≡ may → may ≡ false
-        go true e = let s = k.keeps.whole.ties.from f (rw (same_files k) mem) in absurd (o.none t s.0 s.1 f.name f.id s.2 (may_goes dir keeping kept f (spares f ∙ e)))
+        go true e = let s = k.keeps.whole.ties.from f (rw (same_files k) mem) in absurd (o.none refl s.0 s.1 f.name f.id s.2 (may_goes dir spared f (spares f ∙ e)))
         go false e = refl
 
-    one_may : (old : Old) → Olds w.vol w.store dir keeping kept 64 old → old.any ≡ true → Of true
-    one_may old o t =
-        let p = o.some t in
+    one_may : (old : Old) → Olds w.vol w.store dir spared 64 (Some old) → Of true
+    one_may old o =
+        let p = o.some refl in
         let f : File = file_of p.name old.id (k.keeps.layout old.slot) in
-        (f, rw (← same_files k) (k.keeps.whole.ties.into old.slot p.name old.id p.below p.entry), sym (spares f) ∙ goes_may dir keeping kept f p.goes)
+        (f, rw (← same_files k) (k.keeps.whole.ties.into old.slot p.name old.id p.below p.entry), sym (spares f) ∙ goes_may dir spared f p.goes)
 
     done : (gone.ans.outcome ≡ Ok tt) × ((any : Bool) × (gone.ans.any ≡ any) × Of any)
     done =
-        ways w.vol m w.store k.keeps.layout k.fine k.keeps.whole k.keeps.readable dir keeping kept (λ (g : GoneOut). (g.ans.outcome ≡ Ok tt) × ((any : Bool) × (g.ans.any ≡ any) × Of any))
-        (λ old o t. let g = goer w.vol m w.store k.keeps.layout k.fine k.keeps.whole k.keeps.readable can.gens can.writes _ _ old.slot old.id in (g.within.0, (true, g.any, one_may old o t)))
-        (λ old o t. (refl, (false, refl, none_may old o t)))
+        ways w.vol m w.store k.keeps.layout k.fine k.keeps.whole k.keeps.readable dir spared (λ (g : GoneOut). (g.ans.outcome ≡ Ok tt) × ((any : Bool) × (g.ans.any ≡ any) × Of any))
+        (λ old o. let g = goer w.vol m w.store k.keeps.layout k.fine k.keeps.whole k.keeps.readable can.gens can.writes _ _ old.slot old.id in (g.within.0, (true, g.any, one_may old o)))
+        (λ o. (refl, (false, refl, none_may o)))
 
     ran_is : ran w (delete_oldest left dir) ≡ ran_oldest w (oldest_told gone)
     unfolding ran oldest_call

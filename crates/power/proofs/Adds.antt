@@ -18,7 +18,7 @@ use Rattle.medium.proofs.Laws.{on_done_keeps}
 use Rattle.handles.specs.declared.Store.{Store}
 use Rattle.handles.specs.declared.Writer.{Writer}
 use Rattle.handles.specs.declared.Writer.TheVariants.{Nobody, Open}
-use Rattle.handles.specs.Handles.{is_open, open_id}
+use Rattle.handles.specs.Handles.{is_open, open_file}
 use Rattle.handles.proofs.Laws.{store_facts}
 use Rattle.table.specs.Table.{on_pick}
 use Rattle.table.specs.Free.{free_of}
@@ -79,16 +79,16 @@ module _ {P : Skipped → Type 0} {L : List ℕ → Store → Type 0} (rules : L
 
     module _ (vol : List ℕ) (m : Medium) (st : Store) (a : Appender) (good : Good vol st) (fit : Fit a st) (few : partial ≡ true → records < st.head.chunk) (l : L vol st) where
       abbrev g : GoneOut
-      g = remove_oldest_of vol m st (dir_bytes a.dir) (is_open st.writer) (open_id st.writer)
+      g = remove_oldest_of vol m st (dir_bytes a.dir) (open_file st.writer)
 
       gone_lasts : (g.ans.outcome ≡ Ok tt → g.ans.any ≡ true → EachSkipped P g.skipped) → L g.vol g.ans.store
-      gone_lasts due = (oldest_stays rules Unit vol m st good (l, λ _. tt) (dir_bytes a.dir) (is_open st.writer) (open_id st.writer) due).0
+      gone_lasts due = (oldest_stays rules Unit vol m st good (l, λ _. tt) (dir_bytes a.dir) (open_file st.writer) due).0
 
       once_lasts : a.position < 32767 → L g.vol g.ans.store
           → KeptIf (on_pick (free_of g.vol g.ans.medium g.ans.store) (stopped g.vol g.ans.medium g.ans.store a)
           (stopped g.vol g.ans.medium g.ans.store a Corrupt) (link_out g.vol g.ans.medium g.ans.store a partial records))
       once_lasts near s =
-          let k : GoneStands vol m st g = oldest_stands vol m st (dir_bytes a.dir) (is_open st.writer) (open_id st.writer) good in
+          let k : GoneStands vol m st g = oldest_stands vol m st (dir_bytes a.dir) (open_file st.writer) good in
           free_keeps KeptIf g.vol g.ans.medium g.ans.store k.good _ _ _ (λ _ _. s) (λ _. s)
           (link_lasts g.vol g.ans.medium g.ans.store a k.good (fit_still k.chunks k.chunk fit) (λ t. rw k.chunk (few t)) s near)
 

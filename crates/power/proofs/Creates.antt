@@ -1,5 +1,5 @@
 -- create keeps what holds between the calls: its steps stand, and accepted its appender stands at the start of the file made. Assumes nothing.
-use Rattle.std.specs.Prelude.{Option as Maybe, Some, None, Result, Ok, Err}
+use Rattle.std.specs.Prelude.{Option, Some, None, Result, Ok, Err}
 use Prim.Native.Nat.{ℕ, zero, suc, ◌+◌, ◌-◌, ◌^◌, ◌<◌}
 use mathlib.Core.Path.{◌≡◌, refl}
 use mathlib.Core.Bool.{Bool, true, false}
@@ -96,32 +96,32 @@ module _ (t : Terms) (over : Rollover) (spares : t.spared ≡ none) (directed : 
 
   module _ (w : World) (b : Fine) (k : Keeps w b) where
     -- a slot and a chunk are free
-    make_ends : (seen : Seen) → Look w.vol w.medium w.store t.name seen → seen.exists ≡ false → seen.free ≡ true → (c : ℕ) → free_of w.vol w.medium w.store ≡ Ok (Some c)
-        → Ends t w b (make_out t.name over w.vol w.medium w.store seen.slot c)
+    make_ends : (seen : Seen) → Look w.vol w.medium w.store t.name seen → seen.exists ≡ false → {slot : ℕ} → seen.free ≡ Some slot → (c : ℕ) → free_of w.vol w.medium w.store ≡ Ok (Some c)
+        → Ends t w b (make_out t.name over w.vol w.medium w.store slot c)
     unfolding make_out
-    make_ends seen l fresh room c q =
+    make_ends seen l fresh {slot} room c q =
         let f = free_chunk w.vol w.medium w.store (inv_held k.whole.inv) k.whole.map q in
         pick_keeps_by (Ends t w b) (eqb w.store.head.next_id (2 ^ 32 - 1)) _ _
         (λ e. refused_ends t w b _ k)
         (λ e.
         let small : w.store.head.next_id + 1 < 2 ^ 32 = omega (arith, eqb-false w.store.head.next_id (2 ^ 32 - 1) e, k.whole.inv.range.next) in
         on_done_keeps (Ends t w b) _ _ _
-        (λ d. opened_ends w b (commit_of (Create seen.slot w.store.head.next_id c) t.name w.vol w.medium w.store) seen.slot w.store.head.next_id c d (λ h.
-        made_keeps w b k t seen.slot c (l.below room) (l.vacant room) (l.new fresh) f.0 f.1 ok small over directed
-        (make_done w b k t seen.slot c (l.below room) (l.vacant room) (l.new fresh) f.0 f.1 ok small d h)))
-        (λ x d. unmade_ends t w b x k (make_stopped w b k t seen.slot c (l.below room) (l.vacant room) (l.new fresh) f.0 f.1 ok small d)))
+        (λ d. opened_ends w b (commit_of (Create slot w.store.head.next_id c) t.name w.vol w.medium w.store) slot w.store.head.next_id c d (λ h.
+        made_keeps w b k t slot c (l.below room) (l.vacant room) (l.new fresh) f.0 f.1 ok small over directed
+        (make_done w b k t slot c (l.below room) (l.vacant room) (l.new fresh) f.0 f.1 ok small d h)))
+        (λ x d. unmade_ends t w b x k (make_stopped w b k t slot c (l.below room) (l.vacant room) (l.new fresh) f.0 f.1 ok small d)))
 
     -- the oldest file of the rollover's directory goes, whichever is open
     module _ (next : Next) (ih : (w' : World) (b' : Fine) → Keeps w' b' → Ends t w' b' (next w'.vol w'.medium w'.store)) where
       abbrev g : GoneOut
-      g = remove_oldest_of w.vol w.medium w.store (dir_bytes over.dir) false 0
+      g = remove_oldest_of w.vol w.medium w.store (dir_bytes over.dir) None
 
       went_ends : over.rolls ≡ true → g.ans.any ≡ true → Ends t w b (after (rolling g.skipped) (next g.vol g.ans.medium g.ans.store))
       unfolding entered book.entered pick
       went_ends r e =
           rolled_ends t w b g.vol g.ans.medium g.ans.store g.skipped _
           (λ h.
-          let x = oldest_made w.vol w.medium w.store k.layout b k.whole k.readable (dir_bytes over.dir) false 0 e h in
+          let x = oldest_made w.vol w.medium w.store k.layout b k.whole k.readable (dir_bytes over.dir) None e h in
           ih _ _ (gone_keeps w b k k.readable x.gone _ (rw (spares, directed_set directed r) x.whole)))
 
       over_ends : Ends t w b (over_out over next w.vol w.medium w.store)
@@ -132,13 +132,13 @@ module _ (t : Terms) (over : Rollover) (spares : t.spared ≡ none) (directed : 
           (λ d. pick_keeps_by (Ends t w b) g.ans.any _ _
           (λ e. went_ends r e)
           (λ e.
-          let x = oldest_none w.vol w.medium w.store k.layout b k.whole k.readable (dir_bytes over.dir) false 0 d e in
+          let x = oldest_none w.vol w.medium w.store k.layout b k.whole k.readable (dir_bytes over.dir) None d e in
           refused_ends t w b _ (rw (x.0, x.1, x.2) k)))
-          (λ x d. unmade_ends t w b x k (oldest_stopped w.vol w.medium w.store k.layout b k.whole k.readable (dir_bytes over.dir) false 0 d).0))
+          (λ x d. unmade_ends t w b x k (oldest_stopped w.vol w.medium w.store k.layout b k.whole k.readable (dir_bytes over.dir) None d).0))
           (λ r. refused_ends t w b _ k)
 
-      pick_ends : (seen : Seen) → Look w.vol w.medium w.store t.name seen → seen.exists ≡ false → seen.free ≡ true → (p : Result (Maybe ℕ) Error) → free_of w.vol w.medium w.store ≡ p
-          → Ends t w b (on_pick p (refused_at w.vol w.medium w.store) (over_out over next w.vol w.medium w.store) (make_out t.name over w.vol w.medium w.store seen.slot))
+      pick_ends : (seen : Seen) → Look w.vol w.medium w.store t.name seen → seen.exists ≡ false → {slot : ℕ} → seen.free ≡ Some slot → (p : Result (Option ℕ) Error) → free_of w.vol w.medium w.store ≡ p
+          → Ends t w b (on_pick p (refused_at w.vol w.medium w.store) (over_out over next w.vol w.medium w.store) (make_out t.name over w.vol w.medium w.store slot))
       unfolding on_pick
       pick_ends seen l fresh room (Err e) q = refused_ends t w b e k
       pick_ends seen l fresh room (Ok None) q = over_ends
@@ -151,9 +151,8 @@ module _ (t : Terms) (over : Rollover) (spares : t.spared ≡ none) (directed : 
           rw l.1.answer
           (pick_keeps_by (Ends t w b) l.0.exists _ _
           (λ e. refused_ends t w b _ k)
-          (λ fresh. pick_keeps_by (Ends t w b) l.0.free _ _
-          (λ room. pick_ends l.0 l.1 fresh room (free_of w.vol w.medium w.store) refl)
-          (λ e. over_ends)))
+          (λ fresh. on_free_keeps (Ends t w b) l.0.free _ _ (λ _. over_ends)
+          (λ slot room. pick_ends l.0 l.1 fresh room (free_of w.vol w.medium w.store) refl)))
 
   create_ends : (n : ℕ) (w : World) (b : Fine) → Keeps w b → Ends t w b (create_from n t.name over w.vol w.medium w.store)
   unfolding create_from

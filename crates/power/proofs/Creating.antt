@@ -1,6 +1,6 @@
 -- create in a history, where the name is new and ids, generations and writes are left. With room for a file more it is accepted, with one step. Without,
 -- with a rollover and a file that may go, the oldest goes first: then there is room, and it is accepted, with two. Assumes nothing.
-use Rattle.std.specs.Prelude.{Ok}
+use Rattle.std.specs.Prelude.{Ok, None}
 use Prim.Native.Nat.{ℕ, ◌+◌, ◌-◌, ◌^◌, ◌≤◌}
 use mathlib.Core.Path.{◌≡◌, refl, sym, ap, subst, ◌∙◌}
 use mathlib.Core.Logic.{◌⊎◌}
@@ -138,7 +138,7 @@ module _ (rules : Rules) (w : World) (b : Book) (k : Booked w b) (left : ℕ) (n
   roll = rollover_of true dir
 
   abbrev x : GoneOut
-  x = remove_oldest_of w.vol n w.store (dir_bytes roll.dir) false 0
+  x = remove_oldest_of w.vol n w.store (dir_bytes roll.dir) None
 
   new' : (f : File) → Memᴰ f k.fine.files → f.name ≡ name → ⊥
   new' f h = new f (rw (same_files k) at h)
@@ -155,7 +155,7 @@ module _ (rules : Rules) (w : World) (b : Book) (k : Booked w b) (left : ℕ) (n
   gone : Goer n w.store x
   unfolding pick
   gone =
-      oldest_goes w.vol n w.store k.keeps.layout k.fine k.keeps.whole k.keeps.readable (λ e. omega (arith, e, gens)) (omega (arith, two)) (dir_bytes roll.dir) false 0 f (rw (same_files k) has)
+      oldest_goes w.vol n w.store k.keeps.layout k.fine k.keeps.whole k.keeps.readable (λ e. omega (arith, e, gens)) (omega (arith, two)) (dir_bytes roll.dir) None f (rw (same_files k) has)
       (rw set.1 goes)
 
   -- what follows it
@@ -178,8 +178,8 @@ module _ (rules : Rules) (w : World) (b : Book) (k : Booked w b) (left : ℕ) (n
     unfolding EachStep
     each_gone = (subst (EachStep Distinct) steps_are each).0
 
-    went : Went w.vol n w.store k.keeps.layout k.fine (dir_bytes roll.dir) false 0 x
-    went = oldest_made w.vol n w.store k.keeps.layout k.fine k.keeps.whole k.keeps.readable (dir_bytes roll.dir) false 0 gone.any each_gone
+    went : Went w.vol n w.store k.keeps.layout k.fine (dir_bytes roll.dir) None x
+    went = oldest_made w.vol n w.store k.keeps.layout k.fine k.keeps.whole k.keeps.readable (dir_bytes roll.dir) None gone.any each_gone
 
     reads : Readable x.vol x.ans.medium
     reads = gone_readable went.gone k.keeps.readable
@@ -195,7 +195,7 @@ module _ (rules : Rules) (w : World) (b : Book) (k : Booked w b) (left : ℕ) (n
     then_done slot chunk =
         (commit_after (Create slot x.ans.store.head.next_id chunk) name x.vol x.ans.medium x.ans.store went.gone.whole.inv reads
         (create_plain slot x.ans.store.head.next_id chunk) (name_short name (short rules w left name true dir k.keeps allows fine)) fresh
-        (oldest_beside w.vol n w.store (record { ok = k.keeps.whole.inv.ok; count = k.keeps.whole.inv.range.count }) (dir_bytes roll.dir) false 0 gone.any) ample).0
+        (oldest_beside w.vol n w.store (record { ok = k.keeps.whole.inv.ok; count = k.keeps.whole.inv.range.count }) (dir_bytes roll.dir) None gone.any) ample).0
 
     makes : Makes name x.vol x.ans.medium x.ans.store roll onward
     unfolding create_from

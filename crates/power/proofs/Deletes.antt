@@ -12,9 +12,8 @@ use Rattle.medium.specs.declared.Medium.{Medium}
 use Rattle.medium.specs.Refusal.{on_done}
 use Rattle.medium.proofs.Laws.{on_done_keeps}
 use Rattle.handles.specs.declared.Store.{Store}
-use Rattle.handles.specs.Handles.{is_open, open_id}
-use Rattle.directory.specs.declared.Found.TheVariants as found
-use Rattle.directory.specs.Scan.{find_of}
+use Rattle.handles.specs.Handles.{open_file}
+use Rattle.directory.specs.Scan.{find_of, found_at}
 use Rattle.directory.proofs.Decides.{on_found_keeps}
 use Rattle.plan.specs.Copy.{Step, Out, steps_of, deleted, refused_out, Distinct}
 use Rattle.remove.specs.Remove.{remove_of, GoneOut, remove_oldest_of, none_out}
@@ -57,7 +56,7 @@ module _ (w : World) (b : Fine) (k : Keeps w b) (left : ℕ) where
     unfolding steps_of on_done entered_all
     refused_stood e h = same_keeps
 
-    named_stood : (slot id : ℕ) → find_of w.vol m w.store t.name ≡ found.At slot id → StoodAs (remove_of w.vol m w.store slot id)
+    named_stood : (slot id : ℕ) → find_of w.vol m w.store t.name ≡ found_at slot id → StoodAs (remove_of w.vol m w.store slot id)
     unfolding steps_of EachStep entered_all entered book.entered
     named_stood slot id q =
         let v = find_view w.vol m w.store t.name q in
@@ -86,23 +85,23 @@ module _ (w : World) (b : Fine) (k : Keeps w b) (left : ℕ) where
     StoodOld g = Stood terms (left_by w g.vol g.ans.medium g.ans.store) (oldest_told g).steps
 
     abbrev g : GoneOut
-    g = remove_oldest_of w.vol m w.store dir (is_open w.store.writer) (open_id w.store.writer)
+    g = remove_oldest_of w.vol m w.store dir (open_file w.store.writer)
 
     idle_keeps : g.ans.any ≡ false → Keeps (left_by w g.vol g.ans.medium g.ans.store) b
     idle_keeps n = go g.ans.outcome refl
       where
         go : (o : Result Unit Error) → g.ans.outcome ≡ o → Keeps (left_by w g.vol g.ans.medium g.ans.store) b
         go (Ok tt) d =
-            let x = oldest_none w.vol m w.store k.layout b k.whole k.readable dir (is_open w.store.writer) (open_id w.store.writer) d n in
+            let x = oldest_none w.vol m w.store k.layout b k.whole k.readable dir (open_file w.store.writer) d n in
             rw (x.0, x.1, x.2) same_keeps
-        go (Err e) d = unmade_keeps w b k k.readable (oldest_stopped w.vol m w.store k.layout b k.whole k.readable dir (is_open w.store.writer) (open_id w.store.writer) d).0
+        go (Err e) d = unmade_keeps w b k k.readable (oldest_stopped w.vol m w.store k.layout b k.whole k.readable dir (open_file w.store.writer) d).0
 
     gone_stood : StoodOld g
     unfolding oldest_told EachStep entered_all entered book.entered
     gone_stood =
         pick_keeps_by (Stood terms (left_by w g.vol g.ans.medium g.ans.store)) g.ans.any _ _
         (λ e h.
-        let x = oldest_made w.vol m w.store k.layout b k.whole k.readable dir (is_open w.store.writer) (open_id w.store.writer) e h.0 in
+        let x = oldest_made w.vol m w.store k.layout b k.whole k.readable dir (open_file w.store.writer) e h.0 in
         gone_keeps w b k k.readable x.gone _ (rw (← spared_open w.store.writer) x.whole))
         (λ e h. idle_keeps e)
 

@@ -12,7 +12,7 @@ use Rattle.medium.specs.declared.Error.TheVariants.{Corrupt, Full}
 use Rattle.medium.specs.declared.Medium.{Medium}
 use Rattle.medium.proofs.Laws.{on_done_keeps}
 use Rattle.handles.specs.declared.Store.{Store}
-use Rattle.handles.specs.Handles.{is_open, open_id}
+use Rattle.handles.specs.Handles.{open_file}
 use Rattle.table.specs.Free.{free_of}
 use Rattle.table.proofs.Decides.{on_pick_keeps}
 use Rattle.plan.specs.declared.Edit.TheVariants.{Extend}
@@ -44,7 +44,7 @@ module _ (vol : List ℕ) (m : Medium) (st : Store) (a : Appender) (partial : Bo
       (c, on_done_keeps (λ (x : Appender). x ≡ moved_to c a) o.ans.outcome _ _ (λ _. refl) (λ e q. clash q d))
 
   abbrev g : GoneOut
-  g = remove_oldest_of vol m st (dir_bytes a.dir) (is_open st.writer) (open_id st.writer)
+  g = remove_oldest_of vol m st (dir_bytes a.dir) (open_file st.writer)
 
   rolled_moves : Moves a (rolled_out vol m st a partial records)
   unfolding rolled_out

@@ -9,6 +9,7 @@ use native.Mathlib.Nat.{zero-add, sub-zero, mod_self}
 use native.Mathlib.Omega.{arith}
 use borrow.Author.Tests.{ne_eqb, le-ltb}
 use lib.Dec.{ltb}
+use Rattle.medium.specs.declared.Error.{Error}
 use Rattle.le.specs.Choice.{pick}
 use Rattle.le.proofs.Choices.{pick_false, pick_keeps_by}
 use Rattle.names.specs.Names.{name_ok}
@@ -23,10 +24,8 @@ use Rattle.handles.specs.declared.Store.{Store}
 use Rattle.handles.specs.Handles.{body_of, base_of}
 use Rattle.header.specs.Header.{ours}
 use Rattle.header.specs.Copies.{copy_of, same_store}
-use Rattle.directory.specs.declared.Looked.{Looked}
-use Rattle.directory.specs.declared.Looked.TheVariants as looked
 use Rattle.directory.specs.declared.Seen.{Seen}
-use Rattle.directory.specs.Scan.{free_seen, looking, look_of, on_looked}
+use Rattle.directory.specs.Scan.{free_seen, looking, look_of, on_looked, on_free}
 use Rattle.table.specs.Table.{free_step, free_v, on_pick, distance_of, walk_free_of}
 use Rattle.table.specs.Free.{free_of}
 use Rattle.table.proofs.Tells.{Mapped}
@@ -71,19 +70,16 @@ module _ (vol : List ℕ) (m : Medium) (st : Store) (inv : Inv vol st) (map : Ma
   -- ---- the first slot and the first chunk are free
 
   abbrev Roomy : ℕ → Seen → Type 0
-  Roomy k t = (t.exists ≡ false) × (k ≡ 0 → t.free ≡ false) × (1 ≤ k → (t.free ≡ true) × (t.slot ≡ 0))
+  Roomy k t = (t.exists ≡ false) × (k ≡ 0 → t.free ≡ None) × (1 ≤ k → t.free ≡ Some 0)
 
   roomy_free : (k : ℕ) (t : Seen) → Roomy k t → Roomy (k + 1) (free_seen k t)
   unfolding free_seen
-  roomy_free k t p =
-      pick_keeps_by (Roomy (k + 1)) t.free _ _
-      (λ f. case k 0 (λ z. absurd (true≢false f (p.1 z))) (λ z. (p.0, λ e. absurd (omega arith), λ _. p.2 (omega (arith, z)))))
-      (λ f. case k 0 (λ z. (p.0, λ e. absurd (omega arith), λ _. (refl, z))) (λ z. absurd (true≢false (p.2 (omega (arith, z))).0 f)))
+  roomy_free k t p = (p.0, λ e. absurd (omega arith), λ _. case k 0 (λ z. rw (p.1 z, z)) (λ z. rw (p.2 (omega (arith, z)))))
 
-  look_fresh : (name : List ℕ) → (seen : Seen) × (look_of vol m st name ≡ looked.Done seen) × Roomy 64 seen
+  look_fresh : (name : List ℕ) → (seen : Seen) × (look_of vol m st name ≡ Ok seen) × Roomy 64 seen
   unfolding look_of
   look_fresh name =
-      scan_views vol m st (inv_checked m inv r) (looking name) Roomy (λ (x : Looked). (seen : Seen) × (x ≡ looked.Done seen) × Roomy 64 seen)
+      scan_views vol m st (inv_checked m inv r) (looking name) Roomy (λ (x : Result Seen Error). (seen : Seen) × (x ≡ Ok seen) × Roomy 64 seen)
       (λ s h e. vacant≢broken (fresh.entries s h) e)
       (λ k t h p e. roomy_free k t p)
       (λ k t n id h p e. absurd (vacant≢named (fresh.entries k h) e))
@@ -131,8 +127,8 @@ module _ (vol : List ℕ) (m : Medium) (st : Store) (inv : Inv vol st) (map : Ma
     o = commit_of edit name vol m st
 
     create_is : (over : Rollover) → create_of name over vol m st ≡ make_out name over vol m st 0 0
-    unfolding create_from round_out on_looked on_pick pick
-    create_is over = let l = look_fresh name in let f = l.2.2 (omega arith) in rw (l.1, l.2.0, f.0, free_fresh, f.1)
+    unfolding create_from round_out on_free on_looked on_pick pick
+    create_is over = let l = look_fresh name in rw (l.1, l.2.0, l.2.2 (omega arith), free_fresh)
 
     not_format : is_format edit ≡ false
     unfolding is_format

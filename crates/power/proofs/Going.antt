@@ -1,12 +1,12 @@
 -- The oldest file of a directory removed, where one may go and enough writes and generations are left: it goes, and with it a file and its chunks.
 -- Assumes nothing.
-use Rattle.std.specs.Prelude.{Ok}
 use Prim.Native.Nat.{ℕ, ◌+◌, ◌-◌, ◌^◌, ◌≤◌, ◌<◌}
 use mathlib.Core.Path.{◌≡◌, refl, sym, ap, subst, ◌∙◌}
 use mathlib.Core.Bool.{Bool, true}
 use mathlib.Core.List.{List, [], Memᴰ}
 use lib.Dec.{lit≤}
 use lib.ListN.{length}
+use Rattle.std.specs.Prelude.{Ok, Option as StdOption}
 use Rattle.medium.specs.declared.Medium.{Medium}
 use Rattle.medium.specs.Sector.{Readable}
 use Rattle.medium.proofs.Laws.{on_done_done}
@@ -63,16 +63,16 @@ module _ (vol : List ℕ) (m : Medium) (st : Store) (G : ℕ → List Segment) (
       subst (Goer m st) (sym (ap (gone_of name len) (remove_is slot id) ∙ on_done_done _ _ refl))
       (record { within = (refl, (within slot).1); any = refl; chunks = k.chunks; size = k.chunk; generation = ap (λ (x : Header). x.generation) h })
 
-  module _ (dir : List ℕ) (keeping : Bool) (kept : ℕ) where
-    pub oldest_goes : (f : File) → Memᴰ f b.files → may_go dir (spared_by keeping kept) f ≡ true → Goer m st (remove_oldest_of vol m st dir keeping kept)
+  module _ (dir : List ℕ) (spared : StdOption ℕ) where
+    pub oldest_goes : (f : File) → Memᴰ f b.files → may_go dir (spared_by spared) f ≡ true → Goer m st (remove_oldest_of vol m st dir spared)
     oldest_goes f has may =
         let s = w.ties.from f has in
-        ways vol m st G b w r dir keeping kept (Goer m st) (λ old o t. goer _ _ old.slot old.id)
-        (λ old o t. absurd (o.none t s.0 s.1 f.name f.id s.2 (may_goes dir keeping kept f may)))
+        ways vol m st G b w r dir spared (Goer m st) (λ old o. goer _ _ old.slot old.id)
+        (λ o. absurd (o.none refl s.0 s.1 f.name f.id s.2 (may_goes dir spared f may)))
 
 -- a file less, and fewer chunks
-module _ {vol : List ℕ} {m : Medium} {st : Store} {G : ℕ → List Segment} {b : Fine} {dir : List ℕ} {keeping : Bool} {kept : ℕ} {g : GoneOut} (w : Whole vol st G b)
-    (x : Went vol m st G b dir keeping kept g) where
+module _ {vol : List ℕ} {m : Medium} {st : Store} {G : ℕ → List Segment} {b : Fine} {dir : List ℕ} {spared : StdOption ℕ} {g : GoneOut} (w : Whole vol st G b)
+    (x : Went vol m st G b dir spared g) where
   abbrev gone : File
   gone = file_of x.name x.id (G x.slot)
 

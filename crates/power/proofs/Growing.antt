@@ -9,6 +9,7 @@ use mathlib.Core.List.{List, [], ◌∷◌, Memᴰ}
 use native.Mathlib.Omega.{arith}
 use borrow.Author.Tests.{le-ltb, lt-leb}
 use lib.Dec.{leb, lit≤}
+use Rattle.std.specs.Prelude.{Ok, Option as StdOption}
 use Rattle.le.proofs.Choices.{pick_true, pick_false}
 use Rattle.medium.specs.declared.Error.TheVariants.{Corrupt}
 use Rattle.medium.specs.declared.Medium.{Medium}
@@ -16,7 +17,7 @@ use Rattle.medium.proofs.Laws.{on_done_done, on_done_keeps}
 use Rattle.handles.specs.declared.Header.{Header}
 use Rattle.handles.specs.declared.Store.{Store}
 use Rattle.handles.specs.declared.Writer.TheVariants.{Open}
-use Rattle.handles.specs.Handles.{is_open, open_id, table_of}
+use Rattle.handles.specs.Handles.{is_open, open_id, table_of, open_file}
 use Rattle.table.specs.Table.{on_pick}
 use Rattle.table.specs.Free.{free_of}
 use Rattle.plan.specs.declared.Edit.{Edit}
@@ -183,19 +184,16 @@ module _ {w : World} {b : Book} (k : Booked w b) (left : ℕ) (writer : w.store.
 
   module _ (none_left : chunks_in b.files ≡ w.store.head.chunks) (dir : List ℕ) (over : b.rollover ≡ some dir) (f : File) (has : Memᴰ f b.files)
       (goes : may_go dir (some b.file) f ≡ true) (gens : w.store.head.generation + 2 ≤ 2 ^ 64 - 1) (enough : records_most true w.store.head.chunks 1 ≤ left) where
-    abbrev keeping : Bool
-    keeping = is_open w.store.writer
-
-    abbrev spared : ℕ
-    spared = open_id w.store.writer
+    abbrev spared : StdOption ℕ
+    spared = open_file w.store.writer
 
     abbrev x : GoneOut
-    x = remove_oldest_of w.vol m w.store (dir_bytes a.dir) keeping spared
+    x = remove_oldest_of w.vol m w.store (dir_bytes a.dir) spared
 
     set : (a.rolls ≡ true) × (dir_bytes a.dir ≡ dir)
     set = set_dir a.rolls (dir_bytes a.dir) dir (sym over ∙ sym (ap (λ (x : Book). x.rollover) k.same) ∙ (stands k.keeps y).0.rollover)
 
-    spares : some b.file ≡ spared_by keeping spared
+    spares : some b.file ≡ spared_by spared
     spares = ap some (sym (ap (λ (x : Book). x.file) k.same) ∙ (stands k.keeps y).0.file) ∙ sym (ap open_of writer) ∙ sym (spared_open w.store.writer)
 
     two : commit_most w.store.head.chunks + (1 + table_of w.store.head.chunks + 2) + 1 ≤ left
@@ -203,7 +201,7 @@ module _ {w : World} {b : Book} (k : Booked w b) (left : ℕ) (writer : w.store.
 
     gone : Goer m w.store x
     gone =
-        oldest_goes w.vol m w.store k.keeps.layout k.fine k.keeps.whole k.keeps.readable (λ e. omega (arith, e, gens)) (omega (arith, two)) (dir_bytes a.dir) keeping spared f (rw (same_files k) has)
+        oldest_goes w.vol m w.store k.keeps.layout k.fine k.keeps.whole k.keeps.readable (λ e. omega (arith, e, gens)) (omega (arith, two)) (dir_bytes a.dir) spared f (rw (same_files k) has)
         (rw (set.1, ← spares) goes)
 
     -- what follows it
@@ -229,8 +227,8 @@ module _ {w : World} {b : Book} (k : Booked w b) (left : ℕ) (writer : w.store.
           rolled_first Distinct x.skipped onward (record_out 0)
           (subst (EachStep Distinct) (ap (λ (r : Ran). r.steps) (sync_flush k.keeps y left bytes) ∙ flush_steps w.vol m w.store a ∙ ap (λ (o : AppOut). o.steps) write_is) each)
 
-      went : Went w.vol m w.store k.keeps.layout k.fine (dir_bytes a.dir) keeping spared x
-      went = oldest_made w.vol m w.store k.keeps.layout k.fine k.keeps.whole k.keeps.readable (dir_bytes a.dir) keeping spared gone.any each_gone
+      went : Went w.vol m w.store k.keeps.layout k.fine (dir_bytes a.dir) spared x
+      went = oldest_made w.vol m w.store k.keeps.layout k.fine k.keeps.whole k.keeps.readable (dir_bytes a.dir) spared gone.any each_gone
 
       reads : Readable x.vol x.ans.medium
       reads = gone_readable went.gone k.keeps.readable
@@ -258,7 +256,7 @@ module _ {w : World} {b : Book} (k : Booked w b) (left : ℕ) (writer : w.store.
       within =
           commit_after (edit x.vol x.ans.medium x.ans.store went.whole a partial records c) [] x.vol x.ans.medium x.ans.store went.whole.inv reads
           (extend_plain a.slot a.position c a.chunk partial records) (lit≤ tt) fresh
-          (oldest_beside w.vol m w.store (record { ok = k.keeps.whole.inv.ok; count = k.keeps.whole.inv.range.count }) (dir_bytes a.dir) keeping spared gone.any) (omega (arith, ample))
+          (oldest_beside w.vol m w.store (record { ok = k.keeps.whole.inv.ok; count = k.keeps.whole.inv.range.count }) (dir_bytes a.dir) spared gone.any) (omega (arith, ample))
 
       -- it is linked, and the record is written
       abbrev all : AppOut

@@ -7,6 +7,7 @@ use mathlib.Core.List.{List, []}
 use borrow.Author.Tests.{eqb-false}
 use lib.Dec.{eqb}
 use lib.ListN.{length}
+use Rattle.std.specs.Prelude.{None}
 use Rattle.le.proofs.Choices.{pick_keeps, pick_keeps_by}
 use Rattle.le.proofs.Parts.{length_zeros}
 use Rattle.names.proofs.Laws.{name_short}
@@ -19,7 +20,7 @@ use Rattle.handles.specs.declared.Store.{Store}
 use Rattle.handles.specs.Handles.{is_open}
 use Rattle.directory.specs.Scan.{find_of, look_of}
 use Rattle.directory.proofs.Ranges.{look_free}
-use Rattle.directory.proofs.Decides.{on_found_keeps, on_looked_keeps}
+use Rattle.directory.proofs.Decides.{on_found_keeps, on_free_keeps, on_looked_keeps}
 use Rattle.table.specs.Table.{chain_of}
 use Rattle.table.proofs.Decides.{on_chain_keeps}
 use Rattle.plan.specs.declared.Edit.TheVariants.{Create}
@@ -115,13 +116,13 @@ module _ {P : Skipped → Type 0} {L : List ℕ → Store → Type 0} (rules : L
 
         module _ (next : Next) (on : (v : List ℕ) (u : Medium) (s : Store) → Good v s → Kept v s → Ends (next v u s)) where
           abbrev g : GoneOut
-          g = remove_oldest_of vol m st (dir_bytes over.dir) false 0
+          g = remove_oldest_of vol m st (dir_bytes over.dir) None
 
           over_ends : Ends (over_out over next vol m st)
           unfolding over_out EachStep
           over_ends =
-              let s : GoneStands vol m st g = oldest_stands vol m st (dir_bytes over.dir) false 0 good in
-              let gone = oldest_stays rules (length a.buffer ≡ 486) vol m st good k (dir_bytes over.dir) false 0 in
+              let s : GoneStands vol m st g = oldest_stands vol m st (dir_bytes over.dir) None good in
+              let gone = oldest_stays rules (length a.buffer ≡ 486) vol m st good k (dir_bytes over.dir) None in
               pick_keeps Ends over.rolls _ _
               (on_done_keeps Ends g.ans.outcome _ _
               (λ _. pick_keeps_by Ends g.ans.any _ _
@@ -135,9 +136,8 @@ module _ {P : Skipped → Type 0} {L : List ℕ → Store → Type 0} (rules : L
           round_ends =
               on_looked_keeps Ends (look_of vol m st name) _ _ stop_ends
               (λ s q. pick_keeps Ends s.exists _ _ (stop_ends Exists)
-              (pick_keeps_by Ends s.free _ _
-              (λ t. free_keeps Ends vol m st good _ _ _ stop_ends over_ends (λ c h. make_ends s.slot c (look_free vol m st name q t).below h))
-              (λ _. over_ends)))
+              (on_free_keeps Ends s.free _ _ (λ _. over_ends)
+              (λ slot t. free_keeps Ends vol m st good _ _ _ stop_ends over_ends (λ c h. make_ends slot c (look_free vol m st name q t).below h))))
 
       create_ends : (n : ℕ) (vol : List ℕ) (m : Medium) (st : Store) → Good vol st → Kept vol st → Ends (create_from n name over vol m st)
       unfolding create_from

@@ -12,7 +12,7 @@ use Rattle.medium.proofs.Laws.{on_done_keeps}
 use Rattle.handles.specs.declared.Store.{Store}
 use Rattle.handles.specs.declared.Writer.{Writer}
 use Rattle.handles.specs.declared.Writer.TheVariants.{Nobody}
-use Rattle.handles.specs.Handles.{no_store, is_open, open_id}
+use Rattle.handles.specs.Handles.{no_store, is_open, open_file}
 use Rattle.directory.specs.Scan.{find_of}
 use Rattle.directory.proofs.Ranges.{find_name}
 use Rattle.directory.proofs.Decides.{on_found_keeps}
@@ -70,12 +70,12 @@ module _ {P : Skipped → Type 0} {L : List ℕ → Store → Type 0} (rules : L
     unfolding ran oldest_call oldest_told EachStep
     oldest_held_lem left dir =
         let m : Medium = with_left left w.medium in
-        let g : GoneOut = remove_oldest_of w.vol m w.store dir (is_open w.store.writer) (open_id w.store.writer) in
+        let g : GoneOut = remove_oldest_of w.vol m w.store dir (open_file w.store.writer) in
         let Told : GoneOut → Type 0 = λ x. EachStep P (oldest_told x).steps → Stays rules Q x.vol x.ans.store in
         on_done_keeps Told _ _ _
         (λ d.
         let gone = oldest_stays rules Q w.vol m w.store (good_of rules w.vol w.store held.0 (asked_done w.vol w.store _ refl d).ok) held
-        dir (is_open w.store.writer) (open_id w.store.writer) in
+        dir (open_file w.store.writer) in
         pick_keeps_by (λ (ss : List Step). EachStep P ss → Stays rules Q g.vol g.ans.store) g.ans.any _ _
         (λ _ each. gone (λ _ _. each.0))
         (λ n _. gone (λ _ y. absurd (true≢false (sym y ∙ n)))))

@@ -1,11 +1,12 @@
 -- What has to be kept by each commit, record, mount and format, on any volume; and that a file's removal keeps it then. Assumes nothing.
-use Rattle.std.specs.Prelude.{Err, Ok, Result}
 use Prim.Native.Nat.{ℕ, ◌-◌, ◌^◌, ◌≤◌, ◌<◌}
 use mathlib.Core.Path.{◌≡◌, refl, sym, ap, ◌∙◌}
 use mathlib.Core.Bool.{Bool, true, false}
 use mathlib.Core.List.{List, []}
 use lib.Dec.{lit≤}
 use lib.ListN.{length}
+use Rattle.std.specs.Prelude.{None, Some, Ok, Err, Result, Option}
+use Rattle.directory.specs.declared.Old.{Old}
 use Rattle.le.proofs.Choices.{pick_keeps_by}
 use Rattle.medium.specs.declared.Error.{Error}
 use Rattle.medium.specs.declared.Medium.{Medium}
@@ -16,8 +17,6 @@ use Rattle.handles.specs.declared.Writer.{Writer}
 use Rattle.handles.specs.declared.Writer.TheVariants.{Nobody, Open}
 use Rattle.handles.specs.Handles.{store_ok, is_open}
 use Rattle.handles.proofs.Laws.{store_facts}
-use Rattle.directory.specs.declared.OldestFile.{OldestFile}
-use Rattle.directory.specs.declared.OldestFile.TheVariants as oldest
 use Rattle.directory.specs.Scan.{oldest_of}
 use Rattle.directory.proofs.Ranges.{oldest_file}
 use Rattle.table.specs.Table.{on_pick}
@@ -136,15 +135,13 @@ module _ {P : Skipped → Type 0} {L : List ℕ → Store → Type 0} (rules : L
       unfolding gone_of
       gone_stays name len o k = on_done_keeps GoneStays o.ans.outcome _ _ (λ _ due. k (λ _. due refl refl)) (λ _ d _. k (λ q. clash d q))
 
-      module _ (dir : List ℕ) (keeping : Bool) (keep : ℕ) where
-        found_stays : (f : OldestFile) → oldest_of vol m st dir keeping keep ≡ f → GoneStays (oldest_gone vol m st f)
+      module _ (dir : List ℕ) (spared : Option ℕ) where
+        found_stays : (f : Result (Option Old) Error) → oldest_of vol m st dir spared ≡ f → GoneStays (oldest_gone vol m st f)
         unfolding oldest_gone
-        found_stays (oldest.Refused e) q = λ _. stays
-        found_stays (oldest.Done old) q =
-            pick_keeps_by GoneStays old.any _ _
-            (λ t. gone_stays _ _ _ (remove_stays old.slot old.id (oldest_file vol m st dir keeping keep q t).file.below))
-            (λ _ _. stays)
+        found_stays (Err e) q = λ _. stays
+        found_stays (Ok None) q = λ _. stays
+        found_stays (Ok (Some old)) q = gone_stays _ _ _ (remove_stays old.slot old.id (oldest_file vol m st dir spared q).file.below)
 
-        pub oldest_stays : GoneStays (remove_oldest_of vol m st dir keeping keep)
+        pub oldest_stays : GoneStays (remove_oldest_of vol m st dir spared)
         unfolding remove_oldest_of
-        oldest_stays = found_stays (oldest_of vol m st dir keeping keep) refl
+        oldest_stays = found_stays (oldest_of vol m st dir spared) refl

@@ -12,6 +12,8 @@ use native.Mathlib.Omega.{arith}
 use borrow.Author.Tests.{ltb-true}
 use lib.Dec.{eqb, leb, ltb, lit≤}
 use lib.ListN.{length}
+use Rattle.std.specs.Prelude.{None, Some, Ok, Err, Result, Option}
+use Rattle.directory.specs.declared.Old.{Old}
 use Rattle.le.proofs.Choices.{pick_keeps, pick_keeps_by}
 use Rattle.le.proofs.Bools.{and_true}
 use Rattle.medium.specs.declared.Error.{Error}
@@ -21,10 +23,8 @@ use Rattle.medium.specs.Sector.{sectors_of, sector_at, WriteOut}
 use Rattle.medium.proofs.Laws.{on_done_keeps}
 use Rattle.handles.specs.declared.Store.{Store}
 use Rattle.handles.specs.Body.{body_at}
-use Rattle.handles.specs.Handles.{body_of, is_open, open_id}
+use Rattle.handles.specs.Handles.{body_of, open_file}
 use Rattle.handles.proofs.Laws.{Sane, store_facts, base_most}
-use Rattle.directory.specs.declared.OldestFile.{OldestFile}
-use Rattle.directory.specs.declared.OldestFile.TheVariants as oldest
 use Rattle.directory.specs.Entry.{entry_at}
 use Rattle.directory.specs.Scan.{oldest_of}
 use Rattle.directory.proofs.Ranges.{oldest_file}
@@ -162,29 +162,27 @@ module _ {P : Skipped → Type 0} {Fine : List ℕ → Store → Type 0} (rules 
     abbrev Went : GoneOut → Type 0
     Went x = x.ans.any ≡ true → EachSkipped P x.skipped → Going x.vol x.ans.store a
 
-    module _ (dir : List ℕ) (keeping : Bool) (keep : ℕ) where
-      found_near : (f : OldestFile) → oldest_of vol m st dir keeping keep ≡ f → Went (oldest_gone vol m st f)
+    module _ (dir : List ℕ) (spared : Option ℕ) where
+      found_near : (f : Result (Option Old) Error) → oldest_of vol m st dir spared ≡ f → Went (oldest_gone vol m st f)
       unfolding oldest_gone gone_of entry_view
-      found_near (oldest.Refused e) q = λ y. absurd (false≢true y)
-      found_near (oldest.Done old) q =
-          pick_keeps_by Went old.any _ _
-          (λ t.
-          let f = (oldest_file vol m st dir keeping keep q t).file in
+      found_near (Err e) q = λ y. absurd (false≢true y)
+      found_near (Ok None) q = λ y. absurd (false≢true y)
+      found_near (Ok (Some old)) q =
+          let f = (oldest_file vol m st dir spared q).file in
           on_done_keeps Went (remove_of vol m st old.slot old.id).ans.outcome _ _
           (λ d _. remove_near old.slot old.id f.below (ap (entry_view (entry_at vol st old.slot)) f.entry) d)
-          (λ e _ y. absurd (false≢true y)))
-          (λ _ y. absurd (false≢true y))
+          (λ e _ y. absurd (false≢true y))
 
-      gone_near : Went (remove_oldest_of vol m st dir keeping keep)
+      gone_near : Went (remove_oldest_of vol m st dir spared)
       unfolding remove_oldest_of
-      gone_near = found_near (oldest_of vol m st dir keeping keep) refl
+      gone_near = found_near (oldest_of vol m st dir spared) refl
 
   -- ---- another chunk
 
   module _ (vol : List ℕ) (m : Medium) (st : Store) (a : Appender) (good : Good vol st) (fit : Fit a st) (going : Going vol st a)
       (partial : Bool) (records : ℕ) (fewer : partial ≡ true → records < st.head.chunk) (small : records < 512) where
     abbrev g : GoneOut
-    g = remove_oldest_of vol m st (dir_bytes a.dir) (is_open st.writer) (open_id st.writer)
+    g = remove_oldest_of vol m st (dir_bytes a.dir) (open_file st.writer)
 
     stop : (e : Error) → KeptIf (stopped g.vol g.ans.medium g.ans.store a e)
     stop = no vol m st a good fit going g.vol g.ans.medium g.ans.store
@@ -196,7 +194,7 @@ module _ {P : Skipped → Type 0} {Fine : List ℕ → Store → Type 0} (rules 
 
     once_near : Going g.vol g.ans.store a → KeptIf once
     once_near x =
-        let k = oldest_stands vol m st (dir_bytes a.dir) (is_open st.writer) (open_id st.writer) good in
+        let k = oldest_stands vol m st (dir_bytes a.dir) (open_file st.writer) good in
         on_pick_keeps KeptIf (free_of g.vol g.ans.medium g.ans.store) _ _ _ stop (stop Corrupt)
         (λ c q. link_near g.vol g.ans.medium g.ans.store a k.good (fit_still k.chunks k.chunk fit) x
         partial records (λ t. rw k.chunk (fewer t)) small c q)
@@ -206,7 +204,7 @@ module _ {P : Skipped → Type 0} {Fine : List ℕ → Store → Type 0} (rules 
     rolled_near =
         on_done_keeps KeptIf g.ans.outcome _ _
         (λ _. pick_keeps_by KeptIf g.ans.any _ _
-        (λ y each. once_near (gone_near vol m st a good fit going (dir_bytes a.dir) (is_open st.writer) (open_id st.writer) y each.0) each.1)
+        (λ y each. once_near (gone_near vol m st a good fit going (dir_bytes a.dir) (open_file st.writer) y each.0) each.1)
         (λ _. stop Full))
         (λ e _. stop e)
 

@@ -19,7 +19,7 @@ use Rattle.medium.specs.Refusal.{outcome_of, on_done}
 use Rattle.medium.proofs.Laws.{on_done_keeps}
 use Rattle.handles.specs.declared.Store.{Store}
 use Rattle.handles.specs.declared.Writer.TheVariants.{Open}
-use Rattle.directory.proofs.Decides.{on_looked_keeps}
+use Rattle.directory.proofs.Decides.{on_free_keeps, on_looked_keeps}
 use Rattle.table.specs.Free.{free_of}
 use Rattle.table.proofs.Decides.{on_pick_keeps}
 use Rattle.plan.specs.declared.Edit.TheVariants.{Create}
@@ -125,9 +125,8 @@ module _ (name : List ℕ) (over : Rollover) (plain : over.rolls ≡ false) (vol
   round_made next =
       on_looked_keeps Made _ _ _ (refused_made vol m st)
       (λ s _. pick_keeps Made s.exists _ _ (refused_made vol m st _)
-      (pick_keeps Made s.free _ _
-      (on_pick_keeps Made (free_of vol m st) _ _ _ (refused_made vol m st) (over_made next) (λ c _. make_made s.slot c))
-      (over_made next)))
+      (on_free_keeps Made s.free _ _ (λ _. over_made next)
+      (λ slot _. on_pick_keeps Made (free_of vol m st) _ _ _ (refused_made vol m st) (over_made next) (λ c _. make_made slot c))))
 
 module _ (rules : Rules) (w : World) (b : Fine) (k : Keeps w b) (left : ℕ) (name dir : List ℕ) where
   abbrev making : Call

@@ -7,11 +7,13 @@ use mathlib.Core.Option.{Option, none, some}
 use mathlib.Core.List.{List}
 use borrow.Author.Tests.{eq-eqb, ne_eqb, not-true}
 use lib.Dec.{eqb}
+use Rattle.std.specs.Prelude.{None, Some, Option as StdOption}
 use Rattle.le.specs.Choice.{pick}
 use Rattle.le.proofs.Bools.{and_true}
 use Rattle.runs.specs.Run.{same_bytes}
 use Rattle.runs.proofs.Tests.{same_true, same_self}
 use Rattle.names.specs.Names.{in_dir}
+use Rattle.directory.specs.Scan.{spares}
 use Rattle.layout.specs.Views.{named, Disk}
 use Rattle.layout.specs.Segments.{Segment, Good}
 use Rattle.layout.proofs.Facts.{case, same_name, same_id}
@@ -33,24 +35,26 @@ eqb_swap a b = case a b (λ e. eq-eqb a b e ∙ sym (eq-eqb b a (sym e))) (λ e.
 
 -- ---- the file that is spared
 
-abbrev pub spared_by : Bool → ℕ → Option ℕ
-spared_by keeping kept = pick keeping (some kept) none
+-- as the book has it
+abbrev pub spared_by : StdOption ℕ → Option ℕ
+spared_by None = none
+spared_by (Some kept) = some kept
 
-spared_same : (keeping : Bool) (kept i : ℕ) → is_spared (spared_by keeping kept) i ≡ (keeping && eqb i kept)
-unfolding is_spared pick
-spared_same true kept i = eqb_swap kept i
-spared_same false kept i = refl
+spared_same : (spared : StdOption ℕ) (i : ℕ) → is_spared (spared_by spared) i ≡ spares spared i
+unfolding is_spared
+spared_same None i = refl
+spared_same (Some kept) i = eqb_swap kept i
 
-module _ (dir : List ℕ) (keeping : Bool) (kept : ℕ) (f : File) where
-  pub goes_may : Goes dir keeping kept f.name f.id → may_go dir (spared_by keeping kept) f ≡ true
+module _ (dir : List ℕ) (spared : StdOption ℕ) (f : File) where
+  pub goes_may : Goes dir spared f.name f.id → may_go dir (spared_by spared) f ≡ true
   unfolding may_go
-  goes_may g = rw (g.inside, spared_same keeping kept f.id, g.unspared) refl
+  goes_may g = rw (g.inside, spared_same spared f.id, g.unspared) refl
 
-  pub may_goes : may_go dir (spared_by keeping kept) f ≡ true → Goes dir keeping kept f.name f.id
+  pub may_goes : may_go dir (spared_by spared) f ≡ true → Goes dir spared f.name f.id
   unfolding may_go
   may_goes e =
-      let a = and_true (in_dir dir f.name) (not (is_spared (spared_by keeping kept) f.id)) e in
-      record { inside = a.0; unspared = sym (spared_same keeping kept f.id) ∙ not-true _ a.1 }
+      let a = and_true (in_dir dir f.name) (not (is_spared (spared_by spared) f.id)) e in
+      record { inside = a.0; unspared = sym (spared_same spared f.id) ∙ not-true _ a.1 }
 
 -- ---- the file that goes
 
@@ -71,18 +75,18 @@ module _ {D : Disk} {G : ℕ → List Segment} {files : List File} {s id : ℕ} 
           rw (other_bytes n f.name (λ q. x (d.names r s f.name n f.id id h hs e is (sym q))))
           (sym (not_other id f (λ q. x (d.ids r s f.name n f.id id h hs e is q)))))
 
-  module _ (dir : List ℕ) (keeping : Bool) (kept : ℕ) (goes : Goes dir keeping kept n id)
-      (least : (r : ℕ) (m : List ℕ) (i : ℕ) → r < 64 → D.entry r ≡ named m i → Goes dir keeping kept m i → id ≤ i) where
-    oldest_id : smallest (keep (may_go dir (spared_by keeping kept)) files) ≡ some id
+  module _ (dir : List ℕ) (spared : StdOption ℕ) (goes : Goes dir spared n id)
+      (least : (r : ℕ) (m : List ℕ) (i : ℕ) → r < 64 → D.entry r ≡ named m i → Goes dir spared m i → id ≤ i) where
+    oldest_id : smallest (keep (may_go dir (spared_by spared)) files) ≡ some id
     oldest_id =
-        let p : File → Bool = may_go dir (spared_by keeping kept) in
+        let p : File → Bool = may_go dir (spared_by spared) in
         let f : File = file_of n id (G s) in
-        smallest_is (keep p files) f (mem_keep p f files (t.into s n id hs is) (goes_may dir keeping kept f goes))
+        smallest_is (keep p files) f (mem_keep p f files (t.into s n id hs is) (goes_may dir spared f goes))
         (λ g m.
         let k = keep_mem p g files m in
         let o = t.from g k.0 in
-        least o.0 g.name g.id o.1 o.2 (may_goes dir keeping kept g k.1))
+        least o.0 g.name g.id o.1 o.2 (may_goes dir spared g k.1))
 
-    pub without_oldest_lem : without_oldest (some dir) (spared_by keeping kept) files ≡ keep (is_not id) files
+    pub without_oldest_lem : without_oldest (some dir) (spared_by spared) files ≡ keep (is_not id) files
     unfolding without_oldest without_id
     without_oldest_lem = ap (λ (o : Option ℕ). without_id o files) oldest_id

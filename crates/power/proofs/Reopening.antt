@@ -23,10 +23,8 @@ use Rattle.medium.specs.Sector.{sectors_of, sector_at, Readable}
 use Rattle.medium.proofs.Laws.{on_done_done, length_sector}
 use Rattle.handles.specs.declared.Store.{Store}
 use Rattle.directory.specs.declared.Found.{Found}
-use Rattle.directory.specs.declared.Found.TheVariants as found
-use Rattle.directory.specs.Scan.{find_of, on_found}
+use Rattle.directory.specs.Scan.{find_of, on_found, found_at}
 use Rattle.table.specs.Table.{on_chain}
-use Rattle.record.specs.declared.Judged.TheVariants.{Valid, Other}
 use Rattle.record.specs.Record.{judge_of, on_judged, data_at, number_at, read_record_of, record_at}
 use Rattle.append.specs.declared.Appender.{Appender}
 use Rattle.append.specs.declared.Tail.{Tail}
@@ -34,7 +32,6 @@ use Rattle.append.specs.Calls.{call_of}
 use Rattle.append.specs.Flush.{AppOut}
 use Rattle.files.specs.declared.Rollover.{Rollover}
 use Rattle.files.specs.Opened.{refused_at, next_token, with_token, written_by, new_appender, opened_out}
-use Rattle.reopen.specs.declared.Records.TheVariants as records
 use Rattle.reopen.specs.Reopen.{records_from, tail_for, on_records, file_out, reopen_of}
 use Rattle.reopen.proofs.Counts.{record_inside}
 use Rattle.safe.proofs.Invs.{reads, inv_writer}
@@ -158,9 +155,9 @@ module _ (vol : List ℕ) (m : Medium) (st : Store) (G : ℕ → List Segment) (
   unfolding reopen_of on_found
   way name over = go (find_of vol m st name) refl
     where
-      go : (f : Found) → find_of vol m st name ≡ f → Way name over (on_found f (refused_at vol m st) (file_out over vol m st))
-      go (found.Refused e) q = refuses e refl
-      go (found.At s id) q = let v = find_view vol m st name q in opens s id v.0 v.1 (file_opens over s name id v.0 v.1)
+      go : (f : Result Found Error) → find_of vol m st name ≡ f → Way name over (on_found f (refused_at vol m st) (file_out over vol m st))
+      go (Err e) q = refuses e refl
+      go (Ok x) q = let v = find_view vol m st name q in opens x.slot x.id v.0 v.1 (file_opens over x.slot name x.id v.0 v.1)
 
   -- the book has that file
   pub book_id : (s : ℕ) (name : List ℕ) (id : ℕ) → s < 64 → (disk_of vol st).entry s ≡ named name id → id_of name b.files ≡ id

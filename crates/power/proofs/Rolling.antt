@@ -14,7 +14,7 @@ use Rattle.medium.specs.declared.Error.TheVariants.{Corrupt, Full}
 use Rattle.medium.specs.declared.Medium.{Medium}
 use Rattle.medium.proofs.Laws.{on_done_keeps}
 use Rattle.handles.specs.declared.Store.{Store}
-use Rattle.handles.specs.Handles.{is_open, open_id}
+use Rattle.handles.specs.Handles.{is_open, open_id, open_file}
 use Rattle.table.specs.Table.{on_pick}
 use Rattle.table.specs.Free.{free_of}
 use Rattle.table.proofs.Decides.{on_pick_keeps}
@@ -42,31 +42,31 @@ use Rattle.power.proofs.Linking.{Marks, link_kept}
 module _ {t : Terms} {vol : List ℕ} {m : Medium} {st : Store} {a : Appender} {G : ℕ → List Segment} {b : Fine} {rest : List ℕ}
     (l : Live t vol m st a G b) (s : Stands vol st a G b rest) (rolls : a.rolls ≡ true) where
   abbrev g : GoneOut
-  g = remove_oldest_of vol m st (dir_bytes a.dir) (is_open st.writer) (open_id st.writer)
+  g = remove_oldest_of vol m st (dir_bytes a.dir) (open_file st.writer)
 
   abbrev step : Step
   step = record { kind = rolled_over; skipped = g.skipped }
 
   -- refused, or none went: all as it was
   stopped_live : {e : Error} → g.ans.outcome ≡ Err e → Live t g.vol g.ans.medium g.ans.store a G b
-  stopped_live q = unmade_live l (oldest_stopped vol m st G b l.whole l.readable (dir_bytes a.dir) (is_open st.writer) (open_id st.writer) q).0
+  stopped_live q = unmade_live l (oldest_stopped vol m st G b l.whole l.readable (dir_bytes a.dir) (open_file st.writer) q).0
 
   idle_live : g.ans.outcome ≡ Ok tt → g.ans.any ≡ false → Live t g.vol g.ans.medium g.ans.store a G b
   idle_live d y =
-      let n = oldest_none vol m st G b l.whole l.readable (dir_bytes a.dir) (is_open st.writer) (open_id st.writer) d y in
+      let n = oldest_none vol m st G b l.whole l.readable (dir_bytes a.dir) (open_file st.writer) d y in
       rw (n.0, n.1, n.2) l
 
   -- the file that goes is the book's
-  picked : without_oldest (some (dir_bytes a.dir)) (spared_by (is_open st.writer) (open_id st.writer)) b.files ≡ without_oldest t.dir t.spared b.files
+  picked : without_oldest (some (dir_bytes a.dir)) (spared_by (open_file st.writer)) b.files ≡ without_oldest t.dir t.spared b.files
   unfolding pick
   picked = rw (l.writer, l.spared, l.dir, s.rollover, rolls) refl
 
-  module _ (went : Went vol m st G b (dir_bytes a.dir) (is_open st.writer) (open_id st.writer) g) where
+  module _ (went : Went vol m st G b (dir_bytes a.dir) (open_file st.writer) g) where
     abbrev H : ℕ → List Segment
     H = replaced G went.slot []
 
     other : a.id ≢ went.id
-    other q = goes_other went.goes (ap is_open l.writer) (sym q ∙ sym (ap open_id l.writer))
+    other q = goes_other (rw l.writer at went.goes) (sym q)
 
     elsewhere : a.slot ≢ went.slot
     elsewhere q = other (same_id (ap (disk_of vol st).entry (sym q) ∙ s.entry) went.gone.was)
@@ -96,7 +96,7 @@ module _ {t : Terms} {vol : List ℕ} {m : Medium} {st : Store} {a : Appender} {
         on_pick (free_of g.vol g.ans.medium g.ans.store) (stopped g.vol g.ans.medium g.ans.store a)
         (stopped g.vol g.ans.medium g.ans.store a Corrupt) (link_out g.vol g.ans.medium g.ans.store a partial records)
 
-    once_kept : Went vol m st G b (dir_bytes a.dir) (is_open st.writer) (open_id st.writer) g → KeptIf t (entered t rolled_over b) rest once
+    once_kept : Went vol m st G b (dir_bytes a.dir) (open_file st.writer) g → KeptIf t (entered t rolled_over b) rest once
     once_kept went =
         on_pick_keeps (KeptIf t (entered t rolled_over b) rest) (free_of g.vol g.ans.medium g.ans.store) _ _ _
         (λ e _. kept_stopped e (went_live went)) (λ _. kept_stopped Corrupt (went_live went))
@@ -106,7 +106,7 @@ module _ {t : Terms} {vol : List ℕ} {m : Medium} {st : Store} {a : Appender} {
     unfolding EachStep entered_all
     went_kept y each =
         kept_after (step ∷ []) once
-        (once_kept (oldest_made vol m st G b l.whole l.readable (dir_bytes a.dir) (is_open st.writer) (open_id st.writer) y each.0) each.1)
+        (once_kept (oldest_made vol m st G b l.whole l.readable (dir_bytes a.dir) (open_file st.writer) y each.0) each.1)
 
     pub rolled_kept : KeptIf t b rest (rolled_out vol m st a partial records)
     unfolding rolled_out

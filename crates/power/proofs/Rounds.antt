@@ -17,7 +17,7 @@ use Rattle.medium.specs.Sector.{Readable}
 use Rattle.medium.proofs.Laws.{on_done_done}
 use Rattle.handles.specs.declared.Store.{Store}
 use Rattle.directory.specs.declared.Seen.{Seen}
-use Rattle.directory.specs.Scan.{on_looked}
+use Rattle.directory.specs.Scan.{on_looked, on_free}
 use Rattle.table.specs.Table.{on_pick}
 use Rattle.table.specs.Free.{free_of}
 use Rattle.plan.specs.declared.Edit.TheVariants.{Create}
@@ -91,14 +91,14 @@ module _ (vol : List ℕ) (m : Medium) (st : Store) {G : ℕ → List Segment} {
 
     -- room is lacking
     pub round_lacks : (length b.files ≡ 64) ⊎ (chunks_in b.files ≡ st.head.chunks) → round_out name over next vol m st ≡ over_out over next vol m st
-    unfolding round_out on_looked on_pick pick
+    unfolding round_out on_free on_looked on_pick pick
     round_lacks = go looks.0 looks.1 looks.2 looks.0.free refl
       where
-        go : (seen : Seen) → Look vol m st name seen → seen.exists ≡ false → (f : Bool) → seen.free ≡ f → (length b.files ≡ 64) ⊎ (chunks_in b.files ≡ st.head.chunks)
+        go : (seen : Seen) → Look vol m st name seen → seen.exists ≡ false → (f : Option ℕ) → seen.free ≡ f → (length b.files ≡ 64) ⊎ (chunks_in b.files ≡ st.head.chunks)
             → round_out name over next vol m st ≡ over_out over next vol m st
-        go seen l e false f lacks = rw (l.answer, e, f) refl
-        go seen l e true f (inl all) = absurd (omega (arith, all, vacant_fewer w.good w.ties seen.slot (l.below f) (l.vacant f)))
-        go seen l e true f (inr all) = rw (l.answer, e, f, none_found all) refl
+        go seen l e None f lacks = rw (l.answer, e, f) refl
+        go seen l e (Some slot) f (inl all) = absurd (omega (arith, all, vacant_fewer w.good w.ties slot (l.below f) (l.vacant f)))
+        go seen l e (Some slot) f (inr all) = rw (l.answer, e, f, none_found all) refl
 
     -- there is room, and the commit is done wherever the file goes
     module _ (ids : b.next ≡ 2 ^ 32 - 1 → ⊥) (done : (slot chunk : ℕ) → (creation name vol m st slot chunk).ans.outcome ≡ Ok tt) where
@@ -111,9 +111,9 @@ module _ (vol : List ℕ) (m : Medium) (st : Store) {G : ℕ → List Segment} {
           (slot, (chunk, q ∙ ap s (steps_done created o (done slot chunk))))
 
       pub round_makes : length b.files < 64 → chunks_in b.files < st.head.chunks → Makes name vol m st over (round_out name over next vol m st)
-      unfolding round_out on_looked on_pick pick
+      unfolding round_out on_free on_looked on_pick pick
       round_makes slots chunks = go looks.0 looks.1 looks.2 looks.0.free refl
         where
-          go : (seen : Seen) → Look vol m st name seen → seen.exists ≡ false → (f : Bool) → seen.free ≡ f → Makes name vol m st over (round_out name over next vol m st)
-          go seen l e false f = let v = vacancy w.good w.ties slots in absurd (l.full f v.0 v.1 v.2)
-          go seen l e true f = let c = found chunks in rw (l.answer, e, f, c.1) (make_makes seen.slot c.0)
+          go : (seen : Seen) → Look vol m st name seen → seen.exists ≡ false → (f : Option ℕ) → seen.free ≡ f → Makes name vol m st over (round_out name over next vol m st)
+          go seen l e None f = let v = vacancy w.good w.ties slots in absurd (l.full f v.0 v.1 v.2)
+          go seen l e (Some slot) f = let c = found chunks in rw (l.answer, e, f, c.1) (make_makes slot c.0)

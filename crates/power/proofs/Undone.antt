@@ -1,6 +1,6 @@
 -- The claim's premise on sectors left unwritten is met by sectors: on 128 sectors of zeros a file is created and deleted at once. The delete is accepted
 -- with 01's two writes, its step lists all nine body sectors as left unwritten, each holds the bytes due, and the volume holds no file. Assumes nothing.
-use Rattle.std.specs.Prelude.{Ok, Result}
+use Rattle.std.specs.Prelude.{Ok, Result, Err}
 use Rattle.medium.specs.declared.Error.{Error}
 use Prim.Native.Nat.{ℕ, ◌+◌, ◌-◌, ◌/◌, ◌^◌, ◌≤◌, ◌<◌}
 use mathlib.Core.Path.{◌≡◌, refl, sym, ap, subst, ◌∙◌}
@@ -22,8 +22,7 @@ use Rattle.handles.specs.declared.Header.{Header}
 use Rattle.handles.specs.Body.{body_at}
 use Rattle.handles.specs.Handles.{body_of}
 use Rattle.directory.specs.declared.Found.{Found}
-use Rattle.directory.specs.declared.Found.TheVariants as found
-use Rattle.directory.specs.Scan.{find_of, on_found}
+use Rattle.directory.specs.Scan.{find_of, on_found, found_at}
 use Rattle.plan.specs.declared.Edit.TheVariants.{Remove}
 use Rattle.plan.specs.Edit.{head_after}
 use Rattle.plan.specs.Copy.{deleted, Skipped, EachSkipped, Plan, Out, skipped_from, refused_out, steps_of}
@@ -126,7 +125,7 @@ module _ (seed : ℕ) (m : Medium) (ap₀ : Appender) (left : 11 ≤ m.left) (r 
       let c = Makes.created (inv_sane keeps₀.keeps.whole.inv) (commit_edited first.made) (lit< tt) (inv_held keeps₀.keeps.whole.inv).head.chunks_least (name_short name fine) fine (sym next₀) (lit< tt) in
       (writer_unchanged first.out.vol first.out.ans.store w₁.store refl refl).entries 0 (lit< tt) ∙ c.entry ∙ ap (named name) next₀
 
-  named_at : find_of w₁.vol u w₁.store name ≡ found.At 0 1
+  named_at : find_of w₁.vol u w₁.store name ≡ found_at 0 1
   named_at =
       find_there w₁.vol u w₁.store (inv_checked u keeps₁.keeps.whole.inv keeps₁.keeps.readable) keeps₁.keeps.layout keeps₁.keeps.whole.good name 0 1 (lit< tt) entry
 
@@ -162,7 +161,7 @@ module _ (seed : ℕ) (m : Medium) (ap₀ : Appender) (left : 11 ≤ m.left) (r 
   unfolding ran delete_call on_found
   deletes =
       let x = on_done_done (on_found (find_of w₁.vol u w₁.store name) (refused_out w₁.store w₁.vol u) (remove_of w₁.vol u w₁.store)) _ asked
-      ∙ ap (λ (f : Found). on_found f (refused_out w₁.store w₁.vol u) (remove_of w₁.vol u w₁.store)) named_at in (
+      ∙ ap (λ (f : Result Found Error). on_found f (refused_out w₁.store w₁.vol u) (remove_of w₁.vol u w₁.store)) named_at in (
         ap (λ (o : Out). is_ok (outcome_of o.ans.outcome)) x ∙ ap (λ (o : Result Unit Error). is_ok (outcome_of o)) is_gone.0,
         ap (steps_of deleted) x ∙ steps_done deleted gone is_gone.0 ∙ ap (λ (l : List Skipped). (record { kind = deleted; skipped = l }) ∷ []) is_gone.1,
       )

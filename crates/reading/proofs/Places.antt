@@ -21,12 +21,8 @@ use Rattle.handles.proofs.Laws.{Held, store_facts}
 use Rattle.table.specs.declared.Link.{Link}
 use Rattle.table.specs.Table.{locate_of, on_place, place_at}
 use Rattle.directory.specs.Entry.{entry_at}
-use Rattle.record.specs.declared.Judged.{Judged}
-use Rattle.record.specs.declared.Judged.TheVariants as judged
 use Rattle.record.specs.Record.{judge_of, data_at, number_at, read_record_of, record_at}
 use Rattle.record.proofs.Laws.{data_inside}
-use Rattle.reader.specs.declared.End.{End}
-use Rattle.reader.specs.declared.End.TheVariants.{Last, Records}
 use Rattle.reader.specs.declared.Reader.{Reader}
 use Rattle.reader.specs.declared.Found.TheVariants as found
 use Rattle.reader.specs.Reader.{end_of, moved_to, inside_of, enter_of}

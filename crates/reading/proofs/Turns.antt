@@ -16,13 +16,8 @@ use Rattle.medium.specs.Refusal.{on_done}
 use Rattle.medium.specs.Sector.{sectors_of, sector_at}
 use Rattle.handles.specs.declared.Store.{Store}
 use Rattle.handles.specs.Handles.{store_ok}
-use Rattle.record.specs.declared.Judged.TheVariants as judged
 use Rattle.record.specs.Record.{on_judged, payload_of, data_at}
-use Rattle.reader.specs.declared.End.{End}
-use Rattle.reader.specs.declared.End.TheVariants.{Last}
 use Rattle.reader.specs.declared.Reader.{Reader}
-use Rattle.reader.specs.declared.Searched.{Searched}
-use Rattle.reader.specs.declared.Searched.TheVariants as searched
 use Rattle.reader.specs.declared.Found.TheVariants as found
 use Rattle.reader.specs.Reader.{moved_to}
 use Rattle.reader.specs.Next.{is_last, limit_of, arrive_of, record_here, search_step, search_of, tells, hole_of, take_of, next_of}

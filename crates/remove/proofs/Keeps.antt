@@ -6,6 +6,8 @@ use Prim.Native.Nat.{ℕ, ◌≤◌}
 use borrow.Author.Tests.{eqb-false, ne_eqb}
 use lib.Dec.{eqb, lit≤}
 use lib.ListN.{length}
+use Rattle.std.specs.Prelude.{Option, None, Some, Result, Ok, Err}
+use Rattle.medium.specs.declared.Error.{Error}
 use Rattle.le.proofs.Choices.{pick_keeps, pick_keeps_by, pick_false}
 use Rattle.medium.specs.declared.Medium.{Medium}
 use Rattle.medium.specs.Sector.{sectors_of}
@@ -16,11 +18,9 @@ use Rattle.medium.proofs.Stale.{NotStale}
 use Rattle.handles.specs.declared.Store.{Store}
 use Rattle.handles.specs.declared.Writer.{Writer}
 use Rattle.handles.specs.declared.Writer.TheVariants.{Nobody, Open}
-use Rattle.handles.specs.Handles.{store_ok, is_open, open_id}
+use Rattle.handles.specs.Handles.{store_ok, open_file}
 use Rattle.directory.specs.declared.Old.{Old}
-use Rattle.directory.specs.declared.OldestFile.{OldestFile}
-use Rattle.directory.specs.declared.OldestFile.TheVariants as oldest
-use Rattle.directory.specs.Scan.{oldest_of}
+use Rattle.directory.specs.Scan.{oldest_of, spares}
 use Rattle.directory.proofs.Ranges.{oldest_file}
 use Rattle.plan.specs.declared.Edit.{Edit}
 use Rattle.plan.specs.declared.Edit.TheVariants.{Remove}
@@ -116,22 +116,20 @@ gone_stands : (vol : List ℕ) (m : Medium) (st : Store) (name : List ℕ) (len 
 unfolding gone_of
 gone_stands vol m st name len o k = on_done_keeps (GoneStands vol m st) o.ans.outcome _ _ (λ _. k) (λ _ _. k)
 
-found_stands : (vol : List ℕ) (m : Medium) (st : Store) (f : OldestFile) → Good vol st → GoneStands vol m st (oldest_gone vol m st f)
+found_stands : (vol : List ℕ) (m : Medium) (st : Store) (f : Result (Option Old) Error) → Good vol st → GoneStands vol m st (oldest_gone vol m st f)
 unfolding oldest_gone
-found_stands vol m st (oldest.Refused e) g = stands_none vol m st g
-found_stands vol m st (oldest.Done old) g =
-    pick_keeps (GoneStands vol m st) old.any _ _
-    (gone_stands vol m st _ old.len _ (remove_stands vol m st old.slot old.id g))
-    (stands_none vol m st g)
+found_stands vol m st (Err e) g = stands_none vol m st g
+found_stands vol m st (Ok None) g = stands_none vol m st g
+found_stands vol m st (Ok (Some old)) g = gone_stands vol m st _ old.len _ (remove_stands vol m st old.slot old.id g)
 
-pub oldest_stands : (vol : List ℕ) (m : Medium) (st : Store) (dir : List ℕ) (keeping : Bool) (keep : ℕ) → Good vol st
-    → GoneStands vol m st (remove_oldest_of vol m st dir keeping keep)
+pub oldest_stands : (vol : List ℕ) (m : Medium) (st : Store) (dir : List ℕ) (spared : Option ℕ) → Good vol st
+    → GoneStands vol m st (remove_oldest_of vol m st dir spared)
 unfolding remove_oldest_of
-oldest_stands vol m st dir keeping keep g = found_stands vol m st (oldest_of vol m st dir keeping keep) g
+oldest_stands vol m st dir spared g = found_stands vol m st (oldest_of vol m st dir spared) g
 
 -- ---- the open file is spared, and stays open
 
-without_spared : (w : Writer) (id : ℕ) → (is_open w && eqb id (open_id w)) ≡ false → writer_without id w ≡ w
+without_spared : (w : Writer) (id : ℕ) → spares (open_file w) id ≡ false → writer_without id w ≡ w
 unfolding writer_without
 without_spared Nobody id e = refl
 without_spared (Open token held) id e = pick_false _ _ (ne_eqb held id (λ q. eqb-false id held e (sym q)))
@@ -140,7 +138,7 @@ abbrev SameWriter : Store → GoneOut → Type 0
 SameWriter st o = o.ans.store.writer ≡ st.writer
 
 module _ (vol : List ℕ) (m : Medium) (st : Store) (good : Good vol st) where
-  remove_spared : (slot id : ℕ) → (is_open st.writer && eqb id (open_id st.writer)) ≡ false → (remove_of vol m st slot id).ans.store.writer ≡ st.writer
+  remove_spared : (slot id : ℕ) → spares (open_file st.writer) id ≡ false → (remove_of vol m st slot id).ans.store.writer ≡ st.writer
   unfolding remove_of
   remove_spared slot id e =
       let o : Out = commit_of (Remove slot) [] vol m st in
@@ -153,17 +151,15 @@ module _ (vol : List ℕ) (m : Medium) (st : Store) (good : Good vol st) where
   unfolding gone_of
   gone_writer name len o w = on_done_keeps (SameWriter st) o.ans.outcome _ _ (λ _. w) (λ _ _. w)
 
-  found_writer : (f : OldestFile) → ((old : Old) → f ≡ oldest.Done old → old.any ≡ true → (is_open st.writer && eqb old.id (open_id st.writer)) ≡ false)
+  found_writer : (f : Result (Option Old) Error) → ((old : Old) → f ≡ Ok (Some old) → spares (open_file st.writer) old.id ≡ false)
       → SameWriter st (oldest_gone vol m st f)
   unfolding oldest_gone
-  found_writer (oldest.Refused e) h = refl
-  found_writer (oldest.Done old) h =
-      pick_keeps_by (SameWriter st) old.any _ _
-      (λ t. gone_writer _ old.len (remove_of vol m st old.slot old.id) (remove_spared old.slot old.id (h old refl t)))
-      (λ _. refl)
+  found_writer (Err e) h = refl
+  found_writer (Ok None) h = refl
+  found_writer (Ok (Some old)) h = gone_writer _ old.len (remove_of vol m st old.slot old.id) (remove_spared old.slot old.id (h old refl))
 
-  pub spared_writer : (dir : List ℕ) → SameWriter st (remove_oldest_of vol m st dir (is_open st.writer) (open_id st.writer))
+  pub spared_writer : (dir : List ℕ) → SameWriter st (remove_oldest_of vol m st dir (open_file st.writer))
   unfolding remove_oldest_of
   spared_writer dir =
-      found_writer (oldest_of vol m st dir (is_open st.writer) (open_id st.writer))
-      (λ old q t. (oldest_file vol m st dir (is_open st.writer) (open_id st.writer) q t).goes)
+      found_writer (oldest_of vol m st dir (open_file st.writer))
+      (λ old q. (oldest_file vol m st dir (open_file st.writer) q).goes)

@@ -1,5 +1,5 @@
 -- What removing gives, by the way that it goes: a law for each return, over plain values. Assumes nothing.
-use Rattle.std.specs.Prelude.{Err, Ok}
+use Rattle.std.specs.Prelude.{Err, Ok, Option, None, Some, Result}
 use mathlib.Core.Path.{◌≡◌, refl, sym, ap, ◌∙◌}
 use mathlib.Core.Bool.{Bool, true, false}
 use mathlib.Core.List.{List, [], append-nil}
@@ -17,8 +17,6 @@ use Rattle.medium.specs.Refusal.{on_done}
 use Rattle.medium.proofs.Laws.{on_done_no}
 use Rattle.handles.specs.declared.Store.{Store}
 use Rattle.directory.specs.declared.Old.{Old}
-use Rattle.directory.specs.declared.OldestFile.{OldestFile}
-use Rattle.directory.specs.declared.OldestFile.TheVariants as oldest
 use Rattle.directory.specs.Entry.{entry_at}
 use Rattle.directory.specs.Scan.{oldest_of}
 use Rattle.directory.proofs.Places.{place_of, name_place}
@@ -71,20 +69,19 @@ module _ (name : List ℕ) (len : ℕ) (o : Out) {v : List ℕ} {c : Committed} 
 
 -- ---- the oldest
 
-module _ (vol : List ℕ) (m : Medium) (st : Store) (dir : List ℕ) (keeping : Bool) (keep : ℕ) {f : OldestFile} (h : f ≡ oldest_of vol m st dir keeping keep) where
-  pub oldest_refused : {e : Error} → f ≡ oldest.Refused e
-      → GivesG vol (none_gone (Err e) m st) (remove_oldest_of vol m st dir keeping keep)
+module _ (vol : List ℕ) (m : Medium) (st : Store) (dir : List ℕ) (spared : Option ℕ) {f : Result (Option Old) Error} (h : f ≡ oldest_of vol m st dir spared) where
+  pub oldest_refused : {e : Error} → f ≡ Err e
+      → GivesG vol (none_gone (Err e) m st) (remove_oldest_of vol m st dir spared)
   unfolding remove_oldest_of oldest_gone
   oldest_refused d = rw (← h, d) (refl, refl)
 
-  module _ {old : Old} (d : f ≡ oldest.Done old) where
-    pub oldest_none : old.any ≡ false
-        → GivesG vol (none_gone (Ok tt) m st) (remove_oldest_of vol m st dir keeping keep)
-    unfolding remove_oldest_of oldest_gone pick
-    oldest_none t = rw (← h, d, t) (refl, refl)
+  pub oldest_none : f ≡ Ok None
+      → GivesG vol (none_gone (Ok tt) m st) (remove_oldest_of vol m st dir spared)
+  unfolding remove_oldest_of oldest_gone
+  oldest_none d = rw (← h, d) (refl, refl)
 
-    pub oldest_goes : {v : List ℕ} {r : Gone} → old.any ≡ true
-        → GivesG v r (gone_of (part 0 40 (entry_at vol st old.slot)) old.len (remove_of vol m st old.slot old.id))
-        → GivesG v r (remove_oldest_of vol m st dir keeping keep)
-    unfolding remove_oldest_of oldest_gone pick
-    oldest_goes t w = rw (← h, d, t) w
+  pub oldest_goes : {old : Old} {v : List ℕ} {r : Gone} → f ≡ Ok (Some old)
+      → GivesG v r (gone_of (part 0 40 (entry_at vol st old.slot)) old.len (remove_of vol m st old.slot old.id))
+      → GivesG v r (remove_oldest_of vol m st dir spared)
+  unfolding remove_oldest_of oldest_gone
+  oldest_goes d w = rw (← h, d) w

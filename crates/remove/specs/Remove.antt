@@ -1,5 +1,6 @@
 -- 01, "Commit", refusal 10 and "Link": a file removed, by its slot or as the oldest of a directory. Assumes nothing.
-use Rattle.std.specs.Prelude.{Ok, Result}
+use Rattle.std.specs.Prelude.{Ok, Result, Option, None, Some, Err}
+use Rattle.directory.specs.declared.Old.{Old}
 use Rattle.medium.specs.declared.Error.{Error}
 use Rattle.std.specs.Prelude.{ℕ, Bool, true, false, List, [], eqb}
 use Rattle.le.specs.Choice.{pick}
@@ -9,8 +10,6 @@ use Rattle.medium.specs.Refusal.{on_done}
 use Rattle.handles.specs.declared.Store.{Store}
 use Rattle.handles.specs.declared.Writer.{Writer}
 use Rattle.handles.specs.declared.Writer.TheVariants.{Nobody, Open}
-use Rattle.directory.specs.declared.OldestFile.{OldestFile}
-use Rattle.directory.specs.declared.OldestFile.TheVariants as oldest
 use Rattle.directory.specs.Entry.{entry_at}
 use Rattle.directory.specs.Scan.{oldest_of}
 use Rattle.plan.specs.declared.Edit.TheVariants.{Remove}
@@ -58,12 +57,11 @@ gone_of name len o =
     })
     (λ e. none_out o)
 
--- smallest id goes first, of equal ids the lowest slot; where `keeping`, files of the id `keep` are spared. None is no refusal here
-unfoldable pub oldest_gone : List ℕ → Medium → Store → OldestFile → GoneOut
-oldest_gone vol m st (oldest.Refused e) = none_out (refused_out st vol m e)
-oldest_gone vol m st (oldest.Done old) =
-    pick old.any (gone_of (part 0 40 (entry_at vol st old.slot)) old.len (remove_of vol m st old.slot old.id))
-    (none_out (record { vol = vol; ans = record { outcome = Ok tt; medium = m; store = st }; skipped = [] }))
+-- smallest id goes first, of equal ids the lowest slot; a file of the id that is spared does not go. None is no refusal here
+unfoldable pub oldest_gone : List ℕ → Medium → Store → Result (Option Old) Error → GoneOut
+oldest_gone vol m st (Err e) = none_out (refused_out st vol m e)
+oldest_gone vol m st (Ok None) = none_out (record { vol = vol; ans = record { outcome = Ok tt; medium = m; store = st }; skipped = [] })
+oldest_gone vol m st (Ok (Some old)) = gone_of (part 0 40 (entry_at vol st old.slot)) old.len (remove_of vol m st old.slot old.id)
 
-unfoldable pub remove_oldest_of : List ℕ → Medium → Store → List ℕ → Bool → ℕ → GoneOut
-remove_oldest_of vol m st dir keeping keep = oldest_gone vol m st (oldest_of vol m st dir keeping keep)
+unfoldable pub remove_oldest_of : List ℕ → Medium → Store → List ℕ → Option ℕ → GoneOut
+remove_oldest_of vol m st dir spared = oldest_gone vol m st (oldest_of vol m st dir spared)

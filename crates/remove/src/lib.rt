@@ -8,7 +8,7 @@ ghost use Rattle.handles.specs.Handles.{store_ok};
 ghost use Rattle.directory.specs.Entry.{entry_at};
 ghost use Rattle.remove.specs.Remove.{writer_without, closed_for, remove_of, none_gone, gone_of, remove_oldest_of};
 
-use directory::{Old, OldestFile};
+use directory::Old;
 use handles::{Store, Writer};
 use medium::{Error, Medium};
 use plan::{Committed, Edit};
@@ -121,27 +121,21 @@ fn take_away(volume: &mut [u8], medium: Medium, store: Store, old: Old) -> Gone
     }
 }
 
-// Removes the oldest file of a directory; with `keeping`, files of the id `keep` are spared. That there is none is no refusal here.
+// Removes the oldest file of a directory; a file of the id `spared` does not go. That there is none is no refusal here.
 pub fn remove_oldest(
     volume: &mut [u8],
     medium: Medium,
     store: Store,
     dir: &[u8],
-    keeping: bool,
-    keep: u32,
+    spared: Option<u32>,
 ) -> Gone
     requires { store_ok store (sectors_of volume.old) ≡ true }
-    ensures { (volume.new ≡ (remove_oldest_of volume.old medium store dir.now keeping keep).vol)
-        × (result ≡ (remove_oldest_of volume.old medium store dir.now keeping keep).ans) }
+    ensures { (volume.new ≡ (remove_oldest_of volume.old medium store dir.now spared).vol)
+        × (result ≡ (remove_oldest_of volume.old medium store dir.now spared).ans) }
 {
-    let found = directory::oldest(&volume[..], medium, store, dir, keeping, keep);
-    match found {
-        OldestFile::Refused(e) => none_gone(Err(e), medium, store),
-        OldestFile::Done(old) => {
-            if !old.any {
-                return none_gone(Ok(()), medium, store);
-            }
-            take_away(volume, medium, store, old)
-        }
+    match directory::oldest(&volume[..], medium, store, dir, spared) {
+        Err(e) => none_gone(Err(e), medium, store),
+        Ok(None) => none_gone(Ok(()), medium, store),
+        Ok(Some(old)) => take_away(volume, medium, store, old),
     }
 }

@@ -15,15 +15,11 @@ use Rattle.medium.specs.Sector.{sectors_of}
 use Rattle.handles.specs.declared.Store.{Store}
 use Rattle.handles.specs.Handles.{store_ok}
 use Rattle.handles.proofs.Laws.{Held, store_facts}
-use Rattle.record.specs.declared.Judged.{Judged}
-use Rattle.record.specs.declared.Judged.TheVariants as judged
 use Rattle.record.specs.Record.{on_judged, data_at, record_at}
 use Rattle.record.proofs.Laws.{on_judged_keeps, data_inside}
 use Rattle.append.specs.declared.Tail.{Tail}
 use Rattle.append.specs.declared.Tail.TheVariants.{At, Reopened}
 use Rattle.append.specs.Appender.{tail_ok, is_closed}
-use Rattle.reopen.specs.declared.Records.{Records}
-use Rattle.reopen.specs.declared.Records.TheVariants as records
 use Rattle.reopen.specs.Reopen.{records_from, tail_for}
 
 -- ---- a record of the chunk

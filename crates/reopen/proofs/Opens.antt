@@ -11,8 +11,7 @@ use Rattle.medium.specs.Sector.{sectors_of}
 use Rattle.medium.proofs.Laws.{not_done}
 use Rattle.handles.specs.declared.Store.{Store}
 use Rattle.handles.specs.Handles.{store_ok}
-use Rattle.directory.specs.declared.Found.TheVariants as found
-use Rattle.directory.specs.Scan.{find_of}
+use Rattle.directory.specs.Scan.{find_of, found_at}
 use Rattle.directory.proofs.Ranges.{find_name}
 use Rattle.directory.proofs.Decides.{on_found_keeps}
 use Rattle.table.specs.declared.ChainParts.{ChainParts}
@@ -25,8 +24,6 @@ use Rattle.files.specs.declared.Rollover.{Rollover}
 use Rattle.files.specs.Opened.{refused_at, next_token, with_token, written_by, opened_out}
 use Rattle.append.specs.Calls.{may_write}
 use Rattle.files.proofs.Opens.{over_ok, opened_ok, opened_may}
-use Rattle.reopen.specs.declared.Records.{Records}
-use Rattle.reopen.specs.declared.Records.TheVariants as records
 use Rattle.reopen.specs.Reopen.{records_from, tail_for, on_records, file_out, reopen_of}
 use Rattle.reopen.proofs.Counts.{count_most, tail_passes, tail_open}
 use Rattle.reopen.proofs.Ways.{last_placed}
@@ -44,7 +41,7 @@ pub record Reads (vol : List ℕ) (m : Medium) (st : Store) (o : AppOut) : Type 
 
 -- what an accepted call hands back: an appender of the file found, which passes where its rollover does, and the store that it writes
 pub record Opens (name : List ℕ) (rollover : Rollover) (vol : List ℕ) (m : Medium) (st : Store) (r : Handed) : Type 0 where
-  pub named : find_of vol m st name ≡ found.At r.appender.slot r.appender.id
+  pub named : find_of vol m st name ≡ found_at r.appender.slot r.appender.id
   pub medium : r.medium ≡ with_token m
   pub store : r.store ≡ written_by (next_token m) r.appender.id st
   pub held : store_ok r.store (sectors_of vol) ≡ true
@@ -61,7 +58,7 @@ module _ (name : List ℕ) (rollover : Rollover) (vol : List ℕ) (m : Medium) (
   no e = (record { same = refl; still = refl; refused = λ x q. ap (λ (o : Result Unit Error). record { outcome = o; medium = m; store = st; appender = no_appender }) q }, not_done)
 
   module _ (ok : store_ok st (sectors_of vol) ≡ true) where
-    opened : (slot id : ℕ) (p : ChainParts) (n : ℕ) → find_of vol m st name ≡ found.At slot id → chain_of vol m st slot ≡ Ok p → n ≤ st.head.chunk
+    opened : (slot id : ℕ) (p : ChainParts) (n : ℕ) → find_of vol m st name ≡ found_at slot id → chain_of vol m st slot ≡ Ok p → n ≤ st.head.chunk
         → Leaves (opened_out vol m st slot id p.last (p.count - 1) (tail_for st.head.chunk n) rollover)
     unfolding opened_out store_ok
     opened slot id p n f c h =

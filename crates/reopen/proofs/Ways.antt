@@ -5,6 +5,7 @@ use mathlib.Core.Bool.{true}
 use mathlib.Core.List.{List, []}
 use Prim.Native.Nat.{ℕ, ◌-◌, ◌≤◌, ◌<◌}
 use native.Mathlib.Omega.{arith}
+use Rattle.std.specs.Prelude.{Result, Ok, Err}
 use Rattle.le.proofs.Turns.{told}
 use Rattle.medium.specs.declared.Error.{Error}
 use Rattle.medium.specs.declared.Medium.{Medium}
@@ -13,8 +14,7 @@ use Rattle.handles.specs.declared.Store.{Store}
 use Rattle.handles.specs.Handles.{store_ok}
 use Rattle.handles.proofs.Laws.{Held, store_facts}
 use Rattle.directory.specs.declared.Found.{Found}
-use Rattle.directory.specs.declared.Found.TheVariants as found
-use Rattle.directory.specs.Scan.{find_of, on_found}
+use Rattle.directory.specs.Scan.{find_of, on_found, found_at}
 use Rattle.table.specs.declared.ChainParts.{ChainParts}
 use Rattle.table.specs.Table.{chain_of, on_chain}
 use Rattle.table.proofs.Walks.{chain_range}
@@ -22,8 +22,6 @@ use Rattle.append.specs.declared.Handed.{Handed}
 use Rattle.append.specs.declared.Tail.{Tail}
 use Rattle.files.specs.declared.Rollover.{Rollover}
 use Rattle.files.specs.Opened.{refused_at, opened_out}
-use Rattle.reopen.specs.declared.Records.{Records}
-use Rattle.reopen.specs.declared.Records.TheVariants as records
 use Rattle.reopen.specs.Reopen.{records_from, tail_for, on_records, file_out, reopen_of}
 
 -- an answer does not tell the volume: these calls only read it
@@ -59,11 +57,11 @@ module _ (rollover : Rollover) (vol : List ℕ) (m : Medium) (st : Store) (slot 
 
 -- ---- the name
 
-module _ (name : List ℕ) (rollover : Rollover) (vol : List ℕ) (m : Medium) (st : Store) {f : Found} (asked : f ≡ find_of vol m st name) where
-  pub not_found : {e : Error} {r : Handed} → f ≡ found.Refused e → r ≡ (refused_at [] m st e).ans → r ≡ (reopen_of name rollover vol m st).ans
+module _ (name : List ℕ) (rollover : Rollover) (vol : List ℕ) (m : Medium) (st : Store) {f : Result Found Error} (asked : f ≡ find_of vol m st name) where
+  pub not_found : {e : Error} {r : Handed} → f ≡ Err e → r ≡ (refused_at [] m st e).ans → r ≡ (reopen_of name rollover vol m st).ans
   unfolding reopen_of on_found
   not_found q h = rw (h, ← asked, q)
 
-  pub name_found : {slot id : ℕ} {r : Handed} → f ≡ found.At slot id → r ≡ (file_out rollover vol m st slot id).ans → r ≡ (reopen_of name rollover vol m st).ans
+  pub name_found : {slot id : ℕ} {r : Handed} → f ≡ found_at slot id → r ≡ (file_out rollover vol m st slot id).ans → r ≡ (reopen_of name rollover vol m st).ans
   unfolding reopen_of on_found
   name_found q h = rw (h, ← asked, q)

@@ -13,8 +13,6 @@ use Rattle.append.specs.declared.Tail.TheVariants.{At, Reopened}
 use Rattle.append.specs.Flush.{AppOut}
 use Rattle.files.specs.declared.Rollover.{Rollover}
 use Rattle.files.specs.Opened.{refused_at, opened_out}
-use Rattle.reopen.specs.declared.Records.{Records}
-use Rattle.reopen.specs.declared.Records.TheVariants as records
 
 -- up to the last valid record of the chunk, from the top down
 unfoldable pub records_from : List ℕ → Medium → Store → ℕ → ℕ → ℕ → ℕ → Records

@@ -8,7 +8,6 @@ ghost use Rattle.record.specs.Record.{record_at};
 ghost use Rattle.reopen.specs.Reopen.{records_from, tail_for, file_out, reopen_of};
 
 use append::{Handed, Tail};
-use directory::Found;
 use files::Rollover;
 use handles::Store;
 use medium::{Error, Medium};
@@ -121,9 +120,8 @@ pub fn open_append(
     requires { store_ok store (sectors_of volume.now) ≡ true }
     ensures { result ≡ (reopen_of name.now rollover volume.now medium store).ans }
 {
-    let f = directory::find(volume, medium, store, name);
-    match f {
-        Found::Refused(e) => files::refused(e, medium, store),
-        Found::At { slot, id } => open_file(volume, medium, store, slot, id, rollover),
+    match directory::find(volume, medium, store, name) {
+        Err(e) => files::refused(e, medium, store),
+        Ok(found) => open_file(volume, medium, store, found.slot, found.id, rollover),
     }
 }

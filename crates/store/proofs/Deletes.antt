@@ -1,5 +1,5 @@
 -- `delete` and `delete_oldest`, by the way that they go: a law for each return, over plain values. Assumes nothing.
-use Rattle.std.specs.Prelude.{Err, Ok, Result}
+use Rattle.std.specs.Prelude.{Err, Ok, Result, Option}
 use mathlib.Core.Path.{◌≡◌, refl, ap}
 use mathlib.Core.Bool.{Bool}
 use mathlib.Core.List.{List, []}
@@ -9,10 +9,9 @@ use Rattle.medium.specs.declared.Error.{Error}
 use Rattle.medium.specs.declared.Medium.{Medium}
 use Rattle.medium.specs.Refusal.{on_done}
 use Rattle.handles.specs.declared.Store.{Store}
-use Rattle.handles.specs.Handles.{is_open, open_id}
+use Rattle.handles.specs.Handles.{open_file}
 use Rattle.directory.specs.declared.Found.{Found}
-use Rattle.directory.specs.declared.Found.TheVariants as found
-use Rattle.directory.specs.Scan.{find_of, on_found}
+use Rattle.directory.specs.Scan.{find_of, on_found, found_at}
 use Rattle.plan.specs.declared.Committed.{Committed}
 use Rattle.plan.specs.Copy.{refused_out}
 use Rattle.remove.specs.declared.Gone.{Gone}
@@ -30,12 +29,12 @@ module _ (vol : List ℕ) (m : Medium) (st : Store) (name : List ℕ) {o : Resul
   unfolding delete_call on_done
   input_refused h k = rw (k, ← f, ← q, h) (refl, refl)
 
-  module _ (done : o ≡ Ok tt) {x : Found} (g : x ≡ find_of vol m st name) where
-    pub not_found : {e : Error} {r : StoreAnswer} → x ≡ found.Refused e → r ≡ answer_of (refused_out st [] m e).ans → Gives vol r (delete_call vol m st name)
+  module _ (done : o ≡ Ok tt) {x : Result Found Error} (g : x ≡ find_of vol m st name) where
+    pub not_found : {e : Error} {r : StoreAnswer} → x ≡ Err e → r ≡ answer_of (refused_out st [] m e).ans → Gives vol r (delete_call vol m st name)
     unfolding delete_call on_done on_found
     not_found h k = rw (k, ← f, ← q, done, ← g, h) (refl, refl)
 
-    pub removed : {slot id : ℕ} {v : List ℕ} {c : Committed} {r : StoreAnswer} → x ≡ found.At slot id
+    pub removed : {slot id : ℕ} {v : List ℕ} {c : Committed} {r : StoreAnswer} → x ≡ found_at slot id
         → (v ≡ (remove_of vol m st slot id).vol) × (c ≡ (remove_of vol m st slot id).ans) → r ≡ answer_of c → Gives v r (delete_call vol m st name)
     unfolding delete_call on_done on_found
     removed h w k = rw (k, ← f, ← q, done, ← g, h) (w.0, ap (λ (z : Committed). store_answer (answer_of z)) w.1)
@@ -48,7 +47,7 @@ module _ (vol : List ℕ) (m : Medium) (st : Store) (dir : List ℕ) {o : Result
   unfolding oldest_call oldest_told on_done
   dir_refused h k = rw (k, ← f, ← q, h) (refl, refl, refl)
 
-  pub oldest_told_lem : {v : List ℕ} {r : Gone} {k : Bool} {id : ℕ} → o ≡ Ok tt → k ≡ is_open st.writer → id ≡ open_id st.writer
-      → (v ≡ (remove_oldest_of vol m st dir k id).vol) × (r ≡ (remove_oldest_of vol m st dir k id).ans) → GivesGone v r (oldest_call vol m st dir)
+  pub oldest_told_lem : {v : List ℕ} {r : Gone} {spared : Option ℕ} → o ≡ Ok tt → spared ≡ open_file st.writer
+      → (v ≡ (remove_oldest_of vol m st dir spared).vol) × (r ≡ (remove_oldest_of vol m st dir spared).ans) → GivesGone v r (oldest_call vol m st dir)
   unfolding oldest_call oldest_told on_done
-  oldest_told_lem h a b w = rw (← f, ← q, h, ← a, ← b) (w.0, ap gone_answer w.1, w.1)
+  oldest_told_lem h a w = rw (← f, ← q, h, ← a) (w.0, ap gone_answer w.1, w.1)

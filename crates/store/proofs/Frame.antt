@@ -4,6 +4,8 @@ use mathlib.Core.List.{List}
 use Prim.Native.Nat.{ℕ, ◌+◌, ◌<◌}
 use native.Mathlib.Omega.{arith}
 use lib.ListN.{length}
+use Rattle.std.specs.Prelude.{Result, Ok, Err}
+use Rattle.medium.specs.declared.Error.{Error}
 use Rattle.le.specs.Part.{over, zeros}
 use Rattle.medium.specs.declared.Medium.{Medium}
 use Rattle.medium.specs.Sector.{sector_at}
@@ -11,8 +13,7 @@ use Rattle.handles.specs.declared.Store.{Store}
 use Rattle.handles.specs.Handles.{table_of, body_of}
 use Rattle.handles.specs.Body.{body_at}
 use Rattle.directory.specs.declared.Found.{Found}
-use Rattle.directory.specs.declared.Found.TheVariants as found
-use Rattle.directory.specs.Scan.{finding, find_of, on_found}
+use Rattle.directory.specs.Scan.{finding, find_of, on_found, found_at}
 use Rattle.directory.specs.Rows.{listing, rows_of}
 use Rattle.directory.proofs.Scans.{scan_frame}
 use Rattle.table.specs.Table.{no_chain, chain_v, chain_of, count_v, count_of}
@@ -52,10 +53,10 @@ module _ (vol v : List ℕ) (m : Medium) (st : Store) (size : length v ≡ lengt
   unfolding chain_of
   chained slot = table_frame v vol m st links (chain_v slot) no_chain
 
-  started : (f : Found) → started_at v m st f ≡ started_at vol m st f
+  started : (f : Result Found Error) → started_at v m st f ≡ started_at vol m st f
   unfolding on_found
-  started (found.Refused e) = refl
-  started (found.At slot id) = rw (chained slot)
+  started (Err e) = refl
+  started (Ok x) = rw (chained x.slot)
 
   pub reader_frame : (name : List ℕ) → reader_call v m st name ≡ reader_call vol m st name
   unfolding reader_call asked_of

@@ -11,7 +11,7 @@ use Rattle.medium.specs.declared.Medium.{Medium}
 use Rattle.medium.proofs.Laws.{on_done_keeps}
 use Rattle.medium.proofs.Frame.{rest_of}
 use Rattle.handles.specs.declared.Store.{Store}
-use Rattle.handles.specs.Handles.{is_open, open_id}
+use Rattle.handles.specs.Handles.{open_file}
 use Rattle.directory.specs.Scan.{find_of}
 use Rattle.directory.proofs.Decides.{on_found_keeps}
 use Rattle.plan.specs.Copy.{Out}
@@ -56,5 +56,5 @@ module _ (vol : List ℕ) (m : Medium) (st : Store) (count : length st.head.crcs
   unfolding oldest_call oldest_told
   oldest_rest dir =
       on_done_keeps (λ (o : GoneOut). Same o.vol) (asked_of vol st (dir_ok dir)) _ _
-      (λ q. (oldest_stands vol m st dir (is_open st.writer) (open_id st.writer) (good (dir_ok dir) q)).rest)
+      (λ q. (oldest_stands vol m st dir (open_file st.writer) (good (dir_ok dir) q)).rest)
       (λ e q. refl)

@@ -10,8 +10,7 @@ use Rattle.medium.specs.declared.Medium.{Medium}
 use Rattle.medium.specs.Refusal.{on_done}
 use Rattle.handles.specs.declared.Store.{Store}
 use Rattle.directory.specs.declared.Found.{Found}
-use Rattle.directory.specs.declared.Found.TheVariants as found
-use Rattle.directory.specs.Scan.{find_of, find_id_of, on_found}
+use Rattle.directory.specs.Scan.{find_of, find_id_of, on_found, found_at}
 use Rattle.table.specs.declared.ChainParts.{ChainParts}
 use Rattle.table.specs.Table.{chain_of, on_chain}
 use Rattle.reader.specs.declared.Reader.{Reader}
@@ -22,12 +21,12 @@ use Rattle.store.specs.Reading.{reader_answer, no_reader_answer, started_at, rea
 
 -- ---- the file found
 
-module _ (vol : List ℕ) (m : Medium) (st : Store) {f : Found} where
-  pub not_found : {e : Error} {r : ReaderAnswer} → f ≡ found.Refused e → r ≡ no_reader_answer m e → r ≡ started_at vol m st f
+module _ (vol : List ℕ) (m : Medium) (st : Store) {f : Result Found Error} where
+  pub not_found : {e : Error} {r : ReaderAnswer} → f ≡ Err e → r ≡ no_reader_answer m e → r ≡ started_at vol m st f
   unfolding on_found
   not_found h k = rw (k, h)
 
-  module _ {slot id : ℕ} (h : f ≡ found.At slot id) {y : Result ChainParts Error} (c : y ≡ chain_of vol m st slot) where
+  module _ {slot id : ℕ} (h : f ≡ found_at slot id) {y : Chained} (c : y ≡ chain_of vol m st slot) where
     pub no_chain_lem : {e : Error} {r : ReaderAnswer} → y ≡ Err e → r ≡ no_reader_answer m e → r ≡ started_at vol m st f
     unfolding on_found on_chain
     no_chain_lem e k = rw (k, h, ← c, e)
@@ -45,7 +44,7 @@ module _ (vol : List ℕ) (m : Medium) (st : Store) (name : List ℕ) {o : Resul
   unfolding reader_call on_done
   input_refused h k = rw (k, ← n, ← q, h)
 
-  pub named_started : {f : Found} → o ≡ Ok tt → f ≡ find_of vol m st name → r ≡ started_at vol m st f → reader_answer r ≡ reader_call vol m st name
+  pub named_started : {f : Result Found Error} → o ≡ Ok tt → f ≡ find_of vol m st name → r ≡ started_at vol m st f → reader_answer r ≡ reader_call vol m st name
   unfolding reader_call on_done
   named_started h g k = rw (k, ← n, ← q, h, g)
 
@@ -56,6 +55,6 @@ module _ (vol : List ℕ) (m : Medium) (st : Store) (id : ℕ) {o : Result Unit 
   unfolding reader_of_id_call on_done
   id_refused h k = rw (k, ← q, h)
 
-  pub id_started : {f : Found} → o ≡ Ok tt → f ≡ find_id_of vol m st id → r ≡ started_at vol m st f → reader_answer r ≡ reader_of_id_call vol m st id
+  pub id_started : {f : Result Found Error} → o ≡ Ok tt → f ≡ find_id_of vol m st id → r ≡ started_at vol m st f → reader_answer r ≡ reader_of_id_call vol m st id
   unfolding reader_of_id_call on_done
   id_started h g k = rw (k, ← q, h, g)

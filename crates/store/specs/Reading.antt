@@ -12,8 +12,7 @@ use Rattle.handles.specs.declared.Store.{Store}
 use Rattle.header.specs.declared.answers.Mounted.{Mounted}
 use Rattle.header.specs.Copies.{mount_of}
 use Rattle.directory.specs.declared.Found.{Found}
-use Rattle.directory.specs.declared.Found.TheVariants as found
-use Rattle.directory.specs.Scan.{find_of, find_id_of, on_found}
+use Rattle.directory.specs.Scan.{find_of, find_id_of, on_found, found_at}
 use Rattle.directory.specs.Rows.{RowsOut, rows_of}
 use Rattle.table.specs.Table.{Counted, count_of, chain_of, on_chain}
 use Rattle.table.specs.Free.{free_count_of, map_at}
@@ -65,9 +64,9 @@ free_count_call vol m st = record { answer = count_answer (on_done (asked_of vol
 -- ---- find: slot and id
 
 -- an answer as 01 has it
-abbrev pub found_answer : Found → Answer (ℕ × ℕ)
-found_answer (found.Refused e) = refused (number_of e)
-found_answer (found.At slot id) = ok (slot, id)
+abbrev pub found_answer : Result Found Error → Answer (ℕ × ℕ)
+found_answer (Err e) = refused (number_of e)
+found_answer (Ok x) = ok (x.slot, x.id)
 
 pub record FindCall : Type 0 where
   pub answer : Answer (ℕ × ℕ)
@@ -78,7 +77,7 @@ find_answer r = record { answer = found_answer r.found; medium = r.medium }
 
 unfoldable pub find_call : List ℕ → Medium → Store → List ℕ → FindCall
 find_call vol m st name =
-    record { answer = found_answer (on_done (asked_name vol st name) (find_of vol m st name) found.Refused); medium = m }
+    record { answer = found_answer (on_done (asked_name vol st name) (find_of vol m st name) Err); medium = m }
 
 -- ---- list: the number of rows; counts and rows are lent
 
@@ -129,7 +128,7 @@ abbrev pub no_reader_answer : Medium → Error → ReaderAnswer
 no_reader_answer m e = record { outcome = Err e; reader = no_reader; medium = m }
 
 -- the file found, with its chain
-abbrev pub started_at : List ℕ → Medium → Store → Found → ReaderAnswer
+abbrev pub started_at : List ℕ → Medium → Store → Result Found Error → ReaderAnswer
 started_at vol m st f =
     on_found f (no_reader_answer m)
     (λ slot id. on_chain (chain_of vol m st slot) (no_reader_answer m) (λ p. record { outcome = Ok tt; reader = start_of st slot id p; medium = m }))

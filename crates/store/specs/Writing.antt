@@ -5,7 +5,7 @@ use Rattle.le.specs.Part.{part}
 use Rattle.medium.specs.declared.Medium.{Medium}
 use Rattle.medium.specs.Refusal.{Answer, ok, refused, number_of, on_done}
 use Rattle.handles.specs.declared.Store.{Store}
-use Rattle.handles.specs.Handles.{is_open, open_id}
+use Rattle.handles.specs.Handles.{open_file}
 use Rattle.directory.specs.Scan.{find_of, on_found}
 use Rattle.plan.specs.declared.Committed.{Committed}
 use Rattle.plan.specs.Copy.{Kind, Step, formatted, deleted, deleted_oldest, Out, steps_of, refused_out}
@@ -79,4 +79,4 @@ oldest_told g =
 unfoldable pub oldest_call : List ℕ → Medium → Store → List ℕ → OldestCall
 oldest_call vol m st dir =
     oldest_told
-    (on_done (asked_dir vol st dir) (remove_oldest_of vol m st dir (is_open st.writer) (open_id st.writer)) (λ e. none_out (refused_out st vol m e)))
+    (on_done (asked_dir vol st dir) (remove_oldest_of vol m st dir (open_file st.writer)) (λ e. none_out (refused_out st vol m e)))

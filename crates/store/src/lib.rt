@@ -124,7 +124,7 @@ pub fn format(volume: &mut [u8], medium: Medium, size: u32, seed: u64) -> StoreA
 
 #[derive(Clone, Copy)]
 pub struct FindAnswer {
-    pub found: Found,
+    pub found: Result<Found, Error>,
     pub medium: Medium,
 }
 
@@ -135,7 +135,7 @@ pub fn find(volume: &[u8], medium: Medium, store: Store, name: &[u8]) -> FindAns
     let o = asked(volume, store, names::name_ok(name));
     if let Err(e) = o {
         return FindAnswer {
-            found: Found::Refused(e),
+            found: Err(e),
             medium,
         };
     }
@@ -224,13 +224,13 @@ fn no_reader(e: Error, medium: Medium) -> ReaderAnswer
 }
 
 // A reader of the file found, from its first record.
-fn started(volume: &[u8], medium: Medium, store: Store, f: Found) -> ReaderAnswer
+fn started(volume: &[u8], medium: Medium, store: Store, f: Result<Found, Error>) -> ReaderAnswer
     requires { (64 ≤ sectors_of volume.now) × (store.head.chunks ≤ 2048) }
     ensures { result ≡ started_at volume.now medium store f }
 {
     match f {
-        Found::Refused(e) => no_reader(e, medium),
-        Found::At { slot, id } => {
+        Err(e) => no_reader(e, medium),
+        Ok(Found { slot, id }) => {
             let c = table::chain(volume, medium, store, slot);
             match c {
                 Err(e) => no_reader(e, medium),
@@ -291,10 +291,9 @@ pub fn delete(volume: &mut [u8], medium: Medium, store: Store, name: &[u8]) -> S
     if let Err(e) = o {
         return as_given(e, store, medium);
     }
-    let f = directory::find(&volume[..], medium, store, name);
-    match f {
-        Found::Refused(e) => as_given(e, store, medium),
-        Found::At { slot, id } => committed(remove::remove(volume, medium, store, slot, id)),
+    match directory::find(&volume[..], medium, store, name) {
+        Err(e) => as_given(e, store, medium),
+        Ok(Found { slot, id }) => committed(remove::remove(volume, medium, store, slot, id)),
     }
 }
 
@@ -308,8 +307,6 @@ pub fn delete_oldest(volume: &mut [u8], medium: Medium, store: Store, dir: &[u8]
     if let Err(e) = o {
         return remove::none_gone(Err(e), medium, store);
     }
-    let writer = store.writer;
-    let keeping = handles::is_open(writer);
-    let keep = handles::open_id(writer);
-    remove::remove_oldest(volume, medium, store, dir, keeping, keep)
+    let spared = handles::open_file(store.writer);
+    remove::remove_oldest(volume, medium, store, dir, spared)
 }

@@ -22,7 +22,6 @@ use Rattle.table.specs.declared.LinkAt.{LinkAt}
 use Rattle.table.specs.declared.LinkAt.TheVariants as link
 use Rattle.table.specs.Link.{link_bytes, link_in, link_part, owned_by}
 use Rattle.table.proofs.Numbers.{Sound, Said, refused, past, free, linked, link_said, link_bytes_lem, link_zero}
-use Rattle.record.specs.declared.Judged.TheVariants.{Valid}
 use Rattle.record.specs.Record.{record_of, judge_of}
 use Rattle.record.proofs.RoundTrip.{Passes, judge_facts, judge_made, judge_carries, payload_made}
 use Rattle.layout.specs.Views.{Entry, vacant, named, stored, entry_view, link_view, rec_view}

@@ -6,6 +6,8 @@ use mathlib.Core.Bool.{Bool, ◌&&◌}
 use mathlib.Core.List.{List}
 use lib.Dec.{eqb, leb}
 use lib.ListN.{length}
+use Rattle.std.specs.Prelude.{Result, Ok, Err}
+use Rattle.medium.specs.declared.Error.{Error}
 use Rattle.le.specs.Choice.{pick}
 use Rattle.medium.specs.declared.Error.TheVariants.{Range}
 use Rattle.medium.specs.declared.Medium.{Medium}
@@ -13,13 +15,12 @@ use Rattle.medium.specs.Refusal.{on_done}
 use Rattle.medium.specs.Sector.{sectors_of, read_of}
 use Rattle.handles.specs.declared.Store.{Store}
 use Rattle.handles.specs.Body.{check_of, due_of}
-use Rattle.handles.specs.Handles.{no_store, is_open, open_id}
+use Rattle.handles.specs.Handles.{no_store, open_file}
 use Rattle.header.specs.declared.answers.Copies.{Copies}
 use Rattle.header.specs.Copies.{headers_of}
 use Rattle.directory.specs.declared.Found.{Found}
-use Rattle.directory.specs.declared.Found.TheVariants as found
 use Rattle.directory.specs.Entry.{slot_at}
-use Rattle.directory.specs.Scan.{find_of, on_found}
+use Rattle.directory.specs.Scan.{find_of, on_found, found_at}
 use Rattle.plan.specs.Copy.{Kind, deleted, formatted, steps_of, refused_out}
 use Rattle.format.specs.Format.{chunks_of, copy_for, newest_of, id_for, format_head, format_plan, format_over, format_of, made_of}
 use Rattle.remove.specs.Remove.{remove_of}
@@ -82,10 +83,10 @@ module _ (d : ℕ) (vol : List ℕ) where
     unfolding find_of slot_at due_of check_of read_of
     find_same name m = refl
 
-    found_carries : (f : Found) → Carries d alone copied (λ m. on_found f (refused_out st vol m) (remove_of vol m st))
+    found_carries : (f : Result Found Error) → Carries d alone copied (λ m. on_found f (refused_out st vol m) (remove_of vol m st))
     unfolding on_found
-    found_carries (found.Refused e) = still (λ m. refl) (λ m. refl)
-    found_carries (found.At slot id) = remove_carries d vol st slot id
+    found_carries (Err e) = still (λ m. refl) (λ m. refl)
+    found_carries (Ok x) = remove_carries d vol st x.slot x.id
 
     delete_carries : (name : List ℕ) → Carries d alone stored (λ m. delete_call vol m st name)
     unfolding delete_call
@@ -102,7 +103,7 @@ module _ (d : ℕ) (vol : List ℕ) where
     unfolding oldest_call oldest_told went_of
     call_carries dir =
         both oldest_told
-        (unless (asked_dir vol st dir) (oldest_carries d vol st dir (is_open st.writer) (open_id st.writer)) (λ e. still (λ m. refl) (λ m. refl)))
+        (unless (asked_dir vol st dir) (oldest_carries d vol st dir (open_file st.writer)) (λ e. still (λ m. refl) (λ m. refl)))
         (still (λ g. refl) (λ g. refl))
 
     -- ---- create, append, sync

@@ -21,7 +21,7 @@ use Rattle.medium.specs.Frame.{Kept}
 use Rattle.medium.proofs.Laws.{on_done_keeps}
 use Rattle.medium.proofs.Frame.{kept_sectors}
 use Rattle.handles.specs.declared.Store.{Store}
-use Rattle.handles.specs.Handles.{is_open, open_id, table_of, base_of}
+use Rattle.handles.specs.Handles.{table_of, base_of, open_file}
 use Rattle.handles.proofs.Laws.{Held, store_facts, base_most}
 use Rattle.table.specs.Free.{free_of}
 use Rattle.table.proofs.Decides.{on_pick_keeps}
@@ -107,21 +107,21 @@ module _ {rolls : Bool} {c : ℕ} (r : Rates rolls c) where
   module _ (vol : List ℕ) (m : Medium) (st : Store) (a : Appender) (partial : Bool) (records : ℕ) (good : Good vol st) (h : st.head.chunks ≡ c)
       (mine : a.rolls ≡ rolls) (e : ℕ) (owes : Owes e vol st) where
     abbrev g : GoneOut
-    g = remove_oldest_of vol m st (dir_bytes a.dir) (is_open st.writer) (open_id st.writer)
+    g = remove_oldest_of vol m st (dir_bytes a.dir) (open_file st.writer)
 
     rolled_extends : rolls ≡ true → Extends e m (rolled_out vol m st a partial records)
     unfolding rolled_out
     rolled_extends t =
-        let k = oldest_stands vol m st (dir_bytes a.dir) (is_open st.writer) (open_id st.writer) good in
+        let k = oldest_stands vol m st (dir_bytes a.dir) (open_file st.writer) good in
         let h' : g.ans.store.head.chunks ≡ c = k.chunks ∙ h in
         let w = r.two t in
         let first : Most (e + (r.own + table_of c + 2)) m g.ans.medium =
-        oldest_most vol m st _ (λ slot. commit_owes (Remove slot) [] vol m st (remove_plain slot) (omega (arith, w.0)) h e owes) (dir_bytes a.dir) (is_open st.writer) (open_id st.writer) in
+        oldest_most vol m st _ (λ slot. commit_owes (Remove slot) [] vol m st (remove_plain slot) (omega (arith, w.0)) h e owes) (dir_bytes a.dir) (open_file st.writer) in
         let stop : (x : Error) → Extends e m (stopped g.vol g.ans.medium g.ans.store a x) = λ x. (omega (arith, first, w.1), clash refl) in
         on_done_keeps (Extends e m) g.ans.outcome _ _
         (λ _. pick_keeps_by (Extends e m) g.ans.any _ _
         (λ y.
-        let b = oldest_beside vol m st good (dir_bytes a.dir) (is_open st.writer) (open_id st.writer) y in
+        let b = oldest_beside vol m st good (dir_bytes a.dir) (open_file st.writer) y in
         on_pick_keeps (Extends e m) (free_of g.vol g.ans.medium g.ans.store) _ _ _ stop (stop Corrupt)
         (λ next _.
         let second = link_few g.vol g.ans.medium g.ans.store a partial records k.good h' next b in

@@ -14,7 +14,7 @@ use Rattle.medium.specs.declared.Medium.{Medium}
 use Rattle.medium.specs.Sector.{sectors_of}
 use Rattle.medium.proofs.Laws.{on_done_keeps}
 use Rattle.handles.specs.declared.Store.{Store}
-use Rattle.handles.specs.Handles.{is_open, open_id}
+use Rattle.handles.specs.Handles.{open_file}
 use Rattle.header.specs.Copies.{headers_of}
 use Rattle.directory.specs.Scan.{find_of}
 use Rattle.directory.proofs.Decides.{on_found_keeps}
@@ -75,7 +75,7 @@ module _ (vol : List ℕ) (m : Medium) (st : Store) where
   unfolding oldest_call oldest_told
   oldest_writes dir =
       on_done_keeps (λ (g : GoneOut). Most (commit_most chunks) m g.ans.medium) (asked_dir vol st dir) _ _
-      (λ _. oldest_most vol m st (commit_most chunks) each dir (is_open st.writer) (open_id st.writer))
+      (λ _. oldest_most vol m st (commit_most chunks) each dir (open_file st.writer))
       (λ e _. omega arith)
 
   -- ---- create

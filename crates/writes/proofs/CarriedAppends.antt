@@ -5,6 +5,8 @@ use mathlib.Core.Path.{refl}
 use mathlib.Core.Bool.{Bool, true, false}
 use mathlib.Core.List.{List, [], ◌∷◌}
 use lib.Dec.{eqb, leb, ltb}
+use Rattle.std.specs.Prelude.{None, Result, Ok, Err}
+use Rattle.directory.specs.declared.Seen.{Seen}
 use Rattle.le.specs.Choice.{pick}
 use Rattle.le.specs.Part.{part}
 use Rattle.medium.specs.declared.Error.{Error}
@@ -14,11 +16,9 @@ use Rattle.medium.specs.Refusal.{on_done}
 use Rattle.medium.specs.Sector.{read_of}
 use Rattle.handles.specs.declared.Store.{Store}
 use Rattle.handles.specs.Body.{check_of, due_of}
-use Rattle.handles.specs.Handles.{is_open, open_id}
-use Rattle.directory.specs.declared.Looked.{Looked}
-use Rattle.directory.specs.declared.Looked.TheVariants as looked
+use Rattle.handles.specs.Handles.{open_file}
 use Rattle.directory.specs.Entry.{slot_at}
-use Rattle.directory.specs.Scan.{look_of, on_looked}
+use Rattle.directory.specs.Scan.{look_of, on_looked, on_free}
 use Rattle.table.specs.Link.{link_at}
 use Rattle.table.specs.Table.{on_pick, walk_free_of}
 use Rattle.table.specs.Free.{checked_of, free_of}
@@ -108,7 +108,7 @@ module _ {d : ℕ} where
     unfolding rolled_out
     rolled_carries =
         freed_carries a (λ v n s. on_pick (free_of v n s) (stopped v n s a) (stopped v n s a Corrupt) (link_out v n s a partial records))
-        (oldest_carries d vol st (dir_bytes a.dir) (is_open st.writer) (open_id st.writer))
+        (oldest_carries d vol st (dir_bytes a.dir) (open_file st.writer))
         (λ v s. free_carries v s (λ e. still (λ m. refl) (λ m. refl)) (still (λ m. refl) (λ m. refl)) (link_carries v s a partial records))
 
     extend_carries : Carries d alone handed (λ m. extend_of vol m st a partial records)
@@ -180,23 +180,29 @@ module _ {d : ℕ} where
     module _ (next : Next) (on : (v : List ℕ) (s : Store) → Carries d alone handed (λ m. next v m s)) (vol : List ℕ) (st : Store) where
       over_carries : Carries d alone handed (λ m. over_out rollover next vol m st)
       unfolding over_out
-      over_carries = either rollover.rolls (freed_carries no_appender next (oldest_carries d vol st (dir_bytes rollover.dir) false 0) on) (still (λ m. refl) (λ m. refl))
+      over_carries = either rollover.rolls (freed_carries no_appender next (oldest_carries d vol st (dir_bytes rollover.dir) None) on) (still (λ m. refl) (λ m. refl))
 
       -- what a round does by what it saw
-      abbrev seen_out : Looked → Medium → AppOut
+      abbrev seen_out : Result Seen Error → Medium → AppOut
       seen_out x m =
           on_looked x (refused_at vol m st)
           (λ s. pick s.exists (refused_at vol m st Exists)
-          (pick s.free
-          (on_pick (free_of vol m st) (refused_at vol m st) (over_out rollover next vol m st) (make_out name rollover vol m st s.slot))
-          (over_out rollover next vol m st)))
+          (on_free s.free (over_out rollover next vol m st)
+          (λ slot. on_pick (free_of vol m st) (refused_at vol m st) (over_out rollover next vol m st) (make_out name rollover vol m st slot))))
 
-      looked_carries : (x : Looked) → Carries d alone handed (seen_out x)
+      slot_carries : (o : Option ℕ)
+          → Carries d alone handed (λ m. on_free o (over_out rollover next vol m st)
+          (λ slot. on_pick (free_of vol m st) (refused_at vol m st) (over_out rollover next vol m st) (make_out name rollover vol m st slot)))
+      unfolding on_free
+      slot_carries None = over_carries
+      slot_carries (Some slot) = free_carries vol st (λ e. still (λ m. refl) (λ m. refl)) over_carries (make_carries vol st slot)
+
+      looked_carries : (x : Result Seen Error) → Carries d alone handed (seen_out x)
       unfolding on_looked
-      looked_carries (looked.Refused e) = still (λ m. refl) (λ m. refl)
-      looked_carries (looked.Done s) =
+      looked_carries (Err e) = still (λ m. refl) (λ m. refl)
+      looked_carries (Ok s) =
           either s.exists (still (λ m. refl) (λ m. refl))
-          (either s.free (free_carries vol st (λ e. still (λ m. refl) (λ m. refl)) over_carries (make_carries vol st s.slot)) over_carries)
+          (slot_carries s.free)
 
       round_carries : Carries d alone handed (λ m. round_out name rollover next vol m st)
       unfolding round_out look_of slot_at due_of check_of read_of

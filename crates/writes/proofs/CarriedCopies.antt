@@ -1,6 +1,6 @@
 -- Each part of a call that writes a copy anew carries more writes through: one write, the body, the copy, a commit and a removal. Of the medium record
 -- they read which sector is unreadable, and writes left only to spend one. Assumes nothing.
-use Rattle.std.specs.Prelude.{Err, Ok}
+use Rattle.std.specs.Prelude.{Err, Ok, Option, None, Some, Result}
 use Prim.Native.Nat.{ℕ, zero, suc, ◌+◌, ◌-◌, ◌^◌, ◌≤◌}
 use mathlib.Core.Path.{◌≡◌, refl, ap}
 use mathlib.Core.Bool.{Bool, true, false}
@@ -8,6 +8,8 @@ use mathlib.Core.List.{List, []}
 use native.Mathlib.Omega.{arith}
 use borrow.Author.Tests.{eqb-true, eqb-false}
 use lib.Dec.{eqb}
+use Rattle.medium.specs.declared.Error.{Error}
+use Rattle.directory.specs.declared.Old.{Old}
 use Rattle.le.specs.Choice.{pick}
 use Rattle.le.specs.Part.{part}
 use Rattle.medium.specs.declared.Error.TheVariants.{Media, Spent, Stale}
@@ -23,8 +25,6 @@ use Rattle.handles.specs.Body.{check_of, due_of}
 use Rattle.handles.specs.Handles.{body_of, base_of}
 use Rattle.header.specs.Copies.{headers_of, current_of}
 use Rattle.header.specs.Header.{encode_of}
-use Rattle.directory.specs.declared.OldestFile.{OldestFile}
-use Rattle.directory.specs.declared.OldestFile.TheVariants as oldest
 use Rattle.directory.specs.Entry.{entry_at, slot_at}
 use Rattle.directory.specs.Scan.{oldest_of}
 use Rattle.plan.specs.declared.Edit.{Edit}
@@ -211,19 +211,18 @@ module _ (d : ℕ) where
         (λ e. none_out o))
         (λ o. refl) (λ t. unless t (still (λ o. refl) (λ o. refl)) (λ e. still (λ o. refl) (λ o. refl)))
 
-    old_carries : (f : OldestFile) → Carries d alone gone (λ m. oldest_gone vol m st f)
+    old_carries : (f : Result (Option Old) Error) → Carries d alone gone (λ m. oldest_gone vol m st f)
     unfolding oldest_gone
-    old_carries (oldest.Refused e) = still (λ m. refl) (λ m. refl)
-    old_carries (oldest.Done old) =
-        either old.any
-        (both (gone_of (part 0 40 (entry_at vol st old.slot)) old.len) (remove_carries old.slot old.id) (gone_carries (part 0 40 (entry_at vol st old.slot)) old.len))
-        (still (λ m. refl) (λ m. refl))
+    old_carries (Err e) = still (λ m. refl) (λ m. refl)
+    old_carries (Ok None) = still (λ m. refl) (λ m. refl)
+    old_carries (Ok (Some old)) =
+        both (gone_of (part 0 40 (entry_at vol st old.slot)) old.len) (remove_carries old.slot old.id) (gone_carries (part 0 40 (entry_at vol st old.slot)) old.len)
 
-    oldest_same : (dir : List ℕ) (keeping : Bool) (keep : ℕ) (m : Medium) → oldest_of vol (more d m) st dir keeping keep ≡ oldest_of vol m st dir keeping keep
+    oldest_same : (dir : List ℕ) (spared : Option ℕ) (m : Medium) → oldest_of vol (more d m) st dir spared ≡ oldest_of vol m st dir spared
     unfolding oldest_of slot_at due_of check_of read_of
-    oldest_same dir keeping keep m = refl
+    oldest_same dir spared m = refl
 
-    pub oldest_carries : (dir : List ℕ) (keeping : Bool) (keep : ℕ) → Carries d alone gone (λ m. remove_oldest_of vol m st dir keeping keep)
+    pub oldest_carries : (dir : List ℕ) (spared : Option ℕ) → Carries d alone gone (λ m. remove_oldest_of vol m st dir spared)
     unfolding remove_oldest_of
-    oldest_carries dir keeping keep =
-        given (λ m. oldest_of vol m st dir keeping keep) (λ f m. oldest_gone vol m st f) (oldest_same dir keeping keep) old_carries
+    oldest_carries dir spared =
+        given (λ m. oldest_of vol m st dir spared) (λ f m. oldest_gone vol m st f) (oldest_same dir spared) old_carries

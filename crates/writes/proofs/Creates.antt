@@ -5,6 +5,7 @@ use mathlib.Core.Bool.{Bool, true, false, true≢false}
 use mathlib.Core.List.{List, []}
 use native.Mathlib.Omega.{arith}
 use lib.Dec.{eqb}
+use Rattle.std.specs.Prelude.{None}
 use Rattle.le.specs.Choice.{pick}
 use Rattle.le.proofs.Choices.{pick_keeps, pick_keeps_by}
 use Rattle.medium.specs.declared.Error.{Error}
@@ -14,7 +15,7 @@ use Rattle.medium.proofs.Laws.{on_done_keeps}
 use Rattle.handles.specs.declared.Store.{Store}
 use Rattle.handles.specs.Handles.{table_of}
 use Rattle.directory.specs.Scan.{look_of}
-use Rattle.directory.proofs.Decides.{on_looked_keeps}
+use Rattle.directory.proofs.Decides.{on_free_keeps, on_looked_keeps}
 use Rattle.table.specs.Free.{free_of}
 use Rattle.table.proofs.Decides.{on_pick_keeps}
 use Rattle.plan.specs.declared.Edit.TheVariants.{Create, Remove}
@@ -34,7 +35,7 @@ use Rattle.writes.proofs.Removals.{oldest_most, oldest_beside}
 module _ (name : List ℕ) (rollover : Rollover) where
   -- the oldest file of the rollover's directory goes
   abbrev gone : List ℕ → Medium → Store → GoneOut
-  gone vol m st = remove_oldest_of vol m st (dir_bytes rollover.dir) false 0
+  gone vol m st = remove_oldest_of vol m st (dir_bytes rollover.dir) None
 
   -- a round whose commit, of either kind, makes at most n, and what is next at most k where a file went
   module _ (n k : ℕ) (next : Next) (vol : List ℕ) (m : Medium) (st : Store)
@@ -56,7 +57,7 @@ module _ (name : List ℕ) (rollover : Rollover) where
       over_costs : Costs (over_out rollover next vol m st)
       unfolding over_out
       over_costs =
-          let l = oldest_most vol m st n each (dir_bytes rollover.dir) false 0 in
+          let l = oldest_most vol m st n each (dir_bytes rollover.dir) None in
           let stop : (e : Error) → Costs (stopped g.vol g.ans.medium g.ans.store no_appender e) = λ e. omega (arith, l) in
           pick_keeps_by Costs rollover.rolls _ _
           (λ t. on_done_keeps Costs g.ans.outcome _ _
@@ -70,7 +71,7 @@ module _ (name : List ℕ) (rollover : Rollover) where
           let none : (e : Error) → Costs (refused_at vol m st e) = λ e. omega arith in
           on_looked_keeps Costs (look_of vol m st name) _ _ none
           (λ s _. pick_keeps Costs s.exists _ _ (none Exists)
-          (pick_keeps Costs s.free _ _ (on_pick_keeps Costs (free_of vol m st) _ _ _ none over_costs (λ chunk _. make_costs s.slot chunk)) over_costs))
+          (on_free_keeps Costs s.free _ _ (λ _. over_costs) (λ slot _. on_pick_keeps Costs (free_of vol m st) _ _ _ none over_costs (λ chunk _. make_costs slot chunk))))
 
   -- the second round, after a removal: the last
   later_costs : (vol : List ℕ) (m : Medium) (st : Store) → Beside 1 vol st → Most (2 + table_of st.head.chunks + 2 + 0) m (create_from 1 name rollover vol m st).ans.medium
@@ -91,8 +92,8 @@ module _ (name : List ℕ) (rollover : Rollover) where
     after_gone_lem : o.ans.any ≡ true
         → Most (2 + table_of c + 2) o.ans.medium (create_from 1 name rollover o.vol o.ans.medium o.ans.store).ans.medium
     after_gone_lem y =
-        let k = oldest_stands vol m st (dir_bytes rollover.dir) false 0 good in
-        let x = later_costs o.vol o.ans.medium o.ans.store (oldest_beside vol m st good (dir_bytes rollover.dir) false 0 y) in
+        let k = oldest_stands vol m st (dir_bytes rollover.dir) None good in
+        let x = later_costs o.vol o.ans.medium o.ans.store (oldest_beside vol m st good (dir_bytes rollover.dir) None y) in
         omega (arith, x, k.chunks)
 
     pub create_most_lem : Most (create_most rollover.rolls c) m (create_of name rollover vol m st).ans.medium

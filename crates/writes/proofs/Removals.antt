@@ -1,17 +1,17 @@
 -- A removal makes the writes of its commit, and leaves beside the store's copy the one that was current. Assumes nothing.
-use Rattle.std.specs.Prelude.{Ok}
+use Rattle.std.specs.Prelude.{Ok, Option, None, Some, Result, Err}
 use Prim.Native.Nat.{ℕ}
 use mathlib.Core.Path.{◌≡◌}
 use mathlib.Core.Bool.{Bool, true, false≢true}
 use mathlib.Core.List.{List, []}
 use native.Mathlib.Omega.{arith}
 use lib.Dec.{lit≤}
+use Rattle.medium.specs.declared.Error.{Error}
+use Rattle.directory.specs.declared.Old.{Old}
 use Rattle.le.proofs.Choices.{pick_keeps}
 use Rattle.medium.specs.declared.Medium.{Medium}
 use Rattle.medium.proofs.Laws.{on_done_keeps}
 use Rattle.handles.specs.declared.Store.{Store}
-use Rattle.directory.specs.declared.OldestFile.{OldestFile}
-use Rattle.directory.specs.declared.OldestFile.TheVariants as oldest
 use Rattle.directory.specs.Scan.{oldest_of}
 use Rattle.plan.specs.declared.Edit.TheVariants.{Remove}
 use Rattle.plan.specs.Copy.{Out}
@@ -34,15 +34,15 @@ module _ (vol : List ℕ) (m : Medium) (st : Store) where
     unfolding gone_of
     gone_most name len o h = on_done_keeps (λ (g : GoneOut). Most n m g.ans.medium) o.ans.outcome _ _ (λ _. h) (λ e _. h)
 
-    found_most : (f : OldestFile) → Most n m (oldest_gone vol m st f).ans.medium
+    found_most : (f : Result (Option Old) Error) → Most n m (oldest_gone vol m st f).ans.medium
     unfolding oldest_gone
-    found_most (oldest.Refused e) = omega arith
-    found_most (oldest.Done old) =
-        pick_keeps (λ (g : GoneOut). Most n m g.ans.medium) old.any _ _ (gone_most _ old.len _ (remove_most old.slot old.id)) (omega arith)
+    found_most (Err e) = omega arith
+    found_most (Ok None) = omega arith
+    found_most (Ok (Some old)) = gone_most _ old.len _ (remove_most old.slot old.id)
 
-    pub oldest_most : (dir : List ℕ) (keeping : Bool) (keep : ℕ) → Most n m (remove_oldest_of vol m st dir keeping keep).ans.medium
+    pub oldest_most : (dir : List ℕ) (spared : Option ℕ) → Most n m (remove_oldest_of vol m st dir spared).ans.medium
     unfolding remove_oldest_of
-    oldest_most dir keeping keep = found_most (oldest_of vol m st dir keeping keep)
+    oldest_most dir spared = found_most (oldest_of vol m st dir spared)
 
   -- where a file went
   module _ (good : Good vol st) where
@@ -65,12 +65,12 @@ module _ (vol : List ℕ) (m : Medium) (st : Store) where
     unfolding gone_of
     gone_beside name len o h = on_done_keeps Went o.ans.outcome _ _ (λ d _. h d) (λ e _ y. absurd (false≢true y))
 
-    found_beside : (f : OldestFile) → Went (oldest_gone vol m st f)
+    found_beside : (f : Result (Option Old) Error) → Went (oldest_gone vol m st f)
     unfolding oldest_gone
-    found_beside (oldest.Refused e) = λ y. absurd (false≢true y)
-    found_beside (oldest.Done old) =
-        pick_keeps Went old.any _ _ (gone_beside _ old.len _ (remove_beside old.slot old.id)) (λ y. absurd (false≢true y))
+    found_beside (Err e) = λ y. absurd (false≢true y)
+    found_beside (Ok None) = λ y. absurd (false≢true y)
+    found_beside (Ok (Some old)) = gone_beside _ old.len _ (remove_beside old.slot old.id)
 
-    pub oldest_beside : (dir : List ℕ) (keeping : Bool) (keep : ℕ) → Went (remove_oldest_of vol m st dir keeping keep)
+    pub oldest_beside : (dir : List ℕ) (spared : Option ℕ) → Went (remove_oldest_of vol m st dir spared)
     unfolding remove_oldest_of
-    oldest_beside dir keeping keep = found_beside (oldest_of vol m st dir keeping keep)
+    oldest_beside dir spared = found_beside (oldest_of vol m st dir spared)

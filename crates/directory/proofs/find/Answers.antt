@@ -1,36 +1,8 @@
-use borrow.Author.Rules.{rules}
-use mathlib.Core.Path.{refl}
-use Rattle.le.proofs.Choices.{pick_true, pick_false}
-use Rattle.le.proofs.Turns.{told}
-use Rattle.walk.proofs.Laws.{at_start, at_next, at_stop, at_end}
+use Rattle.std.proofs.Common.{rules}
+use Rattle.runs.specs.Run.{same_bytes}
 use Rattle.directory.specs.Scan.{find_of}
-use Rattle.directory.proofs.Entries.{found_file}
 use Rattle.directory.proofs.find.Goals as goal
 
-pub loop-next-init : goal.loop-next-init
-unfolding find_of
-loop-next-init c = at_start _ _ _ _ _
-
-pub returns-in-Refused : goal.returns-in-Refused
-returns-in-Refused c =
-    at_stop c.loop-next.invariant c.loop-next-test.true c.slot_at-s.ensures c.in-Refused.is refl
-
-pub loop-next-preserved-in-Free : goal.loop-next-preserved-in-Free
-loop-next-preserved-in-Free c =
-    at_next c.loop-next.invariant c.loop-next-test.true c.slot_at-s.ensures c.in-Free.is refl
-
-pub named-requires : goal.named-requires
-named-requires c = (search rules, search rules, (found_file _ _ _ _ c.slot_at-s.ensures c.in-File.is).short)
-
-pub returns-then-named : goal.returns-then-named
-returns-then-named c =
-    at_stop c.loop-next.invariant c.loop-next-test.true c.slot_at-s.ensures c.in-File.is
-    (pick_true _ _ (told c.named.ensures c.if-named.true))
-
-pub loop-next-preserved : goal.loop-next-preserved
-loop-next-preserved c =
-    at_next c.loop-next.invariant c.loop-next-test.true c.slot_at-s.ensures c.in-File.is
-    (pick_false _ _ (told c.named.ensures c.if-named.false))
-
 pub returns : goal.returns
-returns c = at_end c.loop-next.invariant c.loop-next-test.false
+unfolding find_of
+returns c = c.first.ensures (λ _ found. same_bytes c.args.name.now found) (λ id found b p. search rules)

@@ -10,8 +10,8 @@ returns-in-Err c =
     input_refused a.volume.now a.medium a.store a.name.now c.name_ok.ensures c.asked-o.ensures
     c.in-Err.is c.as_given.ensures
 
-pub find-f-requires : goal.find-f-requires
-find-f-requires c =
+pub find-requires : goal.find-requires
+find-requires c =
     let args = c.args in
     (asked_done args.volume.now args.store _ c.asked-o.ensures c.in_default.is).held.enough
 
@@ -19,17 +19,17 @@ pub remove-requires : goal.remove-requires
 remove-requires c =
     let a = c.args in (
       (asked_done a.volume.now a.store _ c.asked-o.ensures c.in_default.is).ok,
-      (find_name a.volume.now a.medium a.store a.name.now (told c.find-f.ensures c.in-At.is)).below,
+      (find_name a.volume.now a.medium a.store a.name.now (told c.find.ensures c.in-Ok.is)).below,
     )
 
-pub returns-in-Refused : goal.returns-in-Refused
-returns-in-Refused c =
+pub returns-in-Err-find : goal.returns-in-Err-find
+returns-in-Err-find c =
     let a = c.args in
     not_found a.volume.now a.medium a.store a.name.now c.name_ok.ensures c.asked-o.ensures
-    c.in_default.is c.find-f.ensures c.in-Refused.is c.as_given-in-Refused.ensures
+    c.in_default.is c.find.ensures c.in-Err-find.is c.as_given-in-Err-find.ensures
 
-pub returns-in-At : goal.returns-in-At
-returns-in-At c =
+pub returns-in-Ok : goal.returns-in-Ok
+returns-in-Ok c =
     let a = c.args in
     removed a.volume.now a.medium a.store a.name.now c.name_ok.ensures c.asked-o.ensures
-    c.in_default.is c.find-f.ensures c.in-At.is c.remove.ensures c.committed.ensures
+    c.in_default.is c.find.ensures c.in-Ok.is c.remove.ensures c.committed.ensures

@@ -17,5 +17,5 @@ pub returns : goal.returns
 returns c =
     let a = c.args in
     oldest_told_lem a.volume.now a.medium a.store a.dir.now c.dir_ok.ensures c.asked-o.ensures
-    c.in_default.is c.is_open-keeping.ensures c.open_id-keep.ensures
+    c.in_default.is c.open_file-spared.ensures
     c.remove_oldest.ensures

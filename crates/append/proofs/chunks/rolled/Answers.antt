@@ -24,26 +24,26 @@ pub returns-in-Err : goal.returns-in-Err
 returns-in-Err c =
     let a = c.args in
     made_of c.stopped.ensures (rolled_refused a.volume.now a.medium a.store a.appender a.partial a.records (dir_slice a.appender.dir)
-    c.is_open-keeping.ensures c.open_id-keep.ensures c.remove_oldest-g.ensures c.in-Err.is)
+    c.open_file-spared.ensures c.remove_oldest-g.ensures c.in-Err.is)
 
 pub returns-then-not-g : goal.returns-then-not-g
 returns-then-not-g c =
     let a = c.args in
     made_of c.stopped-then-not-g.ensures (rolled_none a.volume.now a.medium a.store a.appender a.partial a.records (dir_slice a.appender.dir)
-    c.is_open-keeping.ensures c.open_id-keep.ensures c.remove_oldest-g.ensures c.in_default.is
+    c.open_file-spared.ensures c.remove_oldest-g.ensures c.in_default.is
     (not-true _ c.if-not-g.true))
 
 pub free_chunk-p-requires : goal.free_chunk-p-requires
 free_chunk-p-requires c =
     let count : length c.args.store.head.crcs ≡ 24 = search (rules, c.well_formed.1.1.0.0) in
-    let after : After c.remove_oldest-g.new.volume c.remove_oldest-g.result.store c.args.appender = rolled_after c.args.volume.now c.args.medium c.args.store c.args.appender c.requires.0 count c.requires.1 _ _ _ c.remove_oldest-g.ensures in
+    let after : After c.remove_oldest-g.new.volume c.remove_oldest-g.result.store c.args.appender = rolled_after c.args.volume.now c.args.medium c.args.store c.args.appender c.requires.0 count c.requires.1 _ _ c.remove_oldest-g.ensures in
     let h = store_facts _ _ after.ok in
     (h.enough, h.head.chunks_most, h.head.cursor)
 
 pub link-requires : goal.link-requires
 link-requires c =
     let count : length c.args.store.head.crcs ≡ 24 = search (rules, c.well_formed.1.1.0.0) in
-    let after : After c.remove_oldest-g.new.volume c.remove_oldest-g.result.store c.args.appender = rolled_after c.args.volume.now c.args.medium c.args.store c.args.appender c.requires.0 count c.requires.1 _ _ _ c.remove_oldest-g.ensures in
+    let after : After c.remove_oldest-g.new.volume c.remove_oldest-g.result.store c.args.appender = rolled_after c.args.volume.now c.args.medium c.args.store c.args.appender c.requires.0 count c.requires.1 _ _ c.remove_oldest-g.ensures in
     (after.ok, after.fit, c.requires.2, c.requires.3, free_range _ _ _ (store_facts _ _ after.ok).map (told c.free_chunk-p.ensures (search rules)))
 
 pub shape_of-volume-in-Err-p : goal.shape_of-volume-in-Err-p
@@ -53,7 +53,7 @@ pub returns-in-Err-p : goal.returns-in-Err-p
 returns-in-Err-p c =
     let a = c.args in
     made_of c.stopped-in-Err-p.ensures (rolled_unread a.volume.now a.medium a.store a.appender a.partial a.records (dir_slice a.appender.dir)
-    c.is_open-keeping.ensures c.open_id-keep.ensures c.remove_oldest-g.ensures c.in_default.is
+    c.open_file-spared.ensures c.remove_oldest-g.ensures c.in_default.is
     (not-false _ c.if-not-g.false) c.free_chunk-p.ensures c.in-Err-p.is)
 
 pub shape_of-volume-in-Ok-None : goal.shape_of-volume-in-Ok-None
@@ -63,7 +63,7 @@ pub returns-in-Ok-None : goal.returns-in-Ok-None
 returns-in-Ok-None c =
     let a = c.args in
     made_of c.stopped-in-Ok-None.ensures (rolled_corrupt a.volume.now a.medium a.store a.appender a.partial a.records
-    (dir_slice a.appender.dir) c.is_open-keeping.ensures c.open_id-keep.ensures c.remove_oldest-g.ensures
+    (dir_slice a.appender.dir) c.open_file-spared.ensures c.remove_oldest-g.ensures
     c.in_default.is (not-false _ c.if-not-g.false) c.free_chunk-p.ensures
     (search rules))
 
@@ -74,5 +74,5 @@ pub returns-in-Ok-Some : goal.returns-in-Ok-Some
 returns-in-Ok-Some c =
     let a = c.args in
     rolled_linked a.volume.now a.medium a.store a.appender a.partial a.records (dir_slice a.appender.dir)
-    c.is_open-keeping.ensures c.open_id-keep.ensures c.remove_oldest-g.ensures c.in_default.is
+    c.open_file-spared.ensures c.remove_oldest-g.ensures c.in_default.is
     (not-false _ c.if-not-g.false) c.free_chunk-p.ensures (search rules) c.link.ensures

@@ -11,8 +11,8 @@ overflow_sub-position c =
     (last_placed a.rollover a.volume.now a.medium a.store a.slot a.id c.chain-c.ensures c.in-Whole.is
     c.requires).0
 
-pub count_records-n-requires : goal.count_records-n-requires
-count_records-n-requires c =
+pub count_records-requires : goal.count_records-requires
+count_records-requires c =
     let a = c.args in
     let l = last_placed a.rollover a.volume.now a.medium a.store a.slot a.id c.chain-c.ensures c.in-Whole.is
     c.requires in
@@ -24,14 +24,14 @@ returns-in-Refused c =
     no_chain_lem a.rollover a.volume.now a.medium a.store a.slot a.id c.chain-c.ensures c.in-Refused.is
     c.refused.ensures
 
-pub returns-in-Refused-n : goal.returns-in-Refused-n
-returns-in-Refused-n c =
+pub returns-in-Err : goal.returns-in-Err
+returns-in-Err c =
     let a = c.args in
     no_count a.rollover a.volume.now a.medium a.store a.slot a.id c.chain-c.ensures c.in-Whole.is
-    c.count_records-n.ensures c.in-Refused-n.is c.refused-in-Refused-n.ensures
+    c.count_records.ensures c.in-Err.is c.refused-in-Err.ensures
 
-pub returns-in-Are : goal.returns-in-Are
-returns-in-Are c =
+pub returns-in-Ok : goal.returns-in-Ok
+returns-in-Ok c =
     let a = c.args in
     file_opened a.rollover a.volume.now a.medium a.store a.slot a.id c.chain-c.ensures c.in-Whole.is
-    c.count_records-n.ensures c.in-Are.is c.tail_for-tail.ensures c.opened.ensures
+    c.count_records.ensures c.in-Ok.is c.tail_for-tail.ensures c.opened.ensures

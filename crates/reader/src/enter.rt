@@ -3,7 +3,7 @@ ghost use Rattle.std.specs.Prelude.{◌≡◌, true, ◌≤◌};
 ghost use Rattle.medium.specs.Sector.{sectors_of};
 ghost use Rattle.handles.specs.Handles.{store_ok};
 ghost use Rattle.reader.specs.Reader.{moved_to, inside_of, enter_of, seek_of};
-ghost use Rattle.reader.specs.Next.{passed_end, arrive_of};
+ghost use Rattle.reader.specs.Next.{arrive_of};
 
 use super::ends::end_of;
 use super::{Arrived, Reader};
@@ -83,14 +83,6 @@ impl Reader {
         } else {
             self.enter(volume, medium, store, position, index)
         }
-    }
-
-    // A chunk other than the last ends at or before the reader's index.
-    #[tactic(auto, unfolding(crate::specs::Next::passed_end))]
-    fn has_passed(self) -> bool
-        ensures { result ≡ passed_end self.end self.index }
-    {
-        self.end.is_some_and(|records| records <= self.index)
     }
 
     // Passes chunks that are read to their end.

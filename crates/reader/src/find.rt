@@ -10,14 +10,6 @@ use handles::Store;
 use medium::{Error, Medium};
 
 impl Reader {
-    // The index at which the reader's chunk ends.
-    #[tactic(auto, unfolding(crate::specs::Next::limit_of))]
-    fn limit(self, store: Store) -> u32
-        ensures { result ≡ limit_of self.end store.head.chunk }
-    {
-        self.end.unwrap_or(store.head.chunk)
-    }
-
     // The first valid record of the chunk from `after` on, or `limit`.
     fn search(
         self,

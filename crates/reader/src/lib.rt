@@ -34,7 +34,7 @@ pub struct Reader {
     pub index: u32,
 }
 
-// What stands at a reader's place.
+// What stands at a reader's place. A hole is counted once its end is known, which a limit may have cut, so only `Next` has its blank sectors.
 #[derive(Clone, Copy)]
 pub enum Found {
     // A record of this many payload bytes, copied to the output.

@@ -1,6 +1,6 @@
 // The tests of refusals 3 and 11.
 ghost use Rattle.std.specs.Prelude.{◌≡◌};
-ghost use Rattle.reader.specs.Reader.{end_ok, reader_ok};
+ghost use Rattle.reader.specs.Reader.{reader_ok};
 ghost use Rattle.reader.specs.Calls.{usable_of};
 ghost use Rattle.reader.specs.Upto.{readable_of};
 
@@ -9,13 +9,6 @@ use handles::Store;
 use medium::Error;
 
 impl Reader {
-    // A chunk that is not the last ends within a chunk.
-    fn end_ok(self, store: Store) -> bool
-        ensures { result ≡ end_ok self.end store.head.chunk }
-    {
-        self.end.is_none_or(|records| records <= store.head.chunk)
-    }
-
     // Refusal 3 on a reader, beside a store value.
     #[tactic(auto, unfolding(crate::specs::Reader::reader_ok))]
     pub fn handle_ok(self, store: Store) -> bool

@@ -1,6 +1,8 @@
 -- The count of records, from the top down: a law for each way out of a turn, and the tail that a count gives. Assumes nothing.
+use Rattle.std.specs.Prelude.{Option, Some, None, Result, Ok, Err}
 use mathlib.Core.Path.{◌≡◌, refl, sym, ap, ◌∙◌, subst}
-use mathlib.Core.Bool.{true, false}
+use mathlib.Core.Bool.{true, false, false≢true}
+use Rattle.std.specs.Option.{is_some}
 use mathlib.Core.List.{List}
 use Prim.Native.Nat.{ℕ, zero, suc, ◌+◌, ◌-◌, ◌≤◌, ◌<◌, zero-le}
 use native.Mathlib.Nat.{le_refl}
@@ -43,31 +45,33 @@ pub counting_start : (vol : List ℕ) (m : Medium) (st : Store) (id chunk positi
 counting_start vol m st id chunk position = record { most = le_refl st.head.chunk; same = refl }
 
 module _ {vol : List ℕ} {m : Medium} {st : Store} {id chunk position left : ℕ} (at : Counting vol m st id chunk position left) where
-  module _ {index : ℕ} {j : Judged} (some : 0 < left) (i : index ≡ left - 1) (read : j ≡ record_at vol m st id chunk position index) where
-    turn : on_judged j records.Refused (λ (n : ℕ). records.Are (suc index)) (records_from vol m st id chunk position index) ≡ records_from vol m st id chunk position st.head.chunk
+  module _ {index : ℕ} {j : Result (Option ℕ) Error} (some : 0 < left) (i : index ≡ left - 1) (read : j ≡ record_at vol m st id chunk position index) where
+    turn : on_judged j Err (λ (n : ℕ). Ok (suc index)) (records_from vol m st id chunk position index) ≡ records_from vol m st id chunk position st.head.chunk
     unfolding records_from
     turn = let z : suc index ≡ left = omega arith in rw read (ap (records_from vol m st id chunk position) z ∙ at.same)
 
-    pub count_refused : {e : Error} → j ≡ judged.Refused e → records.Refused e ≡ records_from vol m st id chunk position st.head.chunk
+    pub count_refused : {e : Error} → j ≡ Err e → Err e ≡ records_from vol m st id chunk position st.head.chunk
     unfolding on_judged
     count_refused q = rw (← turn, q)
 
-    pub count_valid : {n : ℕ} → j ≡ judged.Valid n → records.Are (index + 1) ≡ records_from vol m st id chunk position st.head.chunk
+    pub count_valid : (o : Option ℕ) → j ≡ Ok o → is_some o ≡ true → Ok (index + 1) ≡ records_from vol m st id chunk position st.head.chunk
     unfolding on_judged
-    count_valid q = rw (← turn, q, add-one)
+    count_valid (Some n) q h = rw (← turn, q, add-one)
+    count_valid None q h = absurd (false≢true h)
 
-    pub count_next : j ≡ judged.Other → Counting vol m st id chunk position index
+    pub count_next : (o : Option ℕ) → j ≡ Ok o → is_some o ≡ false → Counting vol m st id chunk position index
     unfolding on_judged
-    count_next q = record { most = omega (arith, at.most); same = rw (← turn, q) }
+    count_next None q h = record { most = omega (arith, at.most); same = rw (← turn, q) }
+    count_next (Some n) q h = absurd (false≢true (sym h))
 
-  pub count_none : left ≤ 0 → records.Are 0 ≡ records_from vol m st id chunk position st.head.chunk
+  pub count_none : left ≤ 0 → Ok 0 ≡ records_from vol m st id chunk position st.head.chunk
   unfolding records_from
   count_none h = let z : left ≡ 0 = omega arith in rw (← at.same, z)
 
 -- a count is at most the chunk size
-abbrev Few : ℕ → Records → Type 0
-Few size (records.Refused e) = Unit {0}
-Few size (records.Are n) = n ≤ size
+abbrev Few : ℕ → Result ℕ Error → Type 0
+Few size (Err e) = Unit {0}
+Few size (Ok n) = n ≤ size
 
 few : (vol : List ℕ) (m : Medium) (st : Store) (id chunk position n size : ℕ) → n ≤ size → Few size (records_from vol m st id chunk position n)
 unfolding records_from
@@ -75,7 +79,7 @@ few vol m st id chunk position zero size h = h
 few vol m st id chunk position (suc n) size h =
     on_judged_keeps (Few size) (record_at vol m st id chunk position n) _ _ _ (λ e. tt) (λ k q. h) (λ q. few vol m st id chunk position n size (omega arith))
 
-pub count_most : (vol : List ℕ) (m : Medium) (st : Store) (id chunk position : ℕ) {n : ℕ} → records_from vol m st id chunk position st.head.chunk ≡ records.Are n → n ≤ st.head.chunk
+pub count_most : (vol : List ℕ) (m : Medium) (st : Store) (id chunk position : ℕ) {n : ℕ} → records_from vol m st id chunk position st.head.chunk ≡ Ok n → n ≤ st.head.chunk
 count_most vol m st id chunk position e = subst (Few st.head.chunk) e (few vol m st id chunk position st.head.chunk st.head.chunk (le_refl st.head.chunk))
 
 -- ---- the tail

@@ -17,6 +17,7 @@ use Rattle.directory.proofs.Decides.{on_found_keeps}
 use Rattle.table.specs.declared.ChainParts.{ChainParts}
 use Rattle.table.specs.Table.{chain_of}
 use Rattle.table.proofs.Decides.{on_chain_keeps}
+use Rattle.record.proofs.Laws.{on_result_keeps}
 use Rattle.append.specs.declared.Handed.{Handed}
 use Rattle.append.specs.Appender.{appender_ok, no_appender}
 use Rattle.append.specs.Flush.{AppOut}
@@ -27,11 +28,6 @@ use Rattle.files.proofs.Opens.{over_ok, opened_ok, opened_may}
 use Rattle.reopen.specs.Reopen.{records_from, tail_for, on_records, file_out, reopen_of}
 use Rattle.reopen.proofs.Counts.{count_most, tail_passes, tail_open}
 use Rattle.reopen.proofs.Ways.{last_placed}
-
-pub on_records_keeps : {A : Type 0} (P : A → Type 0) (n : Records) (f : Error → A) (g : ℕ → A) → ((e : Error) → P (f e)) → ((k : ℕ) → n ≡ records.Are k → P (g k)) → P (on_records n f g)
-unfolding on_records
-on_records_keeps P (records.Refused e) f g p q = p e
-on_records_keeps P (records.Are k) f g p q = q k refl
 
 -- what a call leaves: the volume, no step, and refused the handles
 pub record Reads (vol : List ℕ) (m : Medium) (st : Store) (o : AppOut) : Type 0 where
@@ -83,7 +79,7 @@ module _ (name : List ℕ) (rollover : Rollover) (vol : List ℕ) (m : Medium) (
     reopen_leaves =
         on_found_keeps Leaves (find_of vol m st name) _ _ (λ e _. no e)
         (λ slot id f. on_chain_keeps Leaves (chain_of vol m st slot) _ _ no
-        (λ p c. on_records_keeps Leaves (records_from vol m st id p.last (p.count - 1) st.head.chunk) _ _ no
+        (λ p c. on_result_keeps Leaves (records_from vol m st id p.last (p.count - 1) st.head.chunk) _ _ (λ e _. no e)
         (λ n q. opened slot id p n f c (count_most vol m st id p.last (p.count - 1) q))))
 
     pub reopen_reads : Reads vol m st (reopen_of name rollover vol m st)

@@ -18,6 +18,7 @@ use Rattle.directory.specs.Scan.{find_of, on_found, found_at}
 use Rattle.table.specs.declared.ChainParts.{ChainParts}
 use Rattle.table.specs.Table.{chain_of, on_chain}
 use Rattle.table.proofs.Walks.{chain_range}
+use Rattle.record.specs.Record.{on_result}
 use Rattle.append.specs.declared.Handed.{Handed}
 use Rattle.append.specs.declared.Tail.{Tail}
 use Rattle.files.specs.declared.Rollover.{Rollover}
@@ -45,14 +46,14 @@ module _ (rollover : Rollover) (vol : List ℕ) (m : Medium) (st : Store) (slot 
         let h : Held st (sectors_of vol) = store_facts st (sectors_of vol) ok in
         (f.least, f.last, omega (arith, f.most, h.head.chunks_most))
 
-    module _ {n : Records} (counted : n ≡ records_from vol m st id p.last (p.count - 1) st.head.chunk) where
-      pub no_count : {e : Error} {r : Handed} → n ≡ records.Refused e → r ≡ (refused_at [] m st e).ans → r ≡ (file_out rollover vol m st slot id).ans
-      unfolding file_out on_chain on_records
+    module _ {n : Result ℕ Error} (counted : n ≡ records_from vol m st id p.last (p.count - 1) st.head.chunk) where
+      pub no_count : {e : Error} {r : Handed} → n ≡ Err e → r ≡ (refused_at [] m st e).ans → r ≡ (file_out rollover vol m st slot id).ans
+      unfolding file_out on_chain on_result
       no_count t h = rw (h, ← asked, q, ← counted, t)
 
-      pub file_opened : {k : ℕ} {tail : Tail} {r : Handed} → n ≡ records.Are k → tail ≡ tail_for st.head.chunk k
+      pub file_opened : {k : ℕ} {tail : Tail} {r : Handed} → n ≡ Ok k → tail ≡ tail_for st.head.chunk k
           → r ≡ (opened_out [] m st slot id p.last (p.count - 1) tail rollover).ans → r ≡ (file_out rollover vol m st slot id).ans
-      unfolding file_out on_chain on_records
+      unfolding file_out on_chain on_result
       file_opened t l h = h ∙ rw (← asked, q, ← counted, t, ← l) (answer_alike vol m st slot id p.last (p.count - 1) _ rollover)
 
 -- ---- the name

@@ -11,14 +11,6 @@ use append::{Handed, Tail};
 use files::Rollover;
 use handles::Store;
 use medium::{Error, Medium};
-use record::Judged;
-
-// The records of a chunk, up to the last valid one.
-#[derive(Clone, Copy)]
-pub enum Records {
-    Refused(Error),
-    Are(u32),
-}
 
 // Record `index` of the chunk at `position` of a file, read and judged.
 fn record_at(
@@ -29,7 +21,7 @@ fn record_at(
     chunk: u32,
     position: u32,
     index: u32,
-) -> Judged
+) -> Result<Option<usize>, Error>
     requires { (store_ok store (sectors_of volume.now) ≡ true) × (chunk < store.head.chunks) × (position ≤ 2047) × (index < store.head.chunk) }
     ensures { result ≡ record_at volume.now medium store id chunk position index }
 {
@@ -37,7 +29,7 @@ fn record_at(
     record::record(volume, medium, store, id, chunk, index, n)
 }
 
-// Counts from the top down, so that what is below the last valid record is not read.
+// The records of a chunk, up to the last valid one. Counts from the top down, so that what is below the last valid record is not read.
 fn count_records(
     volume: &[u8],
     medium: Medium,
@@ -45,39 +37,31 @@ fn count_records(
     id: u32,
     chunk: u32,
     position: u32,
-) -> Records
+) -> Result<u32, Error>
     requires { (store_ok store (sectors_of volume.now) ≡ true) × (chunk < store.head.chunks) × (position ≤ 2047) }
     ensures { result ≡ records_from volume.now medium store id chunk position store.head.chunk }
 {
-    let mut left = store.head.chunk;
-    while 0 < left {
-        let index = left - 1;
-        let j = record_at(volume, medium, store, id, chunk, position, index);
-        left = index;
-        match j {
-            Judged::Refused(e) => {
-                return Records::Refused(e);
-            }
-            Judged::Valid(_) => {
-                return Records::Are(index + 1);
-            }
-            Judged::Other => {}
+    for index in (0..store.head.chunk).rev() {
+        let read = record_at(volume, medium, store, id, chunk, position, index)?;
+        if read.is_some() {
+            return Ok(index + 1);
         }
     }
-    Records::Are(0)
+    Ok(0)
 }
 
 // Where the next record goes: a chunk that was begun is not written further.
+#[tactic(auto, unfolding(crate::specs::Reopen::tail_for, le::specs::Choice::pick))]
 fn tail_for(size: u32, n: u32) -> Tail
     ensures { result ≡ tail_for size n }
 {
     if n == 0 {
-        return Tail::At(0);
+        Tail::At(0)
+    } else if n == size {
+        Tail::At(size)
+    } else {
+        Tail::Reopened(n)
     }
-    if n == size {
-        return Tail::At(size);
-    }
-    Tail::Reopened(n)
 }
 
 // An appender of the file `id` in `slot`. The records of its last chunk say where the next one goes.
@@ -92,20 +76,17 @@ fn open_file(
     requires { store_ok store (sectors_of volume.now) ≡ true }
     ensures { result ≡ (file_out rollover volume.now medium store slot id).ans }
 {
-    let c = table::chain(volume, medium, store, slot);
-    match c {
-        Err(e) => files::refused(e, medium, store),
-        Ok(p) => {
-            let position = p.count - 1;
-            let n = count_records(volume, medium, store, id, p.last, position);
-            match n {
-                Records::Refused(e) => files::refused(e, medium, store),
-                Records::Are(count) => {
-                    let tail = tail_for(store.head.chunk, count);
-                    files::opened(medium, store, slot, id, p.last, position, tail, rollover)
-                }
-            }
+    let parts = match table::chain(volume, medium, store, slot) {
+        Ok(parts) => parts,
+        Err(e) => return files::refused(e, medium, store),
+    };
+    let position = parts.count - 1;
+    match count_records(volume, medium, store, id, parts.last, position) {
+        Ok(count) => {
+            let tail = tail_for(store.head.chunk, count);
+            files::opened(medium, store, slot, id, parts.last, position, tail, rollover)
         }
+        Err(e) => files::refused(e, medium, store),
     }
 }
 

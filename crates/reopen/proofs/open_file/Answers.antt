@@ -2,36 +2,36 @@ use Rattle.handles.proofs.Laws.{store_facts}
 use Rattle.reopen.proofs.Ways.{no_chain_lem, last_placed, no_count, file_opened}
 use Rattle.reopen.proofs.open_file.Goals as goal
 
-pub chain-c-requires : goal.chain-c-requires
-chain-c-requires c = let h = store_facts _ _ c.requires in (h.enough, h.head.chunks_most)
+pub chain-requires : goal.chain-requires
+chain-requires c = let h = store_facts _ _ c.requires in (h.enough, h.head.chunks_most)
 
 pub overflow_sub-position : goal.overflow_sub-position
 overflow_sub-position c =
     let a = c.args in
-    (last_placed a.rollover a.volume.now a.medium a.store a.slot a.id c.chain-c.ensures c.in-Ok.is
+    (last_placed a.rollover a.volume.now a.medium a.store a.slot a.id c.chain.ensures c.in-Ok.is
     c.requires).0
 
-pub count_records-n-requires : goal.count_records-n-requires
-count_records-n-requires c =
+pub count_records-requires : goal.count_records-requires
+count_records-requires c =
     let a = c.args in
-    let l = last_placed a.rollover a.volume.now a.medium a.store a.slot a.id c.chain-c.ensures c.in-Ok.is
+    let l = last_placed a.rollover a.volume.now a.medium a.store a.slot a.id c.chain.ensures c.in-Ok.is
     c.requires in
     (c.requires, l.1, l.2)
 
 pub returns-in-Err : goal.returns-in-Err
 returns-in-Err c =
     let a = c.args in
-    no_chain_lem a.rollover a.volume.now a.medium a.store a.slot a.id c.chain-c.ensures c.in-Err.is
+    no_chain_lem a.rollover a.volume.now a.medium a.store a.slot a.id c.chain.ensures c.in-Err.is
     c.refused.ensures
 
-pub returns-in-Refused : goal.returns-in-Refused
-returns-in-Refused c =
+pub returns-in-Err-1 : goal.returns-in-Err-1
+returns-in-Err-1 c =
     let a = c.args in
-    no_count a.rollover a.volume.now a.medium a.store a.slot a.id c.chain-c.ensures c.in-Ok.is
-    c.count_records-n.ensures c.in-Refused.is c.refused-in-Refused.ensures
+    no_count a.rollover a.volume.now a.medium a.store a.slot a.id c.chain.ensures c.in-Ok.is
+    c.count_records.ensures c.in-Err-1.is c.refused-in-Err-1.ensures
 
-pub returns-in-Are : goal.returns-in-Are
-returns-in-Are c =
+pub returns-in-Ok : goal.returns-in-Ok
+returns-in-Ok c =
     let a = c.args in
-    file_opened a.rollover a.volume.now a.medium a.store a.slot a.id c.chain-c.ensures c.in-Ok.is
-    c.count_records-n.ensures c.in-Are.is c.tail_for-tail.ensures c.opened.ensures
+    file_opened a.rollover a.volume.now a.medium a.store a.slot a.id c.chain.ensures c.in-Ok.is
+    c.count_records.ensures c.in-Ok-1.is c.tail_for-tail.ensures c.opened.ensures

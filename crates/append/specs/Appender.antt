@@ -1,10 +1,10 @@
 -- 01, "Record": the appender, and which appenders refusal 3 takes. Assumes nothing.
+use Rattle.std.specs.Prelude.{None, Option, Some}
 use Rattle.std.specs.Prelude.{ℕ, ◌≤◌, ◌<◌, ◌≡◌, Bool, true, false, not, ◌&&◌, ◌||◌, List, eqb, leb, ltb, length}
 use Rattle.le.specs.Part.{part, zeros}
 use Rattle.names.specs.Names.{dir_ok}
 use Rattle.handles.specs.declared.Store.{Store}
 use Rattle.handles.specs.declared.Writer.{Writer}
-use Rattle.handles.specs.declared.Writer.TheVariants.{Nobody, Open}
 use Rattle.append.specs.declared.Appender.{Appender}
 use Rattle.append.specs.declared.Dir.{Dir}
 use Rattle.append.specs.declared.Tail.{Tail}
@@ -37,9 +37,9 @@ appender_ok ap st =
     && (not ap.rolls || (leb ap.dir.length 40 && dir_ok (dir_bytes ap.dir))))))))
 
 -- it is the appender that the store opened last, and no error closed it; else 11
-unfoldable pub writes : Writer → ℕ → Bool
-writes Nobody token = false
-writes (Open t id) token = eqb t token
+unfoldable pub writes : Option Writer → ℕ → Bool
+writes None token = false
+writes (Some w) token = eqb w.token token
 
 unfoldable pub live : Store → Appender → Bool
 live st ap = writes st.writer ap.token && not (is_closed ap.tail)

@@ -46,13 +46,11 @@ fn dir_ok(dir: Dir) -> bool
     names::dir_ok(&bytes[0..n])
 }
 
-fn writes(writer: Writer, token: u32) -> bool
+#[tactic(auto, unfolding(crate::specs::Appender::writes))]
+fn writes(writer: Option<Writer>, token: u32) -> bool
     ensures { result ≡ writes writer token }
 {
-    match writer {
-        Writer::Nobody => false,
-        Writer::Open { token: t, id: _ } => t == token,
-    }
+    writer.is_some_and(|open| open.token == token)
 }
 
 impl Appender {

@@ -1,4 +1,5 @@
 -- The numbers in which answers, handles and the medium record cross to another language. Assumes nothing.
+use Rattle.std.specs.Prelude.{None, Option, Some}
 use Rattle.std.specs.Prelude.{ℕ, ◌%◌, Bool, true, false, not, List, [], ◌∷◌, eqb, get_or}
 use Rattle.le.specs.Choice.{pick}
 use Rattle.le.specs.Part.{part}
@@ -6,9 +7,9 @@ use Rattle.medium.specs.declared.Medium.{Medium}
 use Rattle.medium.specs.Refusal.{Answer, ok, refused}
 use Rattle.freemap.specs.declared.FreeMap.{FreeMap}
 use Rattle.handles.specs.declared.Header.{Header}
+use Rattle.handles.specs.Handles.{opened_by}
 use Rattle.handles.specs.declared.Store.{Store}
 use Rattle.handles.specs.declared.Writer.{Writer}
-use Rattle.handles.specs.declared.Writer.TheVariants.{Nobody, Open}
 use Rattle.reader.specs.declared.Reader.{Reader}
 use Rattle.reader.specs.Calls.{Item, payload, hole, end}
 
@@ -27,8 +28,8 @@ medium_of w = record { left = narrow_of (get_or w 0 0); unreadable = get_or w 1 
 unfoldable pub medium_words : Medium → List ℕ
 medium_words m = m.left ∷ m.unreadable ∷ m.entropy ∷ m.token ∷ []
 
-unfoldable pub writer_of : ℕ → ℕ → ℕ → Writer
-writer_of kind token id = pick (eqb kind 0) Nobody (Open (narrow_of token) (narrow_of id))
+unfoldable pub writer_of : ℕ → ℕ → ℕ → Option Writer
+writer_of kind token id = pick (eqb kind 0) None (opened_by (narrow_of token) (narrow_of id))
 
 abbrev pub head_of : List ℕ → List ℕ → Header
 head_of w crcs =
@@ -50,9 +51,9 @@ unfoldable pub store_of : List ℕ → List ℕ → Store
 store_of w crcs =
     record { copy = get_or w 0 0; head = head_of w crcs; writer = writer_of (get_or w 7 0) (get_or w 8 0) (get_or w 9 0); free = map_in w }
 
-abbrev pub writer_words : Writer → List ℕ → List ℕ
-writer_words Nobody l = 0 ∷ 0 ∷ 0 ∷ l
-writer_words (Open token id) l = 1 ∷ token ∷ id ∷ l
+abbrev pub writer_words : Option Writer → List ℕ → List ℕ
+writer_words None l = 0 ∷ 0 ∷ 0 ∷ l
+writer_words (Some w) l = 1 ∷ w.token ∷ w.id ∷ l
 
 abbrev pub flag_of : Bool → ℕ
 flag_of true = 1

@@ -4,7 +4,7 @@ ghost use Rattle.le.specs.Part.{over};
 ghost use Rattle.medium.specs.Refusal.{outcome_of};
 ghost use Rattle.store.specs.Reading.{count_answer, found_answer};
 ghost use Rattle.reader.specs.Calls.{next_answer, numbered_answer};
-ghost use Rattle.bridge.specs.Numbers.{code_of, narrow_of, medium_of, medium_words, writer_of, map_in, store_of, flag_of, row_words, store_words};
+ghost use Rattle.bridge.specs.Numbers.{code_of, narrow_of, medium_of, medium_words, writer_of, writer_words, map_in, store_of, flag_of, row_words, store_words};
 ghost use Rattle.bridge.specs.Numbers.{end_at, reader_of, reader_words, found_words, item_words, number_words};
 
 use directory::Found;
@@ -37,16 +37,16 @@ pub fn medium_words(m: Medium) -> [u64; 4]
     [m.left as u64, m.unreadable, m.entropy, m.token as u64]
 }
 
-fn writer_in(kind: u64, token: u64, id: u64) -> Writer
+fn writer_in(kind: u64, token: u64, id: u64) -> Option<Writer>
     ensures { result ≡ writer_of kind token id }
 {
     if kind == 0 {
-        return Writer::Nobody;
+        return None;
     }
-    Writer::Open {
+    Some(Writer {
         token: narrow(token),
         id: narrow(id),
-    }
+    })
 }
 
 fn put_words(dst: &mut [u64], at: usize, src: &[u64])
@@ -100,42 +100,34 @@ pub fn flag(b: bool) -> u64
     0
 }
 
+// Whether there is a writer, its token and its file's id: zeros where there is none.
+fn writer_words(writer: Option<Writer>) -> [u64; 3]
+    ensures { result ≡ writer_words writer [] }
+{
+    match writer {
+        None => [0, 0, 0],
+        Some(open) => [1, open.token as u64, open.id as u64],
+    }
+}
+
 // The numbers before the words of the map.
 fn row(s: Store) -> [u64; 11]
     ensures { result ≡ row_words s [] }
 {
-    let h = s.head;
-    let map = s.free;
-    let fit = flag(map.fit);
-    let writer = s.writer;
-    match writer {
-        Writer::Nobody => [
-            s.copy,
-            h.id,
-            h.generation,
-            h.next_id as u64,
-            h.cursor as u64,
-            h.chunks as u64,
-            h.chunk as u64,
-            0,
-            0,
-            0,
-            fit,
-        ],
-        Writer::Open { token, id } => [
-            s.copy,
-            h.id,
-            h.generation,
-            h.next_id as u64,
-            h.cursor as u64,
-            h.chunks as u64,
-            h.chunk as u64,
-            1,
-            token as u64,
-            id as u64,
-            fit,
-        ],
-    }
+    let [kind, token, id] = writer_words(s.writer);
+    [
+        s.copy,
+        s.head.id,
+        s.head.generation,
+        s.head.next_id as u64,
+        s.head.cursor as u64,
+        s.head.chunks as u64,
+        s.head.chunk as u64,
+        kind,
+        token,
+        id,
+        flag(s.free.fit),
+    ]
 }
 
 pub fn store_words(s: Store) -> [u64; 43]

@@ -8,8 +8,7 @@ use Rattle.medium.specs.declared.Medium.{Medium}
 use Rattle.medium.specs.Sector.{sectors_of}
 use Rattle.medium.proofs.Laws.{on_done_keeps, not_done}
 use Rattle.handles.specs.declared.Store.{Store}
-use Rattle.handles.specs.declared.Writer.TheVariants.{Open}
-use Rattle.handles.specs.Handles.{store_ok}
+use Rattle.handles.specs.Handles.{store_ok, opened_by}
 use Rattle.handles.proofs.Laws.{store_facts}
 use Rattle.directory.specs.Scan.{look_of}
 use Rattle.directory.proofs.Ranges.{look_free}
@@ -102,7 +101,7 @@ pub record Created (vol : List ℕ) (m : Medium) (st : Store) (rollover : Rollov
   pub chunks : x.store.head.chunks ≡ st.head.chunks
   pub chunk : x.store.head.chunk ≡ st.head.chunk
   pub token : x.outcome ≡ Ok tt → x.medium.token ≡ next_token m
-  pub writer : x.outcome ≡ Ok tt → x.store.writer ≡ Open (next_token m) x.appender.id
+  pub writer : x.outcome ≡ Ok tt → x.store.writer ≡ opened_by (next_token m) x.appender.id
   pub appender : x.outcome ≡ Ok tt → (x.appender.token ≡ next_token m) × (x.appender.rolls ≡ rollover.rolls) × (x.appender.dir ≡ rollover.dir) × (x.appender.fill ≡ 0)
   pub may : x.outcome ≡ Ok tt → over_ok rollover ≡ true → may_write v x.store x.appender ≡ Ok tt
   pub refused : (e : Error) → x.outcome ≡ Err e → (x.medium.token ≡ m.token) × (x.appender ≡ no_appender)
@@ -141,7 +140,7 @@ module _ (vol : List ℕ) (m : Medium) (st : Store) (rollover : Rollover) where
         chunks = k.chunks;
         chunk = k.chunk;
         token = λ _. t;
-        writer = λ _. ap (λ (x : ℕ). Open x id) t;
+        writer = λ _. ap (λ (x : ℕ). opened_by x id) t;
         appender = λ _. (t, refl, refl, refl);
         may = λ _ o. opened_may s (next_token n) slot id chunk 0 (At 0) rollover hs hi hc (lit≤ tt) (le-leb 0 s.head.chunk zero-le) o v k.good.ok refl;
         refused = λ _ d. not_done (sym d);

@@ -5,7 +5,7 @@ use Rattle.le.specs.Part.{zeros}
 use Rattle.medium.specs.declared.Error.{Error}
 use Rattle.medium.specs.declared.Medium.{Medium}
 use Rattle.handles.specs.declared.Store.{Store}
-use Rattle.handles.specs.declared.Writer.TheVariants.{Open}
+use Rattle.handles.specs.Handles.{opened_by}
 use Rattle.append.specs.declared.Appender.{Appender}
 use Rattle.append.specs.declared.Tail.{Tail}
 use Rattle.append.specs.Appender.{no_appender}
@@ -24,7 +24,7 @@ with_token m = record { left = m.left; unreadable = m.unreadable; entropy = m.en
 
 -- the store, written by the appender of that token
 abbrev pub written_by : ℕ → ℕ → Store → Store
-written_by token id st = record { copy = st.copy; head = st.head; writer = Open token id; free = st.free }
+written_by token id st = record { copy = st.copy; head = st.head; writer = opened_by token id; free = st.free }
 
 -- a new appender of a file, with nothing unwritten
 abbrev pub new_appender : ℕ → ℕ → ℕ → ℕ → ℕ → Tail → Rollover → Appender

@@ -54,7 +54,7 @@ fn written_by(token: u32, id: u32, store: Store) -> Store
     Store {
         copy: store.copy,
         head,
-        writer: Writer::Open { token, id },
+        writer: Some(Writer { token, id }),
         free,
     }
 }

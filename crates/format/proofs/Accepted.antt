@@ -1,4 +1,5 @@
 -- What an accepted format hands out: a store that passes refusal 3 and whose header a sector can hold. Assumes nothing.
+use Rattle.std.specs.Prelude.{None}
 use Rattle.std.specs.Prelude.{Ok}
 use mathlib.Core.Path.{◌≡◌, refl, ap}
 use mathlib.Core.Bool.{true, ◌&&◌}
@@ -17,7 +18,6 @@ use Rattle.freemap.specs.Map.{full_of}
 use Rattle.freemap.proofs.Rule.{full_ok}
 use Rattle.handles.specs.declared.Header.{Header}
 use Rattle.handles.specs.declared.Store.{Store}
-use Rattle.handles.specs.declared.Writer.TheVariants.{Nobody}
 use Rattle.handles.specs.Handles.{body_of, base_of, store_ok, no_store}
 use Rattle.handles.proofs.Laws.{next_fits, store_ok_lem}
 use Rattle.header.specs.declared.answers.Copies.{Copies}
@@ -33,7 +33,7 @@ use Rattle.format.proofs.Writes.{zeroed_from, zero_head}
 -- ---- the store is the one that was written
 
 abbrev pub store_for : ℕ → Header → Store
-store_for copy h = record { copy = copy; head = h; writer = Nobody; free = full_of h.chunks }
+store_for copy h = record { copy = copy; head = h; writer = None; free = full_of h.chunks }
 
 pub made_store : (copy : ℕ) (h : Header) → Zeroed h → (vol : List ℕ) (m : Medium) → (made_of copy h vol m).ans.outcome ≡ Ok tt → (made_of copy h vol m).ans.store ≡ store_for copy h
 unfolding copy_out last_of map_after mark_after is_format pick format_plan no_store
@@ -51,7 +51,7 @@ made_store copy h sums vol m =
     Right o = o.ans.outcome ≡ Ok tt → o.ans.store ≡ store_for copy h
 
     with_map : Header → Store
-    with_map x = record { copy = copy; head = x; writer = Nobody; free = full_of h.chunks }
+    with_map x = record { copy = copy; head = x; writer = None; free = full_of h.chunks }
 
 -- what the tests on the way say
 pub record Made (size seed : ℕ) (vol : List ℕ) (m : Medium) (st : Store) : Type 0 where
@@ -100,7 +100,7 @@ module _ (size seed : ℕ) (vol : List ℕ) (m : Medium) (accepted : (format_of 
   both = headers_both vol m facts.headers
 
   -- nothing has it open, and its first file gets id 1
-  pub format_fresh : ((store_after size seed vol m).copy < 2) × ((store_after size seed vol m).writer ≡ Nobody) × ((store_after size seed vol m).head.next_id ≡ 1) × ((store_after size seed vol m).head.cursor ≡ 0)
+  pub format_fresh : ((store_after size seed vol m).copy < 2) × ((store_after size seed vol m).writer ≡ None) × ((store_after size seed vol m).head.next_id ≡ 1) × ((store_after size seed vol m).head.cursor ≡ 0)
   unfolding format_head
   format_fresh = rw facts.store (copy_lt (headers_of vol m), refl, refl, refl)
 

@@ -16,7 +16,6 @@ use Rattle.mix.specs.SplitMix.{folded, stage, split_mix}
 use Rattle.medium.specs.declared.Medium.{Medium}
 use Rattle.handles.specs.declared.Header.{Header}
 use Rattle.header.specs.declared.answers.Copies.{Copies}
-use Rattle.header.specs.declared.codec.Decoded.{Decoded}
 use Rattle.header.specs.Header.{ours}
 use Rattle.header.specs.Copies.{is_ours, head_a, head_b, both_of}
 use Rattle.format.specs.Format.{has_id, spare_of, id_from, id_for}

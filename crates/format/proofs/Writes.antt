@@ -1,4 +1,5 @@
 -- The writes of a format: the zeroed body, a turn at a time, and the ways through the three parts. Assumes nothing.
+use Rattle.std.specs.Prelude.{None}
 use Rattle.std.specs.Prelude.{Err, Ok}
 use mathlib.Core.Path.{◌≡◌, refl, sym, ap, ◌∙◌}
 use mathlib.Core.List.{List, []}
@@ -19,7 +20,6 @@ use Rattle.medium.proofs.Laws.{on_done_keeps}
 use Rattle.freemap.specs.declared.FreeMap.{FreeMap}
 use Rattle.freemap.specs.Map.{full_of}
 use Rattle.handles.specs.declared.Header.{Header}
-use Rattle.handles.specs.declared.Writer.TheVariants.{Nobody}
 use Rattle.handles.specs.Handles.{body_of, base_of, no_store}
 use Rattle.header.specs.Header.{encode_of, unmarked_of}
 use Rattle.plan.specs.declared.Committed.{Committed}
@@ -113,6 +113,6 @@ module _ (copy : ℕ) (h : Header) (vol : List ℕ) (m : Medium) {v : List ℕ} 
       last_refused q er = rw (← ez, ← ev, qz, ← eb, qb, ← ev₁, kept, ← ew, q) (ev₂, er)
 
       pub made : {f : FreeMap} → f ≡ full_of h.chunks → w.outcome ≡ Ok tt
-          → (v₂ ≡ (made_of copy h vol m).vol) × (record { outcome = Ok tt; medium = w.medium; store = record { copy = copy; head = h; writer = Nobody; free = f } } ≡ (made_of copy h vol m).ans)
+          → (v₂ ≡ (made_of copy h vol m).vol) × (record { outcome = Ok tt; medium = w.medium; store = record { copy = copy; head = h; writer = None; free = f } } ≡ (made_of copy h vol m).ans)
       unfolding copy_out last_of map_after mark_after format_plan no_store is_format pick on_done
       made e q = rw (e, ← ez, ← ev, qz, ← eb, qb, ← ev₁, kept, ← ew, q) (ev₂, refl)

@@ -8,7 +8,7 @@ ghost use Rattle.plan.specs.Copy.{refused_out, body_from};
 ghost use Rattle.format.specs.Format.{chunks_of, copy_for, newest_of, has_id, spare_of, id_from, zero_crcs, format_head, Zeroed};
 ghost use Rattle.format.specs.Format.{format_plan, made_of, format_over, format_of};
 
-use handles::{Header, Store, Writer};
+use handles::{Header, Store};
 use header::Copies;
 use medium::{Error, Medium};
 use plan::{BodyWritten, Committed};
@@ -192,7 +192,7 @@ fn make(volume: &mut [u8], medium: Medium, copy: u64, head: Header) -> Committed
     let store = Store {
         copy,
         head,
-        writer: Writer::Nobody,
+        writer: None,
         free,
     };
     let after = w.medium;

@@ -7,7 +7,6 @@ use Rattle.freemap.specs.Map.{unfit_of, map_ok}
 use Rattle.handles.specs.declared.Header.{Header}
 use Rattle.handles.specs.declared.Store.{Store}
 use Rattle.handles.specs.declared.Writer.{Writer}
-use Rattle.handles.specs.declared.Writer.TheVariants.{Nobody, Open}
 
 -- table sectors = chunks / 128 rounded up
 abbrev pub table_of : ℕ → ℕ
@@ -33,23 +32,27 @@ sane_of h sectors =
 unfoldable pub store_ok : Store → ℕ → Bool
 store_ok st sectors = ltb st.copy 2 && (sane_of st.head sectors && map_ok st.free st.head.chunks)
 
--- the open file is that of the open appender: whether there is one, and its id
+-- the writer that has this token and this file
+abbrev pub opened_by : ℕ → ℕ → Option Writer
+opened_by token id = Some (record { token = token; id = id })
+
 -- the file that is open, if any
-abbrev pub open_file : Writer → Option ℕ
-open_file Nobody = None
-open_file (Open token id) = Some id
+abbrev pub open_file : Option Writer → Option ℕ
+open_file None = None
+open_file (Some w) = Some w.id
 
-abbrev pub is_open : Writer → Bool
-is_open Nobody = false
-is_open (Open token id) = true
+-- the open file is that of the open appender: whether there is one, and its id
+abbrev pub is_open : Option Writer → Bool
+is_open None = false
+is_open (Some w) = true
 
-abbrev pub open_id : Writer → ℕ
-open_id Nobody = 0
-open_id (Open token id) = id
+abbrev pub open_id : Option Writer → ℕ
+open_id None = 0
+open_id (Some w) = w.id
 
 -- zeros where there is no header, and a store value that no call accepts
 unfoldable pub blank_of : Header
 blank_of = record { id = 0; generation = 0; next_id = 0; cursor = 0; chunks = 0; chunk = 0; crcs = zeros 24 }
 
 unfoldable pub no_store : Store
-no_store = record { copy = 0; head = blank_of; writer = Nobody; free = unfit_of }
+no_store = record { copy = 0; head = blank_of; writer = None; free = unfit_of }

@@ -21,11 +21,11 @@ pub struct Header {
     pub crcs: [u32; 24],
 }
 
-// The appender that the store opened last.
+// The appender that the store opened last: its token, and the id of its file.
 #[derive(Clone, Copy)]
-pub enum Writer {
-    Nobody,
-    Open { token: u32, id: u32 },
+pub struct Writer {
+    pub token: u32,
+    pub id: u32,
 }
 
 // The mounted metadata: the current copy, its header, the open appender and the map of free chunks.
@@ -33,7 +33,7 @@ pub enum Writer {
 pub struct Store {
     pub copy: u64,
     pub head: Header,
-    pub writer: Writer,
+    pub writer: Option<Writer>,
     pub free: FreeMap,
 }
 
@@ -61,38 +61,29 @@ pub fn no_store() -> Store
     Store {
         copy: 0,
         head,
-        writer: Writer::Nobody,
+        writer: None,
         free,
     }
 }
 
 // The file that is open: extending and delete_oldest spare it.
-pub fn open_file(writer: Writer) -> Option<u32>
+pub fn open_file(writer: Option<Writer>) -> Option<u32>
     ensures { result ≡ open_file writer }
 {
-    match writer {
-        Writer::Nobody => None,
-        Writer::Open { id, .. } => Some(id),
-    }
+    writer.map(|open| open.id)
 }
 
 // Whether a file is open, and its id.
-pub fn is_open(writer: Writer) -> bool
+pub fn is_open(writer: Option<Writer>) -> bool
     ensures { result ≡ is_open writer }
 {
-    match writer {
-        Writer::Nobody => false,
-        Writer::Open { token: _, id: _ } => true,
-    }
+    writer.is_some()
 }
 
-pub fn open_id(writer: Writer) -> u32
+pub fn open_id(writer: Option<Writer>) -> u32
     ensures { result ≡ open_id writer }
 {
-    match writer {
-        Writer::Nobody => 0,
-        Writer::Open { token: _, id } => id,
-    }
+    writer.map_or(0, |open| open.id)
 }
 
 // Table sectors of so many chunks.

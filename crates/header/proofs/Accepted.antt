@@ -18,8 +18,6 @@ use Rattle.handles.specs.Handles.{base_of, sane_of, store_ok}
 use Rattle.handles.proofs.Laws.{store_ok_lem}
 use Rattle.header.specs.declared.answers.Copies.{Copies}
 use Rattle.header.specs.declared.answers.Current.{Current}
-use Rattle.header.specs.declared.answers.Mounted.{Mounted}
-use Rattle.header.specs.declared.codec.Decoded.{Decoded}
 use Rattle.header.specs.Header.{ours, Bytes, InRange}
 use Rattle.header.specs.Copies.{is_ours, is_foreign, is_damaged, copy_of, both_of, headers_of, takes_b, taken_of, no_current, choice_of, current_of, mounted, mount_of}
 use Rattle.header.proofs.Range.{bytes_part, valid, decode_range}

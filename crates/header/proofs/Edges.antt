@@ -1,4 +1,5 @@
 -- The starred edges of 01 that mount decides. Assumes nothing.
+use Rattle.std.specs.Prelude.{None}
 use Rattle.std.specs.Prelude.{Ok}
 use mathlib.Core.Path.{◌≡◌, refl}
 use mathlib.Core.Bool.{false}
@@ -15,7 +16,6 @@ use Rattle.medium.specs.Refusal.{on_done, refused, outcome_of}
 use Rattle.medium.specs.Sector.{sectors_of, sector_at, read_of}
 use Rattle.freemap.specs.Map.{unfit_of}
 use Rattle.handles.specs.declared.Header.{Header}
-use Rattle.handles.specs.declared.Writer.TheVariants.{Nobody}
 use Rattle.header.specs.declared.codec.Replica.TheVariants.{Absent}
 use Rattle.header.specs.Header.{ours, bare}
 use Rattle.header.specs.Copies.{is_foreign, copy_of, both_of, headers_of, takes_b, taken_of, no_current, choice_of, current_of, not_mounted, mount_of}
@@ -29,7 +29,7 @@ module _ (vol : List ℕ) (m : Medium) (enough : 64 ≤ sectors_of vol) (a : rea
 
   -- of two valid copies of one generation, A is taken
   pub equal_takes_a : (x y : Header) → copy_of vol 0 ≡ ours x → copy_of vol 32 ≡ ours y → x.generation ≡ y.generation
-      → mount_of vol m ≡ record { outcome = Ok tt; store = record { copy = 0; head = x; writer = Nobody; free = unfit_of } }
+      → mount_of vol m ≡ record { outcome = Ok tt; store = record { copy = 0; head = x; writer = None; free = unfit_of } }
   unfolding mount_of current_of choice_of takes_b taken_of pick on_done
   equal_takes_a x y p q e =
       let t = headers_read (rw p refl) (rw q refl) in

@@ -1,6 +1,7 @@
 -- 01, "Header": the two copies, in sectors 0 (A) and 32 (B), and which of them mount takes. A foreign copy refuses even beside a valid one. Mount
 -- takes B only if it is valid and A is not, or its generation is larger. Where no copy is valid it refuses: 7 if one is damaged, else 5.
 -- The copies are read in order, A first, and A's refusal comes before B is read. Assumes nothing.
+use Rattle.std.specs.Prelude.{None}
 use Rattle.std.specs.Prelude.{Err, Ok}
 use Rattle.std.specs.Prelude.{ℕ, Bool, true, false, not, ◌&&◌, ◌||◌, List, [], ◌∷◌, ltb, eqb, get_or}
 use Rattle.le.specs.Choice.{pick}
@@ -12,14 +13,11 @@ use Rattle.medium.specs.Refusal.{on_done}
 use Rattle.medium.specs.Sector.{sectors_of, sector_at, read_of}
 use Rattle.freemap.specs.Map.{unfit_of}
 use Rattle.handles.specs.declared.Header.{Header}
-use Rattle.handles.specs.declared.Writer.TheVariants.{Nobody}
 use Rattle.handles.specs.Handles.{blank_of, no_store}
-use Rattle.header.specs.declared.codec.Decoded.{Decoded}
 use Rattle.header.specs.declared.codec.Replica.{Replica}
 use Rattle.header.specs.declared.codec.Replica.TheVariants.{Ours, Foreign, Damaged, Absent}
 use Rattle.header.specs.declared.answers.Copies.{Copies}
 use Rattle.header.specs.declared.answers.Current.{Current}
-use Rattle.header.specs.declared.answers.Mounted.{Mounted}
 use Rattle.header.specs.Header.{decode_of}
 
 abbrev pub is_ours : Replica → Bool
@@ -98,7 +96,7 @@ current_of vol m = on_done (headers_of vol m).outcome (choice_of (headers_of vol
 
 -- the store of the copy taken; nothing has it open
 abbrev pub mounted : Current → Mounted
-mounted c = record { outcome = Ok tt; store = record { copy = c.copy; head = c.head; writer = Nobody; free = unfit_of } }
+mounted c = record { outcome = Ok tt; store = record { copy = c.copy; head = c.head; writer = None; free = unfit_of } }
 
 abbrev pub not_mounted : Error → Mounted
 not_mounted e = record { outcome = Err e; store = no_store }

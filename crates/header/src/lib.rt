@@ -13,7 +13,7 @@ ghost use Rattle.header.specs.Copies.{choice_of, current_of, mount_of};
 
 pub use answers::{Copies, Current, Mounted};
 pub use codec::{Decoded, Replica, decode, encode, encode_unmarked};
-use handles::{Header, Store, Writer};
+use handles::{Header, Store};
 use medium::{Error, Medium, Written};
 
 // A copy that is valid.
@@ -200,7 +200,7 @@ pub fn mount(volume: &[u8], medium: Medium) -> Mounted
     let store = Store {
         copy: c.copy,
         head,
-        writer: Writer::Nobody,
+        writer: None,
         free,
     };
     Mounted {

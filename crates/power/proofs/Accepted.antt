@@ -14,8 +14,7 @@ use Rattle.medium.specs.declared.Medium.{Medium}
 use Rattle.medium.specs.Refusal.{on_done}
 use Rattle.medium.specs.Sector.{sectors_of}
 use Rattle.medium.proofs.Laws.{on_done_done}
-use Rattle.handles.specs.declared.Writer.TheVariants.{Open}
-use Rattle.handles.specs.Handles.{open_file}
+use Rattle.handles.specs.Handles.{open_file, is_open, open_id, opened_by}
 use Rattle.header.specs.Copies.{headers_of}
 use Rattle.directory.specs.declared.Old.{Old}
 use Rattle.directory.specs.Entry.{entry_at}
@@ -129,7 +128,7 @@ module _ (w : World) (b : Book) (k : Booked w b) (left : ℕ) (can : CanCommit w
 
 -- ---- sync of an open appender with bytes unwritten, whose chunk has room: by one write
 
-pub sync_accepted : (w : World) (b : Book) → Booked w b → (left i : ℕ) → w.store.writer ≡ Open w.appender.token w.appender.id → w.appender.tail ≡ At i
+pub sync_accepted : (w : World) (b : Book) → Booked w b → (left i : ℕ) → w.store.writer ≡ opened_by w.appender.token w.appender.id → w.appender.tail ≡ At i
     → i < w.store.head.chunk → (b.unwritten ≡ [] → ⊥) → 1 ≤ left → Tells w (sync left) (recorded ∷ [])
 sync_accepted w b k left i writer tail room some one =
     let y : Ready w i w.appender.fill = record { writer = writer; tail = tail; fill = refl } in

@@ -1,4 +1,5 @@
 -- Append and sync keep what each commit and record keeps, accepted, refused or stopped, on any volume and with any appender. Assumes nothing.
+use Rattle.std.specs.Prelude.{None, Option, Some}
 use Rattle.std.specs.Prelude.{Err, Ok, Result}
 use Rattle.medium.specs.declared.Error.{Error}
 use Prim.Native.Nat.{ℕ, ◌+◌, ◌<◌}
@@ -17,8 +18,7 @@ use Rattle.medium.specs.Sector.{sectors_of, WriteOut}
 use Rattle.medium.proofs.Laws.{on_done_keeps}
 use Rattle.handles.specs.declared.Store.{Store}
 use Rattle.handles.specs.declared.Writer.{Writer}
-use Rattle.handles.specs.declared.Writer.TheVariants.{Nobody, Open}
-use Rattle.handles.specs.Handles.{is_open, open_file}
+use Rattle.handles.specs.Handles.{is_open, open_file, open_id}
 use Rattle.handles.proofs.Laws.{store_facts}
 use Rattle.table.specs.Table.{on_pick}
 use Rattle.table.specs.Free.{free_of}
@@ -46,10 +46,10 @@ use Rattle.power.proofs.Appends.{may_live}
 use Rattle.power.proofs.Lasts.{Lasts, free_keeps, step_due, good_of, Held, commit_stays, oldest_stays}
 
 -- a live appender's store has a writer
-live_open : (x : Writer) (token : ℕ) (t : Bool) → (writes x token && t) ≡ true → is_open x ≡ true
+live_open : (x : Option Writer) (token : ℕ) (t : Bool) → (writes x token && t) ≡ true → is_open x ≡ true
 unfolding writes
-live_open Nobody token t e = absurd (false≢true e)
-live_open (Open held id) token t e = refl
+live_open None token t e = absurd (false≢true e)
+live_open (Some w) token t e = refl
 
 module _ {P : Skipped → Type 0} {L : List ℕ → Store → Type 0} (rules : Lasts P L) where
   abbrev KeptIf : AppOut → Type 0

@@ -1,4 +1,5 @@
 -- Append and sync keep what holds between the calls: the bytes go one by one, and a record that fills is written. Assumes nothing.
+use Rattle.std.specs.Prelude.{None, Option, Some}
 use Rattle.std.specs.Prelude.{Err, Ok, Result}
 use Prim.Native.Nat.{ℕ, ◌+◌, ◌<◌}
 use mathlib.Core.Path.{◌≡◌, refl, sym, ap, ap₂, ◌∙◌, subst}
@@ -19,8 +20,7 @@ use Rattle.medium.specs.Sector.{sectors_of}
 use Rattle.medium.proofs.Laws.{on_done_keeps}
 use Rattle.handles.specs.declared.Store.{Store}
 use Rattle.handles.specs.declared.Writer.{Writer}
-use Rattle.handles.specs.declared.Writer.TheVariants.{Nobody, Open}
-use Rattle.handles.specs.Handles.{store_ok}
+use Rattle.handles.specs.Handles.{store_ok, opened_by}
 use Rattle.plan.specs.Copy.{Distinct}
 use Rattle.remove.proofs.Keeps.{Good}
 use Rattle.append.specs.declared.Appender.{Appender}
@@ -145,7 +145,7 @@ kept_keeps {t} {b} o k room closes =
       whole = k.live.whole;
       owns = record {
         writes =
-            subst (λ (x : Writer). Writes x o.ans.appender (Stands o.vol o.ans.store o.ans.appender k.layout (book_after t o.steps b) [] × (o.ans.appender.fill < 486)))
+            subst (λ (x : Option Writer). Writes x o.ans.appender (Stands o.vol o.ans.store o.ans.appender k.layout (book_after t o.steps b) [] × (o.ans.appender.fill < 486)))
             (sym k.live.writer) (refl, refl, kept_owns o k room closes);
       };
       readable = k.live.readable;
@@ -163,16 +163,16 @@ may_live vol st a d = go (store_ok st (sectors_of vol) && appender_ok a st) refl
     go true q false r = clash (pick_true _ _ q ∙ pick_false _ _ r) d
 
 -- the writer is this appender, which stands
-its_own : (x : Writer) (a : Appender) {P : Type 0} → Writes x a P → (writes x a.token && not (is_closed a.tail)) ≡ true → (x ≡ Open a.token a.id) × P
+its_own : (x : Option Writer) (a : Appender) {P : Type 0} → Writes x a P → (writes x a.token && not (is_closed a.tail)) ≡ true → (x ≡ opened_by a.token a.id) × P
 unfolding writes
-its_own Nobody a w e = absurd (false≢true e)
-its_own (Open token id) a w e =
-    let b = and_true (eqb token a.token) (not (is_closed a.tail)) e in
-    (ap₂ Open w.0 w.1, w.2 (not-true (is_closed a.tail) b.1))
+its_own None a w e = absurd (false≢true e)
+its_own (Some x) a w e =
+    let b = and_true (eqb x.token a.token) (not (is_closed a.tail)) e in
+    (ap₂ opened_by w.0 w.1, w.2 (not-true (is_closed a.tail) b.1))
 
 module _ {vol : List ℕ} {st : Store} {a : Appender} {G : ℕ → List Segment} {b : Fine} (w : Whole vol st G b) where
   -- an appender that stands is never refused
-  pub stands_may : {rest : List ℕ} → Stands vol st a G b rest → a.fill < 486 → (x : Writer) → st.writer ≡ x → writes x a.token ≡ true → is_closed a.tail ≡ false → may_write vol st a ≡ Ok tt
+  pub stands_may : {rest : List ℕ} → Stands vol st a G b rest → a.fill < 486 → (x : Option Writer) → st.writer ≡ x → writes x a.token ≡ true → is_closed a.tail ≡ false → may_write vol st a ≡ Ok tt
   unfolding may_write live
   stands_may s h x q y c =
       let p : (store_ok st (sectors_of vol) && appender_ok a st) ≡ true = rw w.inv.ok (stands_passes w s h) in
@@ -184,12 +184,12 @@ module _ {vol : List ℕ} {st : Store} {a : Appender} {G : ℕ → List Segment}
   unfolding writes
   refused_owns {e} {c} n o = record { writes = go st.writer refl o.writes }
     where
-      go : (x : Writer) → st.writer ≡ x → Writes x a (Stands vol st a G b [] × (a.fill < 486)) → Writes x a (Stands vol st a G c [] × (a.fill < 486))
-      go Nobody q h = tt
-      go (Open token id) q h = (
+      go : (x : Option Writer) → st.writer ≡ x → Writes x a (Stands vol st a G b [] × (a.fill < 486)) → Writes x a (Stands vol st a G c [] × (a.fill < 486))
+      go None q h = tt
+      go (Some x) q h = (
         h.0,
         h.1,
-        λ z. let p = h.2 z in clash n (stands_may p.0 p.1 (Open token id) q (eq-eqb token a.token h.0) z),
+        λ z. let p = h.2 z in clash n (stands_may p.0 p.1 (Some x) q (eq-eqb x.token a.token h.0) z),
       )
 
 -- ---- the calls
@@ -226,7 +226,7 @@ module _ (w : World) (b : Fine) (k : Keeps w b) (left : ℕ) (c : Fine) (rest : 
       }
 
   module _ (d : may_write w.vol w.store w.appender ≡ Ok tt) where
-    owner : (w.store.writer ≡ Open w.appender.token w.appender.id) × (Stands w.vol w.store w.appender k.layout b [] × (w.appender.fill < 486))
+    owner : (w.store.writer ≡ opened_by w.appender.token w.appender.id) × (Stands w.vol w.store w.appender k.layout b [] × (w.appender.fill < 486))
     unfolding live
     owner = its_own w.store.writer w.appender k.owns.writes (may_live w.vol w.store w.appender d)
 

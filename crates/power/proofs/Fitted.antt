@@ -1,4 +1,5 @@
 -- S-3: each commit, record, mount and format keeps that a fit map tells the table of the store's own copy, on any volume of bytes. Assumes nothing.
+use Rattle.std.specs.Prelude.{Option}
 use Rattle.std.specs.Prelude.{Err, Ok, Result}
 use Prim.Native.Nat.{ℕ, ◌+◌, ◌-◌, ◌^◌, ◌<◌, ◌≤◌}
 use mathlib.Core.Path.{◌≡◌, refl, sym, ap, ◌∙◌, subst}
@@ -19,7 +20,6 @@ use Rattle.handles.specs.declared.Writer.{Writer}
 use Rattle.handles.specs.Body.{body_at}
 use Rattle.handles.specs.Handles.{blank_of, no_store}
 use Rattle.handles.proofs.Laws.{store_facts, base_most}
-use Rattle.header.specs.declared.answers.Mounted.{Mounted}
 use Rattle.header.specs.Copies.{current_of, mount_of}
 use Rattle.header.specs.Header.{InRange}
 use Rattle.table.proofs.Tells.{Mapped}
@@ -124,7 +124,7 @@ beyond vol v st size same h =
     still (λ c g e. h.ranged c g (sym (copies c) ∙ e)) (stands_beyond size copies) (λ _ k l. same (body_at st k) (omega (arith, base_most st.copy))) h
 
 -- another writer
-served : (vol : List ℕ) (st : Store) (w : Writer) → Fitted vol st → Fitted vol (record { copy = st.copy; head = st.head; writer = w; free = st.free })
+served : (vol : List ℕ) (st : Store) (w : Option Writer) → Fitted vol st → Fitted vol (record { copy = st.copy; head = st.head; writer = w; free = st.free })
 served vol st w h =
     record { ranged = h.ranged; count = h.count; ok = h.ok; stands = h.stands; map = mapped_kept refl (links_stay vol st vol _ refl refl (λ k l. refl)) refl h.map }
 

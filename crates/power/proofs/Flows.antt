@@ -9,7 +9,7 @@ use Rattle.medium.specs.declared.Error.{Error}
 use Rattle.medium.specs.declared.Medium.{Medium}
 use Rattle.medium.specs.Sector.{Readable}
 use Rattle.handles.specs.declared.Store.{Store}
-use Rattle.handles.specs.declared.Writer.TheVariants.{Open}
+use Rattle.handles.specs.Handles.{opened_by}
 use Rattle.plan.specs.Copy.{Step, Distinct}
 use Rattle.append.specs.declared.Appender.{Appender}
 use Rattle.append.specs.Flush.{AppOut, stopped, done, after, and_then}
@@ -33,7 +33,7 @@ book_after t steps b = entered_all t (kinds_of steps) b
 pub record Live (t : Terms) (vol : List ℕ) (m : Medium) (st : Store) (a : Appender) (G : ℕ → List Segment) (b : Fine) : Type 0 where
   pub whole : Whole vol st G b
   pub readable : Readable vol m
-  pub writer : st.writer ≡ Open a.token a.id
+  pub writer : st.writer ≡ opened_by a.token a.id
   pub spared : t.spared ≡ some a.id
   pub dir : t.dir ≡ b.rollover
 

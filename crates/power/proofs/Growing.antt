@@ -16,8 +16,7 @@ use Rattle.medium.specs.declared.Medium.{Medium}
 use Rattle.medium.proofs.Laws.{on_done_done, on_done_keeps}
 use Rattle.handles.specs.declared.Header.{Header}
 use Rattle.handles.specs.declared.Store.{Store}
-use Rattle.handles.specs.declared.Writer.TheVariants.{Open}
-use Rattle.handles.specs.Handles.{is_open, open_id, table_of, open_file}
+use Rattle.handles.specs.Handles.{is_open, open_id, table_of, open_file, opened_by}
 use Rattle.table.specs.Table.{on_pick}
 use Rattle.table.specs.Free.{free_of}
 use Rattle.plan.specs.declared.Edit.{Edit}
@@ -122,7 +121,7 @@ pub record Grown (w : World) (left : ℕ) : Type 0 where
   pub size : (ran w (sync left)).world.store.head.chunk ≡ w.store.head.chunk
   pub generation : (ran w (sync left)).world.store.head.generation ≡ w.store.head.generation + 2
 
-module _ {w : World} {b : Book} (k : Booked w b) (left : ℕ) (writer : w.store.writer ≡ Open w.appender.token w.appender.id)
+module _ {w : World} {b : Book} (k : Booked w b) (left : ℕ) (writer : w.store.writer ≡ opened_by w.appender.token w.appender.id)
     (takes : TakesChunk w.appender.tail w.store.head.chunk) (some_bytes : b.unwritten ≡ [] → ⊥) where
   abbrev a : Appender
   a = w.appender

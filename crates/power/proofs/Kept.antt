@@ -1,5 +1,6 @@
 -- What every commit, every record and every mount and format keeps, every history keeps, on any volume: its calls may be accepted, refused or stopped, and
 -- the appender at its start and every reader any. Assumes nothing.
+use Rattle.std.specs.Prelude.{None, Option}
 use Prim.Native.Nat.{ℕ}
 use mathlib.Core.Path.{◌≡◌, refl, sym, ap, ◌∙◌}
 use mathlib.Core.Bool.{true, false, true≢false, false≢true}
@@ -11,12 +12,10 @@ use Rattle.medium.specs.Refusal.{Answer, ok, refused, outcome_of}
 use Rattle.medium.proofs.Laws.{on_done_keeps}
 use Rattle.handles.specs.declared.Store.{Store}
 use Rattle.handles.specs.declared.Writer.{Writer}
-use Rattle.handles.specs.declared.Writer.TheVariants.{Nobody}
-use Rattle.handles.specs.Handles.{no_store, is_open, open_file}
+use Rattle.handles.specs.Handles.{no_store, is_open, open_file, open_id}
 use Rattle.directory.specs.Scan.{find_of}
 use Rattle.directory.proofs.Ranges.{find_name}
 use Rattle.directory.proofs.Decides.{on_found_keeps}
-use Rattle.header.specs.declared.answers.Mounted.{Mounted}
 use Rattle.header.specs.Copies.{current_of, mount_of}
 use Rattle.plan.specs.Copy.{Skipped, Step, deleted, Out, steps_of}
 use Rattle.format.specs.Format.{format_of}
@@ -40,13 +39,13 @@ ok_keeps K (ok x) new old p q = p refl
 ok_keeps K (refused n) new old p q = q refl
 
 -- a mount gives a store without a writer, and of one nothing is asked
-pub mount_closed : (vol : List ℕ) (m : Medium) → (mount_call vol m).store.writer ≡ Nobody
+pub mount_closed : (vol : List ℕ) (m : Medium) → (mount_call vol m).store.writer ≡ None
 unfolding mount_call mount_of no_store
 mount_closed vol m =
-    let none = on_done_keeps (λ (r : Mounted). r.store.writer ≡ Nobody) (current_of vol m).outcome _ _ (λ _. refl) (λ _ _. refl) in
-    on_done_keeps (λ (s : Store). s.writer ≡ Nobody) (mount_of vol m).outcome _ _ (λ _. none) (λ _ _. none)
+    let none = on_done_keeps (λ (r : Mounted). r.store.writer ≡ None) (current_of vol m).outcome _ _ (λ _. refl) (λ _ _. refl) in
+    on_done_keeps (λ (s : Store). s.writer ≡ None) (mount_of vol m).outcome _ _ (λ _. none) (λ _ _. none)
 
-pub unopened : {x : Writer} {Q : Type 0} → x ≡ Nobody → is_open x ≡ true → Q
+pub unopened : {x : (Option Writer)} {Q : Type 0} → x ≡ None → is_open x ≡ true → Q
 unopened e t = absurd (false≢true (sym (ap is_open e) ∙ t))
 
 module _ {P : Skipped → Type 0} {L : List ℕ → Store → Type 0} (rules : Lasts P L) where

@@ -1,4 +1,5 @@
 -- What has to be kept by each commit, record, mount and format, on any volume; and that a file's removal keeps it then. Assumes nothing.
+use Rattle.std.specs.Prelude.{None, Option, Some, Err, Ok, Result}
 use Prim.Native.Nat.{ℕ, ◌-◌, ◌^◌, ◌≤◌, ◌<◌}
 use mathlib.Core.Path.{◌≡◌, refl, sym, ap, ◌∙◌}
 use mathlib.Core.Bool.{Bool, true, false}
@@ -14,7 +15,6 @@ use Rattle.medium.specs.Sector.{sectors_of, sector_at}
 use Rattle.medium.proofs.Laws.{on_done_keeps}
 use Rattle.handles.specs.declared.Store.{Store}
 use Rattle.handles.specs.declared.Writer.{Writer}
-use Rattle.handles.specs.declared.Writer.TheVariants.{Nobody, Open}
 use Rattle.handles.specs.Handles.{store_ok, is_open}
 use Rattle.handles.proofs.Laws.{store_facts}
 use Rattle.directory.specs.Scan.{oldest_of}
@@ -85,10 +85,10 @@ unfolding EachStep
 step_due P kind o each d = (rw (steps_done kind o d) at each).0
 
 -- a writer that is left was there
-left_open : (id : ℕ) (x : Writer) → is_open (writer_without id x) ≡ true → is_open x ≡ true
+left_open : (id : ℕ) (x : Option Writer) → is_open (writer_without id x) ≡ true → is_open x ≡ true
 unfolding writer_without
-left_open id Nobody t = t
-left_open id (Open token held) t = refl
+left_open id None t = t
+left_open id (Some w) t = refl
 
 module _ {P : Skipped → Type 0} {L : List ℕ → Store → Type 0} (rules : Lasts P L) where
   pub good_of : (vol : List ℕ) (st : Store) → L vol st → store_ok st (sectors_of vol) ≡ true → Good vol st

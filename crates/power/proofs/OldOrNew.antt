@@ -1,4 +1,5 @@
 -- 02, S-7: after a format, refused or accepted, a mount gives the old store or the new. Assumes nothing.
+use Rattle.std.specs.Prelude.{None}
 use Rattle.std.specs.Prelude.{Err, Ok, Result}
 use Rattle.medium.specs.declared.Error.{Error}
 use mathlib.Core.Path.{◌≡◌, refl, sym, ◌∙◌, subst, ap}
@@ -13,13 +14,11 @@ use Rattle.medium.specs.Refusal.{on_done, ok}
 use Rattle.medium.specs.Sector.{sectors_of, sector_at}
 use Rattle.medium.proofs.Laws.{done_told, not_done, on_done_done}
 use Rattle.handles.specs.declared.Store.{Store}
-use Rattle.handles.specs.declared.Writer.TheVariants.{Nobody}
 use Rattle.handles.specs.Body.{body_at}
 use Rattle.handles.specs.Handles.{table_of, body_of, base_of}
 use Rattle.handles.proofs.Laws.{sane_facts}
 use Rattle.header.specs.declared.answers.Copies.{Copies}
 use Rattle.header.specs.declared.answers.Current.{Current}
-use Rattle.header.specs.declared.answers.Mounted.{Mounted}
 use Rattle.header.specs.Header.{Bytes}
 use Rattle.header.specs.Copies.{is_ours, copy_of, both_of, takes_b, taken_of, choice_of, current_of, mount_of}
 use Rattle.header.proofs.Accepted.{copy_valid, copy_sane, mount_current}
@@ -41,17 +40,17 @@ use Rattle.power.specs.OldOrNew.{MountGives, SameReadings, OldOrNew, AfterFormat
 use Rattle.freemap.specs.declared.FreeMap.{FreeMap}
 
 -- mount gives the store whose copy stands
-stands_gives : (vol : List ℕ) (st : Store) → st.writer ≡ Nobody → Stands vol st.copy st.head → MountGives vol st
+stands_gives : (vol : List ℕ) (st : Store) → st.writer ≡ None → Stands vol st.copy st.head → MountGives vol st
 unfolding mount_call on_done
 stands_gives vol st w s u r =
     rw (stands_mount vol st.head u r.0 r.1 st.copy s, sym w)
     (ap (λ (x : FreeMap). record { answer = ok tt; store = record { copy = st.copy; head = st.head; writer = st.writer; free = x }; medium = u }) (map_again vol u st _ refl refl))
 
 -- and the store of an accepted mount is one
-pub mount_stands : (vol : List ℕ) (u : Medium) → (mount_of vol u).outcome ≡ Ok tt → ((mount_of vol u).store.writer ≡ Nobody) × Stands vol (mount_of vol u).store.copy (mount_of vol u).store.head
+pub mount_stands : (vol : List ℕ) (u : Medium) → (mount_of vol u).outcome ≡ Ok tt → ((mount_of vol u).store.writer ≡ None) × Stands vol (mount_of vol u).store.copy (mount_of vol u).store.head
 mount_stands vol u q =
     let t = mount_current vol u q in
-    subst (λ (r : Mounted). (r.store.writer ≡ Nobody) × Stands vol r.store.copy r.store.head) (sym t.1) (refl, current_stands vol u t.0)
+    subst (λ (r : Mounted). (r.store.writer ≡ None) × Stands vol r.store.copy r.store.head) (sym t.1) (refl, current_stands vol u t.0)
 
 -- a store whose body and data sectors are as they were reads as it did
 old_reads : {vol v : List ℕ} {st : Store} → Stands vol st.copy st.head → length v ≡ length vol
@@ -68,7 +67,7 @@ old_reads {vol} {v} {st} s size held records =
       seek = λ m. seek_frame vol v m st size links records;
     }
 
-module _ (vol : List ℕ) (m : Medium) (size seed : ℕ) (st : Store) (w : st.writer ≡ Nobody) (stands : Stands vol st.copy st.head) (bytes : Bytes vol) where
+module _ (vol : List ℕ) (m : Medium) (size seed : ℕ) (st : Store) (w : st.writer ≡ None) (stands : Stands vol st.copy st.head) (bytes : Bytes vol) where
   abbrev out : Out
   out = format_of size seed vol m
 

@@ -1,4 +1,5 @@
 -- The oldest file of a directory removed, as a step: refused, none there, or gone, and then it is the file that the book's list loses. Assumes nothing.
+use Rattle.std.specs.Prelude.{None, Option, Some, Err, Ok}
 use Prim.Native.Nat.{ℕ, ◌<◌}
 use mathlib.Core.Path.{◌≡◌, refl, sym}
 use mathlib.Core.Logic.{◌≢◌}
@@ -17,8 +18,7 @@ use Rattle.medium.specs.Sector.{Readable}
 use Rattle.medium.proofs.Laws.{on_done_keeps}
 use Rattle.handles.specs.declared.Store.{Store}
 use Rattle.handles.specs.declared.Writer.{Writer}
-use Rattle.handles.specs.declared.Writer.TheVariants.{Nobody, Open}
-use Rattle.handles.specs.Handles.{open_file}
+use Rattle.handles.specs.Handles.{open_file, is_open, open_id}
 use Rattle.directory.specs.declared.Old.{Old}
 use Rattle.directory.specs.Entry.{entry_at}
 use Rattle.directory.specs.Scan.{oldest_of}
@@ -39,9 +39,9 @@ use Rattle.power.proofs.Unmade.{Unmade}
 use Rattle.power.proofs.Removing.{Gone, remove_stopped, remove_made}
 
 -- what spares the open file spares the one that the book is fed
-pub spared_open : (w : Writer) → spared_by (open_file w) ≡ open_of w
-spared_open Nobody = refl
-spared_open (Open token id) = refl
+pub spared_open : (w : Option Writer) → spared_by (open_file w) ≡ open_of w
+spared_open None = refl
+spared_open (Some w) = refl
 
 -- the file that went
 pub record Went (vol : List ℕ) (m : Medium) (st : Store) (G : ℕ → List Segment) (b : Fine) (dir : List ℕ) (spared : StdOption ℕ) (g : GoneOut) : Type 0 where

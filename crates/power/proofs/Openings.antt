@@ -18,8 +18,8 @@ use Rattle.medium.specs.declared.Medium.{Medium}
 use Rattle.medium.specs.Refusal.{outcome_of, on_done}
 use Rattle.medium.proofs.Laws.{on_done_keeps}
 use Rattle.handles.specs.declared.Store.{Store}
-use Rattle.handles.specs.declared.Writer.TheVariants.{Open}
 use Rattle.directory.proofs.Decides.{on_free_keeps, on_looked_keeps}
+use Rattle.handles.specs.Handles.{opened_by}
 use Rattle.table.specs.Free.{free_of}
 use Rattle.table.proofs.Decides.{on_pick_keeps}
 use Rattle.plan.specs.declared.Edit.TheVariants.{Create}
@@ -98,7 +98,7 @@ module _ (rules : Rules) (w : World) (b : Fine) (k : Keeps w b) (left : ℕ) (na
 
 record Made (o : AppOut) : Type 0 where
   kinds : o.ans.outcome ≡ Ok tt → kinds_of o.steps ≡ created ∷ []
-  writer : o.ans.outcome ≡ Ok tt → o.ans.store.writer ≡ Open o.ans.appender.token o.ans.appender.id
+  writer : o.ans.outcome ≡ Ok tt → o.ans.store.writer ≡ opened_by o.ans.appender.token o.ans.appender.id
   live : o.ans.outcome ≡ Ok tt → is_closed o.ans.appender.tail ≡ false
   fill : o.ans.outcome ≡ Ok tt → o.ans.appender.fill ≡ 0
   none : (e : Error) → o.ans.outcome ≡ Err e → kinds_of o.steps ≡ []

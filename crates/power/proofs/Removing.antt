@@ -1,5 +1,6 @@
 -- A file's removal as a step, whatever the writes left: refused, all is as it was; accepted, the book without the file, and its appender open no more.
 -- Assumes nothing.
+use Rattle.std.specs.Prelude.{None, Option, Some}
 use Rattle.std.specs.Prelude.{Err, Ok}
 use Prim.Native.Nat.{ℕ, ◌-◌, ◌<◌}
 use mathlib.Core.Path.{◌≡◌, refl, ap as cong, sym, ◌∙◌, subst}
@@ -15,7 +16,6 @@ use Rattle.medium.specs.declared.Medium.{Medium}
 use Rattle.medium.proofs.Laws.{on_done_keeps}
 use Rattle.handles.specs.declared.Store.{Store}
 use Rattle.handles.specs.declared.Writer.{Writer}
-use Rattle.handles.specs.declared.Writer.TheVariants.{Nobody, Open}
 use Rattle.header.specs.Header.{with_crcs}
 use Rattle.append.specs.declared.Appender.{Appender}
 use Rattle.plan.specs.declared.Edit.TheVariants.{Remove}
@@ -63,13 +63,13 @@ pub record Gone (vol : List ℕ) (m : Medium) (st : Store) (G : ℕ → List Seg
 
 -- ---- the appender through it
 
-writes_without : (id : ℕ) (w : Writer) (ap : Appender) {P Q : Type 0} → (ap.id ≢ id → P → Q) → Writes w ap P → Writes (writer_without id w) ap Q
+writes_without : (id : ℕ) (w : Option Writer) (ap : Appender) {P Q : Type 0} → (ap.id ≢ id → P → Q) → Writes w ap P → Writes (writer_without id w) ap Q
 unfolding writer_without
-writes_without id Nobody ap f h = tt
-writes_without id (Open token held) ap {P} {Q} f h =
-    pick_keeps_by (λ (x : Writer). Writes x ap Q) (eqb held id) Nobody (Open token held)
+writes_without id None ap f h = tt
+writes_without id (Some w) ap {P} {Q} f h =
+    pick_keeps_by (λ (x : Option Writer). Writes x ap Q) (eqb w.id id) None (Some w)
     (λ e. tt)
-    (λ e. (h.0, h.1, λ c. f (λ q. eqb-false held id e (h.1 ∙ q)) (h.2 c)))
+    (λ e. (h.0, h.1, λ c. f (λ q. eqb-false w.id id e (h.1 ∙ q)) (h.2 c)))
 
 module _ {vol : List ℕ} {m : Medium} {st : Store} {G : ℕ → List Segment} {b : Fine} {s : ℕ} {name : List ℕ} {id : ℕ} {v : List ℕ} {u : Medium} {t : Store}
     (g : Gone vol m st G b s name id v u t) where
@@ -84,7 +84,7 @@ module _ {vol : List ℕ} {m : Medium} {st : Store} {G : ℕ → List Segment} {
   gone_owns {ap} files o =
       record {
         writes =
-            subst (λ (x : Writer). Writes x ap (Stands v t ap (replaced G s []) (with_files files b) [] × (ap.fill < 486))) (sym g.writer)
+            subst (λ (x : Option Writer). Writes x ap (Stands v t ap (replaced G s []) (with_files files b) [] × (ap.fill < 486))) (sym g.writer)
             (writes_without id st.writer ap (λ n p. (gone_stands files n p.0, p.1)) o.writes);
       }
 

@@ -1,5 +1,6 @@
 -- What append, sync and delete give in a history, where it can be told: an appender keeps fewer bytes than a record takes, and where its chunk has room a
 -- sync writes them by one write; and a delete with one write left makes no step. Assumes nothing.
+use Rattle.std.specs.Prelude.{Option}
 use Rattle.std.specs.Prelude.{Err, Ok}
 use Prim.Native.Nat.{ℕ, zero, suc, ◌+◌, ◌≤◌, ◌<◌}
 use mathlib.Core.Path.{◌≡◌, refl, ap, subst, ◌∙◌}
@@ -15,8 +16,8 @@ use Rattle.medium.specs.declared.Error.{Error}
 use Rattle.medium.specs.declared.Medium.{Medium}
 use Rattle.medium.proofs.Laws.{on_done_keeps, on_done_no, on_done_done}
 use Rattle.handles.specs.declared.Store.{Store}
+use Rattle.handles.specs.Handles.{opened_by}
 use Rattle.handles.specs.declared.Writer.{Writer}
-use Rattle.handles.specs.declared.Writer.TheVariants.{Open}
 use Rattle.directory.proofs.Decides.{on_found_keeps}
 use Rattle.plan.specs.declared.Edit.TheVariants.{Remove}
 use Rattle.plan.specs.Copy.{Kind, deleted, recorded, Out, steps_of, refused_out}
@@ -41,10 +42,10 @@ use Rattle.power.proofs.Appends.{stands_may}
 -- ---- an appender that the store has open, and that is not closed
 
 pub record Opened (w : World) : Type 0 where
-  pub writer : w.store.writer ≡ Open w.appender.token w.appender.id
+  pub writer : w.store.writer ≡ opened_by w.appender.token w.appender.id
   pub live : is_closed w.appender.tail ≡ false
 
-own_token : (token id : ℕ) → writes (Open token id) token ≡ true
+own_token : (token id : ℕ) → writes (opened_by token id) token ≡ true
 unfolding writes
 own_token token id = eq-eqb token token refl
 
@@ -62,10 +63,10 @@ flush_done vol m st a q d = rw q (on_done_done _ _ d)
 module _ {w : World} {b : Fine} (k : Keeps w b) (y : Opened w) where
   pub stands : Stands w.vol w.store w.appender k.layout b [] × (w.appender.fill < 486)
   stands =
-      (subst (λ (x : Writer). Writes x w.appender (Stands w.vol w.store w.appender k.layout b [] × (w.appender.fill < 486))) y.writer k.owns.writes).2 y.live
+      (subst (λ (x : Option Writer). Writes x w.appender (Stands w.vol w.store w.appender k.layout b [] × (w.appender.fill < 486))) y.writer k.owns.writes).2 y.live
 
   pub may : may_write w.vol w.store w.appender ≡ Ok tt
-  may = stands_may k.whole stands.0 stands.1 (Open w.appender.token w.appender.id) y.writer (own_token w.appender.token w.appender.id) y.live
+  may = stands_may k.whole stands.0 stands.1 (opened_by w.appender.token w.appender.id) y.writer (own_token w.appender.token w.appender.id) y.live
 
   pub some_kept : (b.unwritten ≡ [] → ⊥) → 1 ≤ w.appender.fill
   some_kept = some_bytes w.appender.buffer w.appender.fill stands.0.unwritten
@@ -93,7 +94,7 @@ module _ {w : World} {b : Fine} (k : Keeps w b) (y : Opened w) where
 -- ---- one whose next record is number i of its chunk, with n bytes unwritten
 
 pub record Ready (w : World) (i n : ℕ) : Type 0 where
-  pub writer : w.store.writer ≡ Open w.appender.token w.appender.id
+  pub writer : w.store.writer ≡ opened_by w.appender.token w.appender.id
   pub tail : w.appender.tail ≡ At i
   pub fill : w.appender.fill ≡ n
 

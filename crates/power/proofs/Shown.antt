@@ -1,4 +1,5 @@
 -- The end of demand 3: a volume on which the invariant holds is mounted, lists exactly the book's files, and gives the payloads of each. Assumes nothing.
+use Rattle.std.specs.Prelude.{None}
 use Rattle.std.specs.Prelude.{Ok, Result}
 use Prim.Native.Nat.{ℕ, ◌*◌, ◌≤◌, ◌<◌}
 use mathlib.Core.Path.{◌≡◌, refl, sym, ap, subst, ◌∙◌}
@@ -18,7 +19,6 @@ use Rattle.medium.specs.declared.Medium.{Medium}
 use Rattle.medium.specs.Refusal.{ok, refused, on_done}
 use Rattle.medium.specs.Sector.{Readable}
 use Rattle.handles.specs.declared.Store.{Store}
-use Rattle.handles.specs.declared.Writer.TheVariants.{Nobody}
 use Rattle.directory.specs.Rows.{row_of, RowsOut, rows_of, rows_told}
 use Rattle.directory.specs.Scan.{on_found}
 use Rattle.table.specs.declared.ChainParts.{ChainParts}
@@ -64,13 +64,13 @@ use Rattle.freemap.specs.declared.FreeMap.{FreeMap}
 
 -- the store value that mount gives: no one writes to it
 abbrev pub as_mounted : List ℕ → Medium → Store → Store
-as_mounted vol m st = record { copy = st.copy; head = st.head; writer = Nobody; free = map_at vol m st }
+as_mounted vol m st = record { copy = st.copy; head = st.head; writer = None; free = map_at vol m st }
 
 pub mount_gives : (vol : List ℕ) (m : Medium) (st : Store) → Inv vol st → Readable vol m → mount_call vol m ≡ record { answer = ok tt; store = as_mounted vol m st; medium = m }
 unfolding mount_call on_done
 mount_gives vol m st inv r =
     rw (inv_mount vol m st inv r)
-    (ap (λ (x : FreeMap). record { answer = ok tt; store = record { copy = st.copy; head = st.head; writer = Nobody; free = x }; medium = m }) (map_again vol m st _ refl refl))
+    (ap (λ (x : FreeMap). record { answer = ok tt; store = record { copy = st.copy; head = st.head; writer = None; free = x }; medium = m }) (map_again vol m st _ refl refl))
 
 pub whole_mounted : {vol : List ℕ} {st : Store} {G : ℕ → List Segment} {b : Fine} (m : Medium) → Whole vol st G b → Whole vol (as_mounted vol m st) G b
 unfolding link_part

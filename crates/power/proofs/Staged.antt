@@ -14,7 +14,7 @@ use Rattle.le.specs.Choice.{pick}
 use Rattle.medium.specs.declared.Medium.{Medium}
 use Rattle.medium.specs.Sector.{sectors_of}
 use Rattle.handles.specs.declared.Store.{Store}
-use Rattle.handles.specs.declared.Writer.TheVariants.{Open}
+use Rattle.handles.specs.Handles.{opened_by}
 use Rattle.plan.specs.Copy.{Kind, formatted, created, recorded, rolled_over, extended, Step, Distinct}
 use Rattle.format.specs.Format.{chunks_of, format_of}
 use Rattle.format.proofs.Numbers.{chunks_most}
@@ -133,7 +133,7 @@ module _ {w : World} {b : Book} {n : ℕ} (s : Stage w b n) where
       record {
         tells = (t.0, rw t.1 refl);
         ready = record {
-          writer = ap (λ (t : Store). t.writer) l.0 ∙ y.writer ∙ sym (ap (λ (a : Appender). Open a.token a.id) l.1);
+          writer = ap (λ (t : Store). t.writer) l.0 ∙ y.writer ∙ sym (ap (λ (a : Appender). opened_by a.token a.id) l.1);
           tail = ap (λ (a : Appender). a.tail) l.1;
           fill = ap (λ (a : Appender). a.fill) l.1;
         };

@@ -1,4 +1,5 @@
 -- What a refused commit leaves: the store, its files and the appender's place are as they were. Assumes nothing.
+use Rattle.std.specs.Prelude.{None, Option, Some}
 use Prim.Native.Nat.{ℕ, ◌<◌}
 use mathlib.Core.Path.{◌≡◌, refl, ap as cong, sym, ◌∙◌, subst}
 use mathlib.Core.List.{List, []}
@@ -6,7 +7,6 @@ use lib.ListN.{length}
 use Rattle.medium.specs.declared.Medium.{Medium}
 use Rattle.handles.specs.declared.Store.{Store}
 use Rattle.handles.specs.declared.Writer.{Writer}
-use Rattle.handles.specs.declared.Writer.TheVariants.{Nobody, Open}
 use Rattle.append.specs.declared.Appender.{Appender}
 use Rattle.plan.specs.Copy.{Out}
 use Rattle.layout.specs.Segments.{Segment}
@@ -60,9 +60,9 @@ stands_kept s e size g f r u =
       unwritten = u ∙ s.unwritten;
     }
 
-pub writes_map : (w : Writer) (ap : Appender) {P Q : Type 0} → (P → Q) → Writes w ap P → Writes w ap Q
-writes_map Nobody ap f h = tt
-writes_map (Open token id) ap f h = (h.0, h.1, λ c. f (h.2 c))
+pub writes_map : (w : Option Writer) (ap : Appender) {P Q : Type 0} → (P → Q) → Writes w ap P → Writes w ap Q
+writes_map None ap f h = tt
+writes_map (Some w) ap f h = (h.0, h.1, λ c. f (h.2 c))
 
 -- ---- a commit refused
 
@@ -87,7 +87,7 @@ module _ {vol : List ℕ} {m : Medium} {st : Store} {G : ℕ → List Segment} {
   unmade_owns {ap} o =
       record {
         writes =
-            subst (λ (x : Writer). Writes x ap (Stands v t ap G b [] × (ap.fill < 486))) (cong (λ (x : Store). x.writer) (sym n.store))
+            subst (λ (x : Option Writer). Writes x ap (Stands v t ap G b [] × (ap.fill < 486))) (cong (λ (x : Store). x.writer) (sym n.store))
             (writes_map st.writer ap (λ p. (unmade_stands p.0, p.1)) o.writes);
       }
 

@@ -1,5 +1,6 @@
 -- The invariant of demand 3: what holds between the calls of a history of the volume, the store value, the appender and the book. It speaks of a
 -- layout G, which segments the file of each slot has, that stands nowhere in the store.
+use Rattle.std.specs.Prelude.{None, Option, Some}
 use Prim.Native.Nat.{ℕ, ◌+◌, ◌<◌, ◌≤◌}
 use mathlib.Core.Path.{◌≡◌, ap}
 use mathlib.Core.Logic.{◌≢◌}
@@ -12,7 +13,6 @@ use Rattle.medium.specs.Sector.{Readable}
 use Rattle.names.specs.Names.{dir_ok}
 use Rattle.handles.specs.declared.Store.{Store}
 use Rattle.handles.specs.declared.Writer.{Writer}
-use Rattle.handles.specs.declared.Writer.TheVariants.{Nobody, Open}
 use Rattle.append.specs.declared.Appender.{Appender}
 use Rattle.append.specs.declared.Tail.{Tail}
 use Rattle.append.specs.declared.Tail.TheVariants.{At, Reopened, Closed}
@@ -79,9 +79,9 @@ pub record Stands (vol : List ℕ) (st : Store) (ap : Appender) (G : ℕ → Lis
   pub unwritten : b.unwritten ≡ part 0 ap.fill ap.buffer ++ rest
 
 -- the store has no writer, or its writer is this appender; and unless it is closed it stands. Its fill is that of a record not yet full
-abbrev pub Writes : Writer → Appender → Type 0 → Type 0
-Writes Nobody ap P = Unit {0}
-Writes (Open token id) ap P = (token ≡ ap.token) × (id ≡ ap.id) × (is_closed ap.tail ≡ false → P)
+abbrev pub Writes : Option Writer → Appender → Type 0 → Type 0
+Writes None ap P = Unit {0}
+Writes (Some w) ap P = (w.token ≡ ap.token) × (w.id ≡ ap.id) × (is_closed ap.tail ≡ false → P)
 
 pub record Owns (vol : List ℕ) (st : Store) (ap : Appender) (G : ℕ → List Segment) (b : Fine) : Type 0 where
   pub writes : Writes st.writer ap (Stands vol st ap G b [] × (ap.fill < 486))

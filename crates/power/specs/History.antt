@@ -2,6 +2,7 @@
 -- is what the definitions say that the contracts of the calls cite, and nothing else: mount_call, format_call, create_call, open_call, append_call,
 -- sync_call, delete_call, oldest_call, list_call, find_call, reader_call, next_call and seek_call; and for the creates and openings from before S-5 what their
 -- contracts cited then, create_earlier and open_earlier. They may be mixed with later ones in any order. Assumes nothing.
+use Rattle.std.specs.Prelude.{None, Option as Open, Some}
 use Rattle.std.specs.Prelude.{ℕ, ◌<◌, ◌≡◌, Bool, true, false, List, [], ◌∷◌, map}
 use Rattle.std.proofs.Math.Option.{Option, none, some}
 use Rattle.medium.specs.declared.Medium.{Medium}
@@ -9,7 +10,6 @@ use Rattle.medium.specs.Refusal.{Answer, ok, refused}
 use Rattle.medium.specs.Sector.{sector_at, Readable}
 use Rattle.handles.specs.declared.Store.{Store}
 use Rattle.handles.specs.declared.Writer.{Writer}
-use Rattle.handles.specs.declared.Writer.TheVariants.{Nobody, Open}
 use Rattle.record.specs.Record.{carries_of, data_at}
 use Rattle.plan.specs.Copy.{Skipped, EachSkipped, Step}
 use Rattle.append.specs.declared.Appender.{Appender}
@@ -142,9 +142,9 @@ ran w (query q) = answered w q
 -- ---- the book of a history
 
 -- the open file is the writer's in the store value that the call is given
-abbrev pub open_of : Writer → Option ℕ
-open_of Nobody = none
-open_of (Open token id) = some id
+abbrev pub open_of : Open Writer → Option ℕ
+open_of None = none
+open_of (Some w) = some w.id
 
 unfoldable pub fed_by : World → Call → Fed
 fed_by w c = record { accepted = (ran w c).accepted; kinds = map (λ (s : Step). s.kind) (ran w c).steps; open_file = open_of w.store.writer }

@@ -1,4 +1,5 @@
 -- What removing keeps, accepted or refused: what a caller goes on with. Assumes nothing.
+use Rattle.std.specs.Prelude.{None, Option, Some}
 use mathlib.Core.Path.{◌≡◌, refl, sym, ap, ◌∙◌}
 use mathlib.Core.Bool.{Bool, true, false, ◌&&◌}
 use mathlib.Core.List.{List, []}
@@ -17,8 +18,7 @@ use Rattle.medium.proofs.Frame.{rest_of, spends_none, spends_more}
 use Rattle.medium.proofs.Stale.{NotStale}
 use Rattle.handles.specs.declared.Store.{Store}
 use Rattle.handles.specs.declared.Writer.{Writer}
-use Rattle.handles.specs.declared.Writer.TheVariants.{Nobody, Open}
-use Rattle.handles.specs.Handles.{store_ok, open_file}
+use Rattle.handles.specs.Handles.{store_ok, open_file, is_open, open_id}
 use Rattle.directory.specs.declared.Old.{Old}
 use Rattle.directory.specs.Scan.{oldest_of, spares}
 use Rattle.directory.proofs.Ranges.{oldest_file}
@@ -129,10 +129,10 @@ oldest_stands vol m st dir spared g = found_stands vol m st (oldest_of vol m st 
 
 -- ---- the open file is spared, and stays open
 
-without_spared : (w : Writer) (id : ℕ) → spares (open_file w) id ≡ false → writer_without id w ≡ w
+without_spared : (w : Option Writer) (id : ℕ) → spares (open_file w) id ≡ false → writer_without id w ≡ w
 unfolding writer_without
-without_spared Nobody id e = refl
-without_spared (Open token held) id e = pick_false _ _ (ne_eqb held id (λ q. eqb-false id held e (sym q)))
+without_spared None id e = refl
+without_spared (Some w) id e = pick_false _ _ (ne_eqb w.id id (λ q. eqb-false id w.id e (sym q)))
 
 abbrev SameWriter : Store → GoneOut → Type 0
 SameWriter st o = o.ans.store.writer ≡ st.writer

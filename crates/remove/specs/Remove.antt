@@ -9,7 +9,6 @@ use Rattle.medium.specs.declared.Medium.{Medium}
 use Rattle.medium.specs.Refusal.{on_done}
 use Rattle.handles.specs.declared.Store.{Store}
 use Rattle.handles.specs.declared.Writer.{Writer}
-use Rattle.handles.specs.declared.Writer.TheVariants.{Nobody, Open}
 use Rattle.directory.specs.Entry.{entry_at}
 use Rattle.directory.specs.Scan.{oldest_of}
 use Rattle.plan.specs.declared.Edit.TheVariants.{Remove}
@@ -18,9 +17,9 @@ use Rattle.commit.specs.Commit.{commit_of}
 use Rattle.remove.specs.declared.Gone.{Gone}
 
 -- the open appender, unless it is this file's
-unfoldable pub writer_without : ℕ → Writer → Writer
-writer_without id Nobody = Nobody
-writer_without id (Open token held) = pick (eqb held id) Nobody (Open token held)
+unfoldable pub writer_without : ℕ → Option Writer → Option Writer
+writer_without id None = None
+writer_without id (Some w) = pick (eqb w.id id) None (Some w)
 
 abbrev pub closed_for : ℕ → Store → Store
 closed_for id st = record { copy = st.copy; head = st.head; writer = writer_without id st.writer; free = st.free }

@@ -25,18 +25,11 @@ pub struct Gone {
 }
 
 // The open appender, unless it is this file's.
-fn writer_without(id: u32, writer: Writer) -> Writer
+fn writer_without(id: u32, writer: Option<Writer>) -> Option<Writer>
     ensures { result ≡ writer_without id writer }
 {
-    match writer {
-        Writer::Nobody => Writer::Nobody,
-        Writer::Open { token, id: open } => {
-            if open == id {
-                return Writer::Nobody;
-            }
-            Writer::Open { token, id: open }
-        }
-    }
+    let open = writer?;
+    if open.id == id { None } else { writer }
 }
 
 fn closed_for(id: u32, store: Store) -> Store

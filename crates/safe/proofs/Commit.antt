@@ -23,7 +23,6 @@ use Rattle.handles.specs.declared.Store.{Store}
 use Rattle.handles.specs.Handles.{base_of, store_ok}
 use Rattle.handles.proofs.Laws.{Held, store_facts}
 use Rattle.header.specs.declared.answers.Current.{Current}
-use Rattle.header.specs.declared.codec.Decoded.{Decoded}
 use Rattle.header.specs.declared.codec.Replica.TheVariants.{Absent}
 use Rattle.header.specs.Header.{ours, bare, InRange}
 use Rattle.header.specs.Copies.{is_ours, copy_of, taken_of, current_of}

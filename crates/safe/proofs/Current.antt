@@ -1,4 +1,5 @@
 -- The copy that stands on a volume is the one that mount takes, and the other way round. Assumes nothing.
+use Rattle.std.specs.Prelude.{None}
 use Rattle.std.specs.Prelude.{Ok}
 use mathlib.Core.Path.{◌≡◌, refl, ap, subst}
 use mathlib.Core.Bool.{Bool, true, false, not, ◌&&◌, ◌||◌}
@@ -19,7 +20,6 @@ use Rattle.medium.proofs.Laws.{on_done_keeps}
 use Rattle.freemap.specs.Map.{unfit_of}
 use Rattle.handles.specs.declared.Header.{Header}
 use Rattle.handles.specs.declared.Store.{Store}
-use Rattle.handles.specs.declared.Writer.TheVariants.{Nobody}
 use Rattle.handles.specs.Handles.{base_of}
 use Rattle.header.specs.declared.answers.Copies.{Copies}
 use Rattle.header.specs.declared.answers.Current.{Current}
@@ -74,7 +74,7 @@ module _ (vol : List ℕ) (h : Header) where
     unfolding current_of on_done
     stands_current c s = rw (stands_headers c s) (stands_choice c s)
 
-    pub stands_mount : (c : ℕ) → Stands vol c h → mount_of vol m ≡ record { outcome = Ok tt; store = record { copy = c; head = h; writer = Nobody; free = unfit_of } }
+    pub stands_mount : (c : ℕ) → Stands vol c h → mount_of vol m ≡ record { outcome = Ok tt; store = record { copy = c; head = h; writer = None; free = unfit_of } }
     unfolding mount_of taken_of on_done
     stands_mount c s = rw (stands_current c s)
 

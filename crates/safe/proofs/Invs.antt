@@ -1,4 +1,5 @@
 -- What holds between the calls: mount gives the store value, writing a record keeps it, and so does a copy written anew, by any plan. Assumes nothing.
+use Rattle.std.specs.Prelude.{None}
 use Rattle.std.specs.Prelude.{Err, Ok}
 use mathlib.Core.Path.{◌≡◌, sym, ap, ◌∙◌}
 use mathlib.Core.Bool.{true}
@@ -20,11 +21,9 @@ use Rattle.medium.proofs.Frame.{kept_sectors, write_kept}
 use Rattle.freemap.specs.Map.{unfit_of, map_ok}
 use Rattle.handles.specs.declared.Header.{Header}
 use Rattle.handles.specs.declared.Store.{Store}
-use Rattle.handles.specs.declared.Writer.TheVariants.{Nobody}
 use Rattle.handles.specs.Handles.{body_of, base_of, store_ok}
 use Rattle.handles.proofs.Laws.{Held, store_facts, store_ok_lem, base_most}
 use Rattle.handles.specs.Body.{body_at, check_of}
-use Rattle.header.specs.declared.codec.Decoded.{Decoded}
 use Rattle.header.specs.declared.codec.Replica.TheVariants.{Absent}
 use Rattle.header.specs.Header.{ours, bare, decode_of, Bytes}
 use Rattle.header.specs.Copies.{copy_of, same_store, mount_of}
@@ -55,7 +54,7 @@ pub inv_held : {vol : List ℕ} {st : Store} → Inv vol st → Held st (sectors
 inv_held {vol} {st} inv = store_facts st (sectors_of vol) inv.ok
 
 pub inv_mount : (vol : List ℕ) (m : Medium) (st : Store) → Inv vol st → Readable vol m
-    → mount_of vol m ≡ record { outcome = Ok tt; store = record { copy = st.copy; head = st.head; writer = Nobody; free = unfit_of } }
+    → mount_of vol m ≡ record { outcome = Ok tt; store = record { copy = st.copy; head = st.head; writer = None; free = unfit_of } }
 inv_mount vol m st inv r =
     let e : 64 ≤ sectors_of vol = (inv_held inv).enough in
     stands_mount vol st.head m (reads m vol r 0 (omega arith)) (reads m vol r 32 (omega arith)) st.copy inv.sound.stands

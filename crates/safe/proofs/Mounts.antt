@@ -1,4 +1,5 @@
 -- What mount takes after a copy was written anew, whatever the writes left: stopped, what it took before; finished, the new copy. Assumes nothing.
+use Rattle.std.specs.Prelude.{None}
 use Rattle.std.specs.Prelude.{Err, Ok}
 use mathlib.Core.Path.{◌≡◌, refl, sym, ap, ◌∙◌}
 use mathlib.Core.List.{List}
@@ -13,10 +14,8 @@ use Rattle.medium.specs.Frame.{Kept}
 use Rattle.medium.proofs.Frame.{kept_sectors}
 use Rattle.freemap.specs.Map.{unfit_of}
 use Rattle.handles.specs.declared.Header.{Header}
-use Rattle.handles.specs.declared.Writer.TheVariants.{Nobody}
 use Rattle.handles.specs.Handles.{base_of}
 use Rattle.handles.proofs.Laws.{base_most}
-use Rattle.header.specs.declared.codec.Decoded.{Decoded}
 use Rattle.header.specs.declared.codec.Replica.TheVariants.{Absent}
 use Rattle.header.specs.Header.{ours, bare, decode_of}
 use Rattle.header.specs.Copies.{is_ours, copy_of, mount_of}
@@ -122,5 +121,5 @@ module _ (p : Plan) (vol : List ℕ) (m : Medium) (good : Good p vol) where
 
   -- so mount gives it
   pub finished_mount : (u : Medium) → Newest p vol → (copy_out p vol m).ans.outcome ≡ Ok tt → read_of u 0 ≡ Ok tt → read_of u 32 ≡ Ok tt
-      → mount_of (copy_out p vol m).vol u ≡ record { outcome = Ok tt; store = record { copy = p.copy; head = (copy_out p vol m).ans.store.head; writer = Nobody; free = unfit_of } }
+      → mount_of (copy_out p vol m).vol u ≡ record { outcome = Ok tt; store = record { copy = p.copy; head = (copy_out p vol m).ans.store.head; writer = None; free = unfit_of } }
   finished_mount u new q a b = stands_mount _ _ u a b p.copy (finished_stands new q)

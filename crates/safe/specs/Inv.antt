@@ -1,5 +1,6 @@
 -- 01, "Header" and "Commit": what holds of a volume and of the store value on it between the calls, and what a commit and a format leave of it, by
 -- their ending. Assumes nothing.
+use Rattle.std.specs.Prelude.{None}
 use Rattle.std.specs.Prelude.{ℕ, ◌+◌, ◌-◌, ◌*◌, ◌^◌, ◌<◌, ◌≤◌, ◌≡◌, true, List, length}
 use Rattle.le.specs.Part.{zeros}
 use Rattle.medium.specs.declared.Medium.{Medium}
@@ -8,7 +9,6 @@ use Rattle.medium.specs.Frame.{Kept, Spends}
 use Rattle.freemap.specs.Map.{full_of}
 use Rattle.handles.specs.declared.Header.{Header}
 use Rattle.handles.specs.declared.Store.{Store}
-use Rattle.handles.specs.declared.Writer.TheVariants.{Nobody}
 use Rattle.handles.specs.Body.{body_at}
 use Rattle.handles.specs.Handles.{body_of, base_of, store_ok, no_store}
 use Rattle.header.specs.Copies.{copy_of, current_of}
@@ -85,7 +85,7 @@ pub record FormatStopped (vol : List ℕ) (m : Medium) (o : Out) : Type 0 where
 pub record FormatMade (chunk : ℕ) (vol : List ℕ) (m : Medium) (o : Out) : Type 0 where
   pub inv : Inv o.vol o.ans.store
   pub ranged : Ranged vol → Ranged o.vol
-  pub writer : o.ans.store.writer ≡ Nobody
+  pub writer : o.ans.store.writer ≡ None
   pub free : o.ans.store.free ≡ full_of o.ans.store.head.chunks
   pub next : o.ans.store.head.next_id ≡ 1
   pub cursor : o.ans.store.head.cursor ≡ 0

@@ -1,4 +1,5 @@
 -- The starred rows of 01's Edges hold. Assumes nothing.
+use Rattle.std.specs.Prelude.{None}
 use Rattle.std.specs.Prelude.{Err, Ok}
 use mathlib.Core.Path.{◌≡◌, ap, ◌∙◌}
 use mathlib.Core.Bool.{Bool, true, false, not, ◌&&◌, ◌||◌, and-false}
@@ -13,7 +14,6 @@ use Rattle.medium.specs.Sector.{sectors_of, read_of}
 use Rattle.freemap.specs.Map.{unfit_of}
 use Rattle.handles.specs.declared.Header.{Header}
 use Rattle.handles.specs.declared.Store.{Store}
-use Rattle.handles.specs.declared.Writer.TheVariants.{Nobody}
 use Rattle.handles.specs.Handles.{store_ok}
 use Rattle.header.specs.Header.{ours}
 use Rattle.header.specs.Copies.{copy_of}
@@ -71,7 +71,7 @@ module _ (vol : List ℕ) (m : Medium) (st : Store) (passes : store_ok st (secto
 
 module _ (vol : List ℕ) (m : Medium) (enough : 64 ≤ sectors_of vol) (a : read_of m 0 ≡ Ok tt) (b : read_of m 32 ≡ Ok tt) where
   equal : (x y : Header) → copy_of vol 0 ≡ ours x → copy_of vol 32 ≡ ours y → x.generation ≡ y.generation
-      → mount_call vol m ≡ record { answer = ok tt; store = filled_of vol m (record { copy = 0; head = x; writer = Nobody; free = unfit_of }); medium = m }
+      → mount_call vol m ≡ record { answer = ok tt; store = filled_of vol m (record { copy = 0; head = x; writer = None; free = unfit_of }); medium = m }
   unfolding mount_call on_done
   equal x y p q e = rw (equal_takes_a vol m enough a b x y p q e)
 

@@ -1,4 +1,5 @@
 -- 01, "Edges": the starred rows, made of the definitions. One statement has them all; proofs/Starred proves it. Assumes nothing.
+use Rattle.std.specs.Prelude.{None}
 use Rattle.std.specs.Prelude.{Ok}
 use Rattle.std.specs.Prelude.{ℕ, ◌+◌, ◌-◌, ◌/◌, ◌^◌, ◌≤◌, ◌<◌, ◌≡◌, Bool, true, false, List, [], ◌∷◌, ◌++◌, length, replicate}
 use Rattle.le.specs.Part.{zeros}
@@ -9,7 +10,6 @@ use Rattle.medium.specs.Sector.{sectors_of, read_of}
 use Rattle.freemap.specs.Map.{unfit_of}
 use Rattle.handles.specs.declared.Header.{Header}
 use Rattle.handles.specs.declared.Store.{Store}
-use Rattle.handles.specs.declared.Writer.TheVariants.{Nobody}
 use Rattle.handles.specs.Handles.{store_ok}
 use Rattle.header.specs.Header.{ours}
 use Rattle.header.specs.Copies.{copy_of, headers_of}
@@ -101,4 +101,4 @@ pub record Starred : Type 0 where
   -- equal generations: mount A
   pub equal : (vol : List ℕ) (m : Medium) → 64 ≤ sectors_of vol → read_of m 0 ≡ Ok tt → read_of m 32 ≡ Ok tt → (x y : Header)
       → copy_of vol 0 ≡ ours x → copy_of vol 32 ≡ ours y → x.generation ≡ y.generation
-      → mount_call vol m ≡ record { answer = ok tt; store = filled_of vol m (record { copy = 0; head = x; writer = Nobody; free = unfit_of }); medium = m }
+      → mount_call vol m ≡ record { answer = ok tt; store = filled_of vol m (record { copy = 0; head = x; writer = None; free = unfit_of }); medium = m }

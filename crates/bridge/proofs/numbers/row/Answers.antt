@@ -1,10 +1,10 @@
-use Rattle.bridge.specs.Numbers.{row_words}
+use mathlib.Core.List.{[], ◌∷◌}
+use Rattle.bridge.specs.Numbers.{row_words, flag_of}
+use Rattle.bridge.proofs.Rows.{words_of}
 use Rattle.bridge.proofs.numbers.row.Goals as goal
 
-pub returns-in-Nobody : goal.returns-in-Nobody
+pub returns : goal.returns
 unfolding row_words
-returns-in-Nobody c = rw (c.in-Nobody.is, c.flag-fit.ensures)
-
-pub returns-in-Open : goal.returns-in-Open
-unfolding row_words
-returns-in-Open c = rw (c.in-Open.is, c.flag-fit.ensures)
+returns c =
+    let s = c.args.s in
+    rw (c.writer_words.ensures, c.flag.ensures, words_of s.writer (flag_of s.free.fit ∷ []))

@@ -4,11 +4,13 @@
 mod answers;
 mod codec;
 
-ghost use Rattle.std.specs.Prelude.{◌≡◌, ◌<◌, ◌≤◌};
+ghost use Rattle.std.specs.Prelude.{◌≡◌, ◌||◌, ◌<◌, ◌≤◌};
+ghost use Rattle.le.specs.Choice.{pick};
+ghost use Rattle.medium.specs.declared.Error.TheVariants.{Corrupt, Uninitialized};
 ghost use Rattle.medium.specs.Sector.{sectors_of, write_of};
 ghost use Rattle.handles.specs.Handles.{base_of};
 ghost use Rattle.header.specs.Header.{encode_of, unmarked_of};
-ghost use Rattle.header.specs.Copies.{is_ours, read_copy, headers_of, takes_b, same_store, listed_of, taken_of};
+ghost use Rattle.header.specs.Copies.{is_ours, is_damaged, read_copy, headers_of, takes_b, same_store, listed_of, taken_of};
 ghost use Rattle.header.specs.Copies.{choice_of, current_of, mount_of};
 
 pub use answers::{Copies, Current};
@@ -22,6 +24,15 @@ pub fn is_ours(copy: Replica) -> bool
 {
     match copy {
         Replica::Ours(_) => true,
+        _ => false,
+    }
+}
+
+fn is_damaged(copy: Replica) -> bool
+    ensures { result ≡ is_damaged copy }
+{
+    match copy {
+        Replica::Damaged => true,
         _ => false,
     }
 }
@@ -55,9 +66,12 @@ pub fn headers(volume: &[u8], medium: Medium) -> Result<Copies, Error>
 pub fn takes_b(c: Copies) -> bool
     ensures { result ≡ takes_b c }
 {
-    match (c.a, c.b) {
-        (Replica::Ours(x), Replica::Ours(y)) => x.generation < y.generation,
-        (_, b) => is_ours(b),
+    match c.b {
+        Replica::Ours(y) => match c.a {
+            Replica::Ours(x) => x.generation < y.generation,
+            _ => true,
+        },
+        _ => false,
     }
 }
 
@@ -72,7 +86,13 @@ fn listed(head: Header, other: Replica) -> Option<[u32; 24]>
     ensures { result ≡ listed_of head other }
 {
     match other {
-        Replica::Ours(theirs) if same_store(head, theirs) => Some(theirs.crcs),
+        Replica::Ours(theirs) => {
+            if same_store(head, theirs) {
+                Some(theirs.crcs)
+            } else {
+                None
+            }
+        }
         _ => None,
     }
 }
@@ -87,14 +107,35 @@ fn taken(copy: u64, head: Header, other: Replica) -> Current
     }
 }
 
+// Why no copy is taken, where none is valid.
+fn refusal(c: Copies) -> Error
+    ensures { result ≡ pick (is_damaged c.a || is_damaged c.b) Corrupt Uninitialized }
+{
+    if is_damaged(c.a) | is_damaged(c.b) {
+        Error::Corrupt
+    } else {
+        Error::Uninitialized
+    }
+}
+
 fn choice(c: Copies) -> Result<Current, Error>
     ensures { result ≡ choice_of c }
 {
-    match (c.a, c.b) {
-        (a, Replica::Ours(head)) if takes_b(c) => Ok(taken(1, head, a)),
-        (Replica::Ours(head), b) => Ok(taken(0, head, b)),
-        (Replica::Damaged, _) | (_, Replica::Damaged) => Err(Error::Corrupt),
-        _ => Err(Error::Uninitialized),
+    match c.a {
+        Replica::Ours(x) => match c.b {
+            Replica::Ours(y) => {
+                if takes_b(c) {
+                    Ok(taken(1, y, c.a))
+                } else {
+                    Ok(taken(0, x, c.b))
+                }
+            }
+            _ => Ok(taken(0, x, c.b)),
+        },
+        _ => match c.b {
+            Replica::Ours(y) => Ok(taken(1, y, c.a)),
+            _ => Err(refusal(c)),
+        },
     }
 }
 

@@ -16,9 +16,10 @@ use Rattle.mix.specs.SplitMix.{folded, stage, split_mix}
 use Rattle.medium.specs.declared.Medium.{Medium}
 use Rattle.handles.specs.declared.Header.{Header}
 use Rattle.header.specs.declared.answers.Copies.{Copies}
-use Rattle.header.specs.Header.{ours}
 use Rattle.header.specs.Copies.{is_ours, head_a, head_b, both_of}
 use Rattle.format.specs.Format.{has_id, spare_of, id_from, id_for}
+use Rattle.header.specs.declared.codec.Replica.{Replica}
+use Rattle.header.specs.declared.codec.Replica.TheVariants.{Ours}
 
 -- ---- the turns of the search: t says whether a copy has x, and r is what the search gives
 
@@ -90,7 +91,7 @@ unfolding id_for
 id_fresh c m seed = from_free c 4 (split_mix (bit_xor seed m.entropy))
 
 -- so neither valid copy has it
-pub neither_has : (a b : Decoded) (x : ℕ) → has_id (both_of a b) x ≡ false → ((h : Header) → a ≡ ours h → h.id ≡ x → ⊥) × ((h : Header) → b ≡ ours h → h.id ≡ x → ⊥)
+pub neither_has : (a b : Replica) (x : ℕ) → has_id (both_of a b) x ≡ false → ((h : Header) → a ≡ Ours h → h.id ≡ x → ⊥) × ((h : Header) → b ≡ Ours h → h.id ≡ x → ⊥)
 unfolding has_id
 neither_has a b x e =
     let f = or_false (is_ours a.kind && eqb a.head.id x) (is_ours b.kind && eqb b.head.id x) e in

@@ -13,7 +13,7 @@ use Rattle.medium.specs.declared.Medium.{Medium}
 use Rattle.medium.specs.Sector.{sectors_of}
 use Rattle.handles.specs.Handles.{body_of, sane_of}
 use Rattle.header.specs.declared.answers.Copies.{Copies}
-use Rattle.header.specs.Copies.{is_ours, copy_of, both_of, takes_b}
+use Rattle.header.specs.Copies.{is_ours, copy_of, both_of, takes_b, head_in}
 use Rattle.header.specs.Header.{Bytes, InRange}
 use Rattle.header.proofs.Accepted.{copy_valid, copy_range}
 use Rattle.format.specs.Format.{chunks_of, copy_for, newest_of, id_for, format_head}
@@ -68,9 +68,9 @@ module _ (c : Copies) (m : Medium) (sectors size seed : ℕ) (most : size ≤ 51
 pub newest_lt : (vol : List ℕ) → Bytes vol → 64 ≤ sectors_of vol → newest_of (both_of (copy_of vol 0) (copy_of vol 32)) < 2 ^ 64
 unfolding newest_of takes_b
 newest_lt vol small enough =
-    pick_keeps_by (λ (g : ℕ). g < 2 ^ 64) (is_ours (copy_of vol 32).kind && (not (is_ours (copy_of vol 0).kind) || ltb (copy_of vol 0).head.generation (copy_of vol 32).head.generation)) _ _
-    (λ t. held 32 (omega arith) (and_true (is_ours (copy_of vol 32).kind) _ t).0)
-    (λ _. pick_keeps_by (λ (g : ℕ). g < 2 ^ 64) (is_ours (copy_of vol 0).kind) _ _ (held 0 (omega arith)) (λ _. lit< tt))
+    pick_keeps_by (λ (g : ℕ). g < 2 ^ 64) (is_ours (copy_of vol 32) && (not (is_ours (copy_of vol 0)) || ltb (head_in (copy_of vol 0)).generation (head_in (copy_of vol 32)).generation)) _ _
+    (λ t. held 32 (omega arith) (and_true (is_ours (copy_of vol 32)) _ t).0)
+    (λ _. pick_keeps_by (λ (g : ℕ). g < 2 ^ 64) (is_ours (copy_of vol 0)) _ _ (held 0 (omega arith)) (λ _. lit< tt))
   where
-    held : (k : ℕ) → k < sectors_of vol → is_ours (copy_of vol k).kind ≡ true → (copy_of vol k).head.generation < 2 ^ 64
-    held k f t = (copy_range vol k (copy_of vol k).head (copy_valid vol k t) f small).generation
+    held : (k : ℕ) → k < sectors_of vol → is_ours (copy_of vol k) ≡ true → (head_in (copy_of vol k)).generation < 2 ^ 64
+    held k f t = (copy_range vol k (head_in (copy_of vol k)) (copy_valid vol k t) f small).generation

@@ -10,7 +10,7 @@ use freemap::FreeMap;
 use medium::{Error, Medium};
 
 // One copy's header: store id, generation, next file id, allocation cursor, chunks, sectors per chunk, and one checksum for each body sector.
-#[derive(Clone, Copy)]
+#[derive(Clone, Copy, Debug, PartialEq, Eq)]
 pub struct Header {
     pub id: u64,
     pub generation: u64,
@@ -56,13 +56,11 @@ pub fn blank() -> Header
 pub fn no_store() -> Store
     ensures { result ≡ no_store }
 {
-    let head = blank();
-    let free = freemap::unfit();
     Store {
         copy: 0,
-        head,
+        head: blank(),
         writer: None,
-        free,
+        free: freemap::unfit(),
     }
 }
 
@@ -90,24 +88,21 @@ pub fn open_id(writer: Option<Writer>) -> u32
 pub fn table(chunks: u32) -> usize
     ensures { result ≡ table_of chunks }
 {
-    ((chunks as usize) + 127) / 128
+    (chunks as usize).div_ceil(128)
 }
 
 // Body sectors of so many chunks: the directory and the table.
 pub fn body(chunks: u32) -> usize
     ensures { result ≡ body_of chunks }
 {
-    8 + ((chunks as usize) + 127) / 128
+    8 + table(chunks)
 }
 
 // The header sector of a copy.
 pub fn base(copy: u64) -> u64
     ensures { (result ≡ base_of copy) × (result ≤ 32) }
 {
-    if copy == 0 {
-        return 0;
-    }
-    32
+    if copy == 0 { 0 } else { 32 }
 }
 
 // What the numbers of a header must meet on a volume of so many sectors.
@@ -115,6 +110,7 @@ pub fn sane(head: Header, sectors: u64) -> bool
     ensures { result ≡ sane_of head sectors }
 {
     let all = 64 + (head.chunks as u64) * (head.chunk as u64);
+    // `&`, since these are cheap tests without a jump, and the definition says them in this order
     (head.id != 0)
         & ((head.next_id != 0)
             & ((head.cursor < head.chunks)
@@ -154,9 +150,8 @@ impl Store {
     pub fn handle_ok(self, sectors: u64) -> bool
         ensures { result ≡ store_ok self sectors }
     {
-        let h = self.head;
-        let map = self.free;
-        (self.copy < 2) & (sane(h, sectors) & freemap::map_ok(map, h.chunks))
+        // `&`, as in `sane`: by `&&` the proof would name the test, and an edit of it would be refused for that alone
+        (self.copy < 2) & (sane(self.head, sectors) & freemap::map_ok(self.free, self.head.chunks))
     }
 }
 
@@ -166,17 +161,13 @@ pub fn check(store: Store, volume: &[u8], medium: Medium, k: usize) -> Result<()
     ensures { result ≡ check_of volume.now medium store k }
 {
     let at = base(store.copy) + 1 + (k as u64);
-    let o = medium::readable(medium, at);
-    if let Err(e) = o {
-        return Err(e);
+    medium::readable(medium, at)?;
+    let start = 512 * (at as usize);
+    if checksum::crc32(&volume[start..start + 512]) == store.head.crcs[k] {
+        Ok(())
+    } else {
+        Err(Error::Corrupt)
     }
-    let a = 512 * (at as usize);
-    let h = store.head;
-    let c = checksum::crc32(&volume[a..a + 512]);
-    if c == h.crcs[k] {
-        return Ok(());
-    }
-    Err(Error::Corrupt)
 }
 
 // The check of body sector `k` where a walk enters it.
@@ -185,7 +176,8 @@ pub fn due(store: Store, volume: &[u8], medium: Medium, enters: bool, k: usize) 
     ensures { result ≡ due_of volume.now medium store enters k }
 {
     if enters {
-        return check(store, volume, medium, k);
+        check(store, volume, medium, k)
+    } else {
+        Ok(())
     }
-    Ok(())
 }

@@ -6,3 +6,5 @@ pub mod Range
 pub mod Accepted
 pub mod Stale
 pub mod Edges
+pub mod Tells
+pub mod Choices

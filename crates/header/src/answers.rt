@@ -1,29 +1,18 @@
 // What reading both copies answers. `Current` stands apart from the function `current`, since two items of one module may not differ in case alone.
 use super::codec::Replica;
-use handles::{Header, Store};
-use medium::Error;
+use handles::Header;
 
-// Both copies: their headers and, beside them, their kinds. A copy that is not valid has a blank header.
-#[derive(Clone, Copy)]
+// What the two header sectors hold.
+#[derive(Clone, Copy, Debug, PartialEq, Eq)]
 pub struct Copies {
-    pub outcome: Result<(), Error>,
-    pub heads: [Header; 2],
     pub a: Replica,
     pub b: Replica,
 }
 
-// The copy that is current. With `known`, the other copy's body holds the sectors whose checksums are in `listed`.
-#[derive(Clone, Copy)]
+// The copy that is current and, where the other one is valid and of the same store, the checksums that its header lists: its body holds those sectors.
+#[derive(Clone, Copy, Debug, PartialEq, Eq)]
 pub struct Current {
-    pub outcome: Result<(), Error>,
     pub copy: u64,
     pub head: Header,
-    pub known: bool,
-    pub listed: [u32; 24],
-}
-
-#[derive(Clone, Copy)]
-pub struct Mounted {
-    pub outcome: Result<(), Error>,
-    pub store: Store,
+    pub listed: Option<[u32; 24]>,
 }

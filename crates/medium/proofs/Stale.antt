@@ -14,12 +14,12 @@ use Rattle.medium.specs.declared.Written.{Written}
 use Rattle.medium.specs.Refusal.{number_of, refused, outcome_of}
 use Rattle.medium.specs.Sector.{read_of, spend_of, write_of}
 
--- an outcome that is not 11
-abbrev pub NotStale : Result Unit Error → Type 0
-NotStale (Ok tt) = Unit
+-- an answer that is not 11
+abbrev pub NotStale : {A : Type 0} → Result A Error → Type 0
+NotStale (Ok a) = Unit
 NotStale (Err e) = eqb (number_of e) 11 ≡ false
 
-pub no_stale : {o : Result Unit Error} {e : Error} → NotStale o → o ≡ Err e → NotStale (Err e)
+pub no_stale : {A : Type 0} {r : Result A Error} {e : Error} → NotStale r → r ≡ Err e → NotStale {A = Unit} (Err e)
 no_stale n q = subst NotStale q n
 
 -- as 01 has it

@@ -8,7 +8,7 @@ ghost use Rattle.medium.specs.Refusal.{number_of, on_done};
 ghost use Rattle.medium.specs.Sector.{sectors_of, sector_at, read_of, spend_of, write_of};
 
 // Kept by the caller and handed back in every answer. Only `left` and `token` ever change.
-#[derive(Clone, Copy)]
+#[derive(Clone, Copy, Debug, PartialEq, Eq)]
 pub struct Medium {
     pub left: u32,
     pub unreadable: u64,
@@ -16,28 +16,28 @@ pub struct Medium {
     pub token: u32,
 }
 
-// The Rust's refusals, the port's own Handle and Spent, and those of document 02.
-#[derive(Clone, Copy)]
+// The Rust's refusals, the port's own Handle and Spent, and those of document 02, each with its number in 01 and 02.
+#[derive(Clone, Copy, Debug, PartialEq, Eq)]
 pub enum Error {
-    Media,
-    Uninitialized,
-    Foreign,
-    Corrupt,
-    Name,
-    Exists,
-    NotFound,
-    Full,
-    Stale,
-    Range,
-    Handle,
-    Spent,
-    Point,
-    Known,
-    Lost,
-    Dotted,
+    Media = 4,
+    Uninitialized = 5,
+    Foreign = 6,
+    Corrupt = 7,
+    Name = 1,
+    Exists = 8,
+    NotFound = 9,
+    Full = 10,
+    Stale = 11,
+    Range = 2,
+    Handle = 3,
+    Spent = 12,
+    Point = 13,
+    Known = 14,
+    Lost = 15,
+    Dotted = 16,
 }
 
-#[derive(Clone, Copy)]
+#[derive(Clone, Copy, Debug, PartialEq, Eq)]
 pub struct Written {
     pub outcome: Result<(), Error>,
     pub medium: Medium,
@@ -47,24 +47,7 @@ pub struct Written {
 pub fn number(e: Error) -> u32
     ensures { result ≡ number_of e }
 {
-    match e {
-        Error::Name => 1,
-        Error::Range => 2,
-        Error::Handle => 3,
-        Error::Media => 4,
-        Error::Uninitialized => 5,
-        Error::Foreign => 6,
-        Error::Corrupt => 7,
-        Error::Exists => 8,
-        Error::NotFound => 9,
-        Error::Full => 10,
-        Error::Stale => 11,
-        Error::Spent => 12,
-        Error::Point => 13,
-        Error::Known => 14,
-        Error::Lost => 15,
-        Error::Dotted => 16,
-    }
+    e as u32
 }
 
 // Whole sectors of the volume; the bytes past them are never touched.
@@ -79,9 +62,10 @@ pub fn readable(medium: Medium, at: u64) -> Result<(), Error>
     ensures { result ≡ read_of medium at }
 {
     if at == medium.unreadable {
-        return Err(Error::Media);
+        Err(Error::Media)
+    } else {
+        Ok(())
     }
-    Ok(())
 }
 
 // Takes one from writes left. A caller that writes a sector in place asks this first.
@@ -89,18 +73,19 @@ pub fn readable(medium: Medium, at: u64) -> Result<(), Error>
 pub fn spend(medium: Medium) -> Written
     ensures { result ≡ spend_of medium }
 {
-    let left = medium.left;
-    if left == 0 {
-        return Written {
+    if medium.left == 0 {
+        Written {
             outcome: Err(Error::Media),
             medium,
-        };
-    }
-    let mut after = medium;
-    after.left = left - 1;
-    Written {
-        outcome: Ok(()),
-        medium: after,
+        }
+    } else {
+        Written {
+            outcome: Ok(()),
+            medium: Medium {
+                left: medium.left - 1,
+                ..medium
+            },
+        }
     }
 }
 
@@ -115,12 +100,9 @@ pub fn read_sector(
     ensures { (result ≡ read_of medium at)
         × (sector.new ≡ on_done (read_of medium at) (sector_at volume.now at) (λ _. sector.old)) }
 {
-    if at == medium.unreadable {
-        return Err(Error::Media);
-    }
+    readable(medium, at)?;
     let start = 512 * (at as usize);
-    let end = start + 512;
-    runs::put_bytes(sector, 0, &volume[start..end]);
+    runs::put_bytes(sector, 0, &volume[start..start + 512]);
     Ok(())
 }
 
@@ -131,23 +113,22 @@ pub fn write_sector(volume: &mut [u8], medium: Medium, at: u64, sector: &[u8; 51
         × (result ≡ (write_of volume.old medium at sector.now).ans) }
 {
     let w = spend(medium);
-    let o = w.outcome;
-    if let Err(_) = o {
+    if let Err(_) = w.outcome {
         return w;
     }
     runs::put_bytes(volume, 512 * (at as usize), sector);
     w
 }
 
-// Writes a sector of zeros, where a write is left: they are put into the sector itself.
+// Writes a sector of zeros, where a write is left. It does not stand on `write_sector`: the zeros are put into the sector itself, and a buffer of them
+// would be filled and copied first.
 pub fn zero_sector(volume: &mut [u8], medium: Medium, at: u64) -> Written
     requires { at < sectors_of volume.old }
     ensures { (volume.new ≡ (write_of volume.old medium at (zeros 512)).vol)
         × (result ≡ (write_of volume.old medium at (zeros 512)).ans) }
 {
     let w = spend(medium);
-    let o = w.outcome;
-    if let Err(_) = o {
+    if let Err(_) = w.outcome {
         return w;
     }
     runs::put_zeros(volume, 512 * (at as usize), 512);

@@ -8,6 +8,6 @@ pub returns-then-copy-eq0 : goal.returns-then-copy-eq0
 unfolding base_of pick
 returns-then-copy-eq0 c = (simp (eq-eqb _ _ c.if-copy-eq0.true), omega arith)
 
-pub returns : goal.returns
+pub returns-else-copy-eq0 : goal.returns-else-copy-eq0
 unfolding base_of pick
-returns c = (simp (ne_eqb _ _ c.if-copy-eq0.false), omega arith)
+returns-else-copy-eq0 c = (simp (ne_eqb _ _ c.if-copy-eq0.false), omega arith)

@@ -1,5 +1,8 @@
+use mathlib.Core.Path.{◌≡◌, ◌∙◌}
 use native.Mathlib.Nat.{add-sub_cancel_left}
+use borrow.Author.Rules.{rules}
 use borrow.Author.Tests.{eq-eqb, ne_eqb}
+use Rattle.std.proofs.Common.{Err}
 use Rattle.le.specs.Choice.{pick}
 use Rattle.le.specs.Part.{part}
 use Rattle.le.proofs.Turns.{told}
@@ -8,27 +11,28 @@ use Rattle.medium.specs.Sector.{sector_at}
 use Rattle.handles.specs.Body.{check_of}
 use Rattle.handles.proofs.check.Goals as goal
 
-pub returns-in-Err : goal.returns-in-Err
+pub returns-in_err-readable : goal.returns-in_err-readable
 unfolding check_of on_done
-returns-in-Err c =
-    rw (← c.base.ensures.0, told c.readable-o.ensures c.in-Err.is)
+returns-in_err-readable c =
+    let e : c.from_residual.result ≡ Err c.in_err-readable.field-0.0 = search rules in
+    e ∙ rw (← c.base.ensures.0, told c.readable.ensures c.in_err-readable.was)
 
-pub returns-then-c-h : goal.returns-then-c-h
+pub returns-then-crc32-store : goal.returns-then-crc32-store
 unfolding check_of on_done sector_at part pick
-returns-then-c-h c =
+returns-then-crc32-store c =
     rw (
       ← c.base.ensures.0,
-      told c.readable-o.ensures c.in_default.is,
-      ← (simp add-sub_cancel_left at c.crc32-c.ensures),
-      eq-eqb _ _ c.if-c-h.true,
+      told c.readable.ensures c.in_ok-readable.was,
+      ← (simp add-sub_cancel_left at c.crc32.ensures),
+      eq-eqb _ _ c.if-crc32-store.true,
     )
 
-pub returns : goal.returns
+pub returns-else-crc32-store : goal.returns-else-crc32-store
 unfolding check_of on_done sector_at part pick
-returns c =
+returns-else-crc32-store c =
     rw (
       ← c.base.ensures.0,
-      told c.readable-o.ensures c.in_default.is,
-      ← (simp add-sub_cancel_left at c.crc32-c.ensures),
-      ne_eqb _ _ c.if-c-h.false,
+      told c.readable.ensures c.in_ok-readable.was,
+      ← (simp add-sub_cancel_left at c.crc32.ensures),
+      ne_eqb _ _ c.if-crc32-store.false,
     )

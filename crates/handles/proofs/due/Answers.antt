@@ -6,6 +6,6 @@ pub returns-then-enters : goal.returns-then-enters
 unfolding due_of pick
 returns-then-enters c = rw c.if-enters.true c.check.ensures
 
-pub returns : goal.returns
+pub returns-else-enters : goal.returns-else-enters
 unfolding due_of pick
-returns c = rw c.if-enters.false
+returns-else-enters c = rw c.if-enters.false

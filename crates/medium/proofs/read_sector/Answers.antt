@@ -1,20 +1,19 @@
-use mathlib.Core.Path.{◌≡◌, refl, ◌∙◌}
-use lib.ListN.{length}
+use mathlib.Core.Path.{◌≡◌, refl, sym, ◌∙◌}
 use Rattle.medium.proofs.Laws.{read_whole}
-use borrow.Author.Tests.{eq-eqb, ne_eqb}
-use Rattle.le.specs.Choice.{pick}
-use Rattle.medium.specs.Sector.{read_of}
+use Rattle.le.proofs.Turns.{told}
 use Rattle.medium.specs.Refusal.{on_done}
 use borrow.Author.Rules.{rules}
+use Rattle.std.proofs.Common.{Err}
 use Rattle.medium.proofs.read_sector.Goals as goal
 
-pub returns-then-at-medium : goal.returns-then-at-medium
-unfolding read_of pick on_done
-returns-then-at-medium c = simp (eq-eqb _ _ c.if-at-medium.true) (refl, refl)
+pub returns-in_err-readable : goal.returns-in_err-readable
+unfolding on_done
+returns-in_err-readable c =
+    let e : c.from_residual.result ≡ Err c.in_err-readable.field-0.0 = search rules in
+    (e ∙ told c.in_err-readable.was c.readable.ensures, rw (told c.readable.ensures c.in_err-readable.was) refl)
 
 pub returns : goal.returns
-unfolding read_of pick on_done
+unfolding on_done
 returns c =
-    let n : length c.args.sector.now ≡ 512 = search (rules, c.well_formed) in
-    simp (ne_eqb _ _ c.if-at-medium.false)
-    (refl, c.put_bytes.ensures ∙ read_whole c.args.volume.now c.args.sector.now c.args.at c.requires n)
+    let t = told c.readable.ensures c.in_ok-readable.was in
+    (sym t, c.put_bytes.ensures ∙ read_whole c.args.volume.now c.args.sector.now c.args.at c.requires c.told-sector ∙ rw t refl)

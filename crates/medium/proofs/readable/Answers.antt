@@ -7,6 +7,6 @@ pub returns-then-at-medium : goal.returns-then-at-medium
 unfolding read_of pick
 returns-then-at-medium c = simp (eq-eqb _ _ c.if-at-medium.true)
 
-pub returns : goal.returns
+pub returns-else-at-medium : goal.returns-else-at-medium
 unfolding read_of pick
-returns c = simp (ne_eqb _ _ c.if-at-medium.false)
+returns-else-at-medium c = simp (ne_eqb _ _ c.if-at-medium.false)

@@ -7,8 +7,7 @@ mod gather;
 mod records;
 mod refusals;
 
-ghost use Rattle.std.specs.Prelude.{◌≡◌};
-ghost use Rattle.std.specs.Prelude.{Ok, Err};
+ghost use Rattle.std.specs.Prelude.{◌≡◌, Ok, Err};
 ghost use Rattle.append.specs.Appender.{no_appender};
 ghost use Rattle.append.specs.Calls.{app_answer, append_call, sync_call, room_answer, room_call};
 

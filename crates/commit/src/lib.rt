@@ -1,10 +1,9 @@
 // The metadata written anew into the other copy: the Rust's `Store::commit`, whose closure is a named edit here.
 #![tactic(auto)]
 
-ghost use Rattle.std.specs.Prelude.{◌≡◌, true, false, ◌&&◌, ◌+◌, ◌^◌, ◌<◌, ◌≤◌, eqb, length};
+ghost use Rattle.std.specs.Prelude.{◌≡◌, true, false, ◌&&◌, ◌+◌, ◌^◌, ◌<◌, ◌≤◌, eqb, length, Ok, Err};
 ghost use Rattle.runs.specs.Run.{same_bytes};
 ghost use Rattle.checksum.specs.Crc.{crc32_of};
-ghost use Rattle.std.specs.Prelude.{Ok, Err};
 ghost use Rattle.medium.specs.Refusal.{on_done};
 ghost use Rattle.medium.specs.Sector.{sectors_of, sector_at, read_of};
 ghost use Rattle.handles.specs.Body.{body_at, check_of};

@@ -2,8 +2,7 @@
 // Each call tests its arguments, mounts unless it is format, and returns the number of a refusal, or 256 and the answer.
 #![tactic(auto)]
 
-ghost use Rattle.std.specs.Prelude.{◌≡◌, ◌≤◌};
-ghost use Rattle.std.specs.Prelude.{Ok};
+ghost use Rattle.std.specs.Prelude.{◌≡◌, ◌≤◌, Ok};
 ghost use Rattle.medium.specs.Refusal.{outcome_of};
 ghost use Rattle.firmware.specs.Calls.{code_of, giving, medium_of, mount_host, format_host, delete_host, list_host};
 

@@ -15,7 +15,7 @@ ghost use Rattle.header.specs.Copies.{choice_of, current_of, mount_of};
 
 pub use answers::{Copies, Current};
 pub use codec::{Replica, decode, encode, encode_unmarked};
-use handles::{Header, Store, Writer};
+use handles::{Header, Store};
 use medium::{Error, Medium, Written};
 
 // A copy that is valid.

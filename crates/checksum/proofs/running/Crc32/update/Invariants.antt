@@ -1,11 +1,9 @@
-use Prim.Native.Nat.{◌≤◌, ◌-◌}
+use Prim.Native.Nat.{◌≤◌}
 use mathlib.Core.Path.{◌≡◌}
-use lib.ListN.{length, take}
+use lib.ListN.{length, drop}
+use Rattle.std.specs.List.{fold}
 use Rattle.checksum.specs.Crc.{crc_from}
 use Rattle.checksum.proofs.running.Crc32.update.Given as goal
 
-abbrev pub invariant-loop-at : goal.invariant-loop-at
-invariant-loop-at l = (l.at ≤ length l.bytes) × (l.c ≡ crc_from l.initial.c (take l.at l.bytes))
-
-abbrev pub decreases-loop-at : goal.decreases-loop-at
-decreases-loop-at l = length l.bytes - l.at
+abbrev pub invariant-loop-part : goal.invariant-loop-part
+invariant-loop-part l = (l.part-index ≤ length l.blocks) × (fold crc_from l.c (drop l.part-index l.blocks) ≡ fold crc_from l.initial.c l.blocks)

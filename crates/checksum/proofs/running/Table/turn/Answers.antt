@@ -5,7 +5,7 @@ use lib.ListN.{length, get_or, length-set}
 use Rattle.checksum.specs.Crc.{byte_step}
 use Rattle.checksum.specs.Lanes.{lane_byte}
 use Rattle.checksum.proofs.Lanes.{lane_done}
-use Rattle.checksum.proofs.running.turn.Goals as goal
+use Rattle.checksum.proofs.running.Table.turn.Goals as goal
 
 pub loop-j-init : goal.loop-j-init
 loop-j-init c =
@@ -23,4 +23,4 @@ loop-j-preserved c =
 pub returns : goal.returns
 returns c =
     let l = c.loop-j in
-    record { many = l.invariant.1; each = λ j h. l.invariant.2 j (omega arith) }
+    λ j h. l.invariant.2 j (omega arith)

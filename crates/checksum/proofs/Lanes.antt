@@ -2,16 +2,13 @@
 -- (Steps `from_split`). Assumes nothing.
 use mathlib.Core.Path.{◌≡◌, sym, ap, ap₂, ◌∙◌}
 use mathlib.Core.List.{List, [], ◌∷◌}
-use Prim.Native.Nat.{ℕ, zero, suc, ◌+◌, ◌*◌, ◌<◌, ◌≤◌}
-use native.Mathlib.Nat.{zero-mul, suc-mul, add_comm}
+use Prim.Native.Nat.{ℕ, suc, ◌+◌, ◌*◌, ◌<◌, ◌≤◌}
 use native.Mathlib.Numerals.{add-one}
 use native.Mathlib.Omega.{arith}
 use lib.Bits.{bit_xor, xor_zero_r}
 use borrow.Author.Count.{below_more}
 use lib.ListN.{length, get_or, set, take, drop, replicate, length-drop, take-append-drop, drop_of_length-le}
 use lib.Seq.{take_all, take-suc, get_or-drop, drop-drop, drop-cons, get_or-set_same, get_or-set_other}
-use Rattle.std.specs.List.{fold}
-use Rattle.std.specs.Simd.{first_chunks}
 use Rattle.checksum.specs.Crc.{bit_steps, byte_step, crc_from}
 use Rattle.checksum.specs.Lanes.{lane_bits, joined}
 use Rattle.std.specs.Int.Bits.{xor_assoc}
@@ -30,21 +27,9 @@ byte_after c o i at s r l ea h es er =
     ∙ sym (from_append c (take i p) (get_or p i 0 ∷ []))
     ∙ ap (crc_from c) (sym (take-suc p i 0 inside) ∙ ap (λ (k : ℕ). take k p) (sym (add-one i)))
 
--- the sum goes on over whole parts, and over what is left after them
-pub parts_sum : (n k c : ℕ) (l : List ℕ) → crc_from (fold crc_from c (first_chunks n k l)) (drop (k * n) l) ≡ crc_from c l
-parts_sum n zero c l = ap (λ (o : ℕ). crc_from c (drop o l)) (zero-mul n)
-parts_sum n (suc k) c l =
-    ap (λ (o : ℕ). crc_from (fold crc_from (crc_from c (take n l)) (first_chunks n k (drop n l))) (drop o l)) (suc-mul k n ∙ add_comm (k * n) n)
-    ∙ ap (crc_from (fold crc_from (crc_from c (take n l)) (first_chunks n k (drop n l)))) (sym (drop-drop (k * n) n l))
-    ∙ parts_sum n k (crc_from c (take n l)) (drop n l)
-    ∙ sym (from_append c (take n l) (drop n l))
-    ∙ ap (crc_from c) (take-append-drop n l)
-
-pub parts_end : (c s k : ℕ) (bytes rest : List ℕ) (parts : List (List ℕ)) (j : ℕ) → parts ≡ first_chunks 504 k bytes → rest ≡ drop (k * 504) bytes → length parts ≤ j
-    → fold crc_from s (drop j parts) ≡ fold crc_from c parts → crc_from s rest ≡ crc_from c bytes
-parts_end c s k bytes rest parts j ep er h e =
-    let last : s ≡ fold crc_from c parts = sym (ap (fold crc_from s) (drop_of_length-le parts h)) ∙ e in
-    rw (last, ep, er) (parts_sum 504 k c bytes)
+-- the first n bytes, and then what is left
+pub part_first : (c n : ℕ) (l : List ℕ) → crc_from (crc_from c (take n l)) (drop n l) ≡ crc_from c l
+part_first c n l = sym (from_append c (take n l) (drop n l)) ∙ ap (crc_from c) (take-append-drop n l)
 
 -- ---- the lanes of a block
 

@@ -1,11 +1,8 @@
-use Prim.Native.Nat.{◌/◌}
 use mathlib.Core.Path.{◌∙◌}
-use lib.ListN.{length}
-use Rattle.checksum.proofs.Lanes.{parts_end}
+use Rattle.checksum.proofs.Lanes.{part_first}
 use Rattle.checksum.proofs.running.Crc32.update.Goals as goal
 
-pub returns : goal.returns
-returns c =
-    let l = c.loop-part in
-    let e = c.as_chunks.ensures in
-    c.serial.ensures ∙ parts_end c.args.self.0 l.c (length c.args.bytes.now / 504) c.args.bytes.now _ _ l.part-index e.front e.back c.loop-part-test.false l.invariant.1
+pub loop-part-preserved : goal.loop-part-preserved
+loop-part-preserved c =
+    let e = c.in-Some.ensures.cases in
+    rw (c.block-c.ensures, e.0, e.1) (part_first c.loop-part.c 504 _) ∙ c.loop-part.invariant

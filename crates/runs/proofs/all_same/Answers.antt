@@ -4,9 +4,6 @@ use native.Mathlib.Omega.{arith}
 use Rattle.runs.proofs.Runs.{all_next, all_end}
 use Rattle.runs.proofs.all_same.Goals as goal
 
-pub loop-b-init : goal.loop-b-init
-loop-b-init c = (search rules, refl)
-
 pub loop-b-preserved : goal.loop-b-preserved
 loop-b-preserved c =
     let l = c.loop-b in

@@ -3,9 +3,6 @@ use native.Mathlib.Omega.{arith}
 use Rattle.checksum.proofs.Lanes.{join_start, join_turn, join_end}
 use Rattle.checksum.proofs.running.join.Goals as goal
 
-pub loop-lane-init : goal.loop-lane-init
-loop-lane-init c = join_start c.args.lanes 7 (omega (arith, c.well_formed)) (omega (arith, c.well_formed))
-
 pub loop-lane-preserved : goal.loop-lane-preserved
 loop-lane-preserved c =
     let l = c.loop-lane in

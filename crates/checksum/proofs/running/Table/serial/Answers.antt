@@ -14,9 +14,3 @@ loop-b-preserved c =
     let a = c.args in
     let l = c.loop-b in
     (omega arith, byte_after a.c 0 l.b-index l.b-index l.state c.byte_step-state.result a.bytes.now (omega arith) (omega arith) l.invariant.1 c.byte_step-state.ensures)
-
-pub returns : goal.returns
-returns c =
-    let a = c.args in
-    let l = c.loop-b in
-    l.invariant.1 ∙ ap (crc_from a.c) (take_all l.b-index a.bytes.now (omega arith))

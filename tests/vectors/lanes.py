@@ -16,7 +16,7 @@ def number(pattern, text):
 
 
 POLY, FAR = number(r"^const POLY: u32 = (\w+);", source), number(r"^const FAR: u32 = (\w+);", source)
-BLOCK, LANE = number(r"while (\d+) <= bytes", source), number(r"^lane = (\d+)$", specs)
+BLOCK, LANE = number(r"split_first_chunk::<(\d+)>", source), number(r"^lane = (\d+)$", specs)
 STARTS = re.search(r"let mut lanes = \[([c0, ]+)\];", source)[1].split(", ")
 
 

@@ -8,10 +8,10 @@ use native.Mathlib.Omega.{arith}
 use lib.Bits.{bit_xor, xor_zero_r}
 use borrow.Author.Count.{below_more}
 use lib.ListN.{length, get_or, set, take, drop, replicate, length-drop, take-append-drop, drop_of_length-le}
-use lib.Seq.{take-suc, take-add, get_or-drop, drop-drop, drop-cons, drop-length, get_or-set_same, get_or-set_other}
+use lib.Seq.{take_all, take-suc, get_or-drop, drop-drop, drop-cons, get_or-set_same, get_or-set_other}
 use Rattle.checksum.specs.Crc.{bit_steps, byte_step, crc_from}
 use Rattle.checksum.specs.Lanes.{lane_bits, joined}
-use Rattle.checksum.proofs.Xor.{xor_assoc}
+use Rattle.std.specs.Int.Bits.{xor_assoc}
 use Rattle.checksum.proofs.Steps.{steps_xor, steps_add, from_append, from_split}
 
 -- one byte more of the bytes from o on: the byte at `at`
@@ -27,13 +27,9 @@ byte_after c o i at s r l ea h es er =
     ∙ sym (from_append c (take i p) (get_or p i 0 ∷ []))
     ∙ ap (crc_from c) (sym (take-suc p i 0 inside) ∙ ap (λ (k : ℕ). take k p) (sym (add-one i)))
 
--- a part of n bytes after the first ones, up to e
-pub part_after : (c s r at n e : ℕ) (l : List ℕ) → at + n ≡ e → s ≡ crc_from c (take at l) → r ≡ crc_from s (take n (drop at l)) → r ≡ crc_from c (take e l)
-part_after c s r at n e l ee es er =
-    er
-    ∙ ap (λ (x : ℕ). crc_from x (take n (drop at l))) es
-    ∙ sym (from_append c (take at l) (take n (drop at l)))
-    ∙ ap (crc_from c) (sym (take-add at n l) ∙ ap (λ (k : ℕ). take k l) ee)
+-- the first n bytes, and then what is left
+pub part_first : (c n : ℕ) (l : List ℕ) → crc_from (crc_from c (take n l)) (drop n l) ≡ crc_from c l
+part_first c n l = sym (from_append c (take n l) (drop n l)) ∙ ap (crc_from c) (take-append-drop n l)
 
 -- ---- the lanes of a block
 
@@ -79,8 +75,10 @@ lanes_end c i (x ∷ xs) l hx hl ei each =
 
 -- ---- the loop over the lanes: c stands for those before j
 
-pub join_start : (xs : List ℕ) → 0 < length xs → joined (get_or xs 0 0 ∷ drop 1 xs) ≡ joined xs
-join_start xs h = ap joined (sym (drop-cons xs 0 0 h))
+pub join_start : (xs : List ℕ) (n : ℕ) → 0 < length xs → length xs ≤ n + 1 → joined (get_or xs 0 0 ∷ take n (drop 1 xs)) ≡ joined xs
+join_start xs n h k =
+    let long : length (drop 1 xs) ≤ n = simp length-drop (omega arith) in
+    ap joined (ap (λ (l : List ℕ). get_or xs 0 0 ∷ l) (take_all n (drop 1 xs) long) ∙ sym (drop-cons xs 0 0 h))
 
 pub join_turn : (xs : List ℕ) (j c m : ℕ) → j < length xs → m ≡ bit_steps lane_bits c → joined (bit_xor m (get_or xs j 0) ∷ drop (j + 1) xs) ≡ joined (c ∷ drop j xs)
 unfolding joined
@@ -93,6 +91,6 @@ join_turn xs j c m h em =
     (ap (λ (y : ℕ). bit_xor y (joined after)) (steps_xor n (bit_steps lane_bits c) x ∙ ap (λ (y : ℕ). bit_xor y (bit_steps n x)) (sym (steps_add lane_bits n c) ∙ ap (λ (k : ℕ). bit_steps k c) longer))
     ∙ xor_assoc (bit_steps (lane_bits * suc (length after)) c) (bit_steps n x) (joined after))
 
-pub join_end : (xs : List ℕ) (c j : ℕ) → j ≡ length xs → joined (c ∷ drop j xs) ≡ joined xs → c ≡ joined xs
+pub join_end : (xs : List ℕ) (c j v : ℕ) → length xs ≤ j → joined (c ∷ drop j xs) ≡ v → c ≡ v
 unfolding joined bit_steps
-join_end xs c j ej e = sym (ap (λ (k : ℕ). joined (c ∷ drop k xs)) ej ∙ ap (λ (l : List ℕ). joined (c ∷ l)) (drop-length xs) ∙ xor_zero_r c) ∙ e
+join_end xs c j v h e = sym (ap (λ (l : List ℕ). joined (c ∷ l)) (drop_of_length-le xs h) ∙ xor_zero_r c) ∙ e

@@ -1,17 +1,19 @@
--- Laws of the loops over runs of bytes. Assumes nothing.
+-- What the library says of runs of bytes, in the words of Run; and a turn of the loop over them. Assumes nothing.
 use mathlib.Core.Path.{◌≡◌, refl, sym, ap, ◌∙◌}
 use mathlib.Core.Bool.{Bool, true, false, ◌&&◌, and-false}
-use mathlib.Core.List.{List, [], ◌∷◌}
-use Prim.Native.Nat.{ℕ, suc, ◌+◌, ◌≤◌, ◌<◌}
-use native.Mathlib.Nat.{add-suc}
+use mathlib.Core.List.{List, [], ◌∷◌, ◌++◌}
+use Prim.Native.Nat.{ℕ, suc, ◌+◌, ◌-◌, ◌≤◌, ◌<◌}
 use native.Mathlib.Numerals.{add-one}
 use native.Mathlib.Omega.{arith}
 use borrow.Author.Tests.{eq-eqb, ne_eqb}
 use lib.Dec.{eqb}
-use lib.ListN.{length, get_or, drop, set}
-use lib.Seq.{paste, paste-suc, take-length, drop-length, drop-cons}
+use Rattle.std.specs.List.{list_all, zip}
+use Rattle.std.proofs.lemmas.Grind.{get_or_default_zero}
+use Rattle.std.proofs.lemmas.List.{same_lists}
+use lib.ListN.{length, get_or, drop, take, set}
+use lib.Seq.{paste, paste-suc, take-length}
 use Rattle.le.specs.Part.{over, zeros}
-use Rattle.le.proofs.Parts.{length_zeros, get_or_zeros}
+use Rattle.le.proofs.Parts.{over_back, length_zeros, get_or_zeros}
 use Rattle.le.proofs.Turns.{drop_one, drop_end}
 use Rattle.runs.specs.Run.{starts_with, same_bytes, all_same}
 
@@ -33,31 +35,36 @@ zero_more d at n i h k =
 pub zero_all : (d : List ℕ) (at n : ℕ) → paste d at (zeros n) n ≡ over at (zeros n) d
 zero_all d at n = ap (λ (k : ℕ). paste d at (zeros n) k) (sym (length_zeros n)) ∙ copy_all d (zeros n) at
 
--- one more element is compared
-module _ (b w : List ℕ) (at i : ℕ) (h : at + length w ≤ length b) (k : i < length w) where
-  both : starts_with (drop i w) (drop (at + i) b) ≡ (eqb (get_or b (at + i) 0) (get_or w i 0) && starts_with (drop (i + 1) w) (drop (at + (i + 1)) b))
-  unfolding starts_with
-  both =
-      let m : at + i < length b = omega arith in
-      rw (add-one, add-suc, drop-cons w i 0, drop-cons b (at + i) 0)
+-- zeros in place of each of the n bytes from `at` on
+pub zeros_back : (at n : ℕ) (vs d : List ℕ) → length vs ≡ n → ((k : ℕ) → k < n → get_or vs k 0 ≡ 0) → take at d ++ (vs ++ drop (at + n - at) (drop at d)) ≡ over at (zeros n) d
+zeros_back at n vs d e each =
+    over_back at (at + n) vs d (omega arith)
+    ∙ ap (λ (l : List ℕ). over at l d) (same_lists vs (zeros n) (e ∙ sym (length_zeros n)) (λ k x h.
+    get_or_default_zero vs k x h
+    ∙ each k (omega arith)
+    ∙ sym (get_or_default_zero (zeros n) k x (omega (arith, length_zeros n)) ∙ get_or_zeros n k)))
 
-  pub same_more : get_or b (at + i) 0 ≡ get_or w i 0 → starts_with (drop (i + 1) w) (drop (at + (i + 1)) b) ≡ starts_with (drop i w) (drop (at + i) b)
-  same_more e = sym (both ∙ ap (λ (t : Bool). t && starts_with (drop (i + 1) w) (drop (at + (i + 1)) b)) (eq-eqb _ _ e))
+-- the pairs of two lists of the same length are equal each
+pub same_pairs : (a b : List ℕ) → length a ≡ length b → list_all (λ (p : ℕ × ℕ). eqb p.0 p.1) (zip a b) ≡ same_bytes a b
+unfolding same_bytes
+same_pairs [] [] h = refl
+same_pairs [] (y ∷ ys) h = absurd (omega arith)
+same_pairs (x ∷ xs) [] h = absurd (omega arith)
+same_pairs (x ∷ xs) (y ∷ ys) h = ap (λ (t : Bool). eqb x y && t) (same_pairs xs ys (omega arith))
 
-  pub other : (get_or b (at + i) 0 ≡ get_or w i 0 → ⊥) → starts_with (drop i w) (drop (at + i) b) ≡ false
-  other f = both ∙ ap (λ (t : Bool). t && starts_with (drop (i + 1) w) (drop (at + (i + 1)) b)) (ne_eqb _ _ f)
-
-pub same_all : (w r : List ℕ) → starts_with (drop (length w) w) r ≡ true
-unfolding starts_with
-same_all w r = rw drop-length
-
--- lists of different lengths are not the same
 pub same_long : (a b : List ℕ) → (length a ≡ length b → ⊥) → same_bytes a b ≡ false
 unfolding same_bytes
 same_long [] [] h = absurd (h refl)
 same_long [] (y ∷ ys) h = refl
 same_long (x ∷ xs) [] h = refl
 same_long (x ∷ xs) (y ∷ ys) h = rw (same_long xs ys (λ e. h (ap suc e))) (and-false (eqb x y))
+
+-- a list begins with what its front is the same as
+pub same_front : (w l : List ℕ) → same_bytes (take (length w) l) w ≡ starts_with w l
+unfolding same_bytes starts_with
+same_front [] l = refl
+same_front (w ∷ ws) [] = refl
+same_front (w ∷ ws) (x ∷ xs) = ap (λ (t : Bool). eqb x w && t) (same_front ws xs)
 
 -- one more pair of bytes is compared
 module _ (a b : List ℕ) (i : ℕ) (h : i < length a) (k : i < length b) where

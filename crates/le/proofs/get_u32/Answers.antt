@@ -1,7 +1,6 @@
-use native.Mathlib.Omega.{arith}
-use Rattle.le.proofs.Fields.{get_join}
+use mathlib.Core.Path.{◌∙◌}
+use Rattle.le.proofs.Fields.{get_from}
 use Rattle.le.proofs.get_u32.Goals as goal
 
 pub returns : goal.returns
-returns c =
-    get_join 2 2 c.args.offset c.args.bytes.now _ _ (omega arith) c.get_u16-low.ensures c.get_u16-high.ensures
+returns c = c.from_le_bytes.ensures ∙ get_from 3 _ _ _ c.requires c.field.ensures

@@ -1,7 +1,6 @@
-use native.Mathlib.Omega.{arith}
-use Rattle.le.proofs.Fields.{get_join}
+use mathlib.Core.Path.{◌∙◌}
+use Rattle.le.proofs.Fields.{get_from}
 use Rattle.le.proofs.get_u64.Goals as goal
 
 pub returns : goal.returns
-returns c =
-    get_join 4 4 c.args.offset c.args.bytes.now _ _ (omega arith) c.get_u32-low.ensures c.get_u32-high.ensures
+returns c = c.from_le_bytes.ensures ∙ get_from 7 _ _ _ c.requires c.field.ensures

@@ -1,10 +1,5 @@
-use native.Mathlib.Omega.{arith}
-use lib.ListN.{length-set}
-use Rattle.le.proofs.Fields.{put_two}
+use Rattle.le.proofs.Fields.{put_made}
 use Rattle.le.proofs.put_u16.Goals as goal
 
-pub bounds-bytes-offset-2 : goal.bounds-bytes-offset-2
-bounds-bytes-offset-2 c = simp length-set (omega arith)
-
 pub returns : goal.returns
-returns c = put_two _ _ _ c.requires c.ranges.value.fits
+returns c = put_made 2 _ _ _ _ _ c.to_le_bytes.ensures c.put_field.ensures

@@ -8,9 +8,6 @@ use lib.Seq.{paste, paste-zero}
 use Rattle.runs.proofs.Runs.{copy_more, copy_all}
 use Rattle.runs.proofs.put_bytes.Goals as goal
 
-pub loop-i-init : goal.loop-i-init
-loop-i-init c = (search rules, refl, refl, paste-zero c.args.dst.now c.args.at c.args.src.now)
-
 pub loop-i-preserved : goal.loop-i-preserved
 loop-i-preserved c =
     let l = c.loop-i in

@@ -1,23 +1,18 @@
 use borrow.Author.Rules.{rules}
-use mathlib.Core.Path.{refl, sym, ◌∙◌}
-use native.Mathlib.Omega.{arith}
-use Rattle.runs.proofs.Runs.{same_long, pair_same, pair_other, pairs_end}
+use borrow.Author.Tests.{ne_eqb}
+use lib.Dec.{eqb}
+use mathlib.Core.Path.{sym, ◌∙◌}
+use Rattle.std.proofs.Common.{tests}
+use Rattle.std.proofs.lemmas.Iterator.{YieldsList-from_zip, YieldsList-from_slice}
+use Rattle.std.proofs.lemmas.Iterator.Search.{all_from_yields_List}
+use Rattle.runs.proofs.Runs.{same_pairs, same_long}
 use Rattle.runs.proofs.same.Goals as goal
 
 pub returns-then-a-b : goal.returns-then-a-b
-returns-then-a-b c = sym (same_long _ _ c.if-a-b.true)
+returns-then-a-b c =
+    let a = c.args in
+    all_from_yields_List (λ p. eqb p.0 p.1) c.all.new.self _ _ c.all.ensures.ran (YieldsList-from_zip (YieldsList-from_slice a.a.now cc) (YieldsList-from_slice a.b.now cc)) (λ x b q k. search (rules, tests))
+    ∙ same_pairs a.a.now a.b.now c.if-a-b.true
 
-pub loop-i-init : goal.loop-i-init
-loop-i-init c = (search rules, search rules, refl)
-
-pub returns-then-a-i : goal.returns-then-a-i
-returns-then-a-i c = let a = c.args in
-    sym (sym c.loop-i.invariant.2 ∙ pair_other a.a.now a.b.now c.loop-i.i (omega arith) (omega arith) c.if-a-i.true)
-
-pub loop-i-preserved : goal.loop-i-preserved
-loop-i-preserved c = let a = c.args in
-    (search rules, search rules, pair_same a.a.now a.b.now c.loop-i.i (omega arith) (omega arith) c.if-a-i.false ∙ c.loop-i.invariant.2)
-
-pub returns : goal.returns
-returns c = let a = c.args in
-    sym (sym c.loop-i.invariant.2 ∙ pairs_end a.a.now a.b.now c.loop-i.i (omega arith) c.if-a-b.false)
+pub returns-else-a-b : goal.returns-else-a-b
+returns-else-a-b c = ne_eqb _ _ c.if-a-b.false ∙ sym (same_long _ _ c.if-a-b.false)

@@ -1,11 +1,10 @@
-use Prim.Native.Nat.{◌≤◌, ◌-◌}
 use mathlib.Core.Path.{◌≡◌}
-use lib.ListN.{length, take}
+use lib.ListN.{length}
 use Rattle.checksum.specs.Crc.{crc_from}
 use Rattle.checksum.proofs.running.Crc32.update.Given as goal
 
-abbrev pub invariant-loop-at : goal.invariant-loop-at
-invariant-loop-at l = (l.at ≤ length l.bytes) × (l.c ≡ crc_from l.initial.c (take l.at l.bytes))
+abbrev pub invariant-loop-part : goal.invariant-loop-part
+invariant-loop-part l = crc_from l.c l.rest ≡ crc_from l.initial.c l.initial.rest
 
-abbrev pub decreases-loop-at : goal.decreases-loop-at
-decreases-loop-at l = length l.bytes - l.at
+abbrev pub decreases-loop-part : goal.decreases-loop-part
+decreases-loop-part l = length l.rest

@@ -3,7 +3,7 @@ use mathlib.Core.Path.{◌≡◌}
 use lib.ListN.{length, get_or}
 use Rattle.checksum.specs.Crc.{byte_step}
 use Rattle.checksum.specs.Lanes.{lane_byte}
-use Rattle.checksum.proofs.running.turn.Given as goal
+use Rattle.checksum.proofs.running.Table.turn.Given as goal
 
 abbrev pub invariant-loop-j : goal.invariant-loop-j
 invariant-loop-j l =

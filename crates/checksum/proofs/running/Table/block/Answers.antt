@@ -4,7 +4,7 @@ use native.Mathlib.Omega.{arith}
 use lib.ListN.{get_or}
 use Rattle.checksum.specs.Crc.{crc_from}
 use Rattle.checksum.proofs.Lanes.{byte_after, lanes_end}
-use Rattle.checksum.proofs.running.block.Goals as goal
+use Rattle.checksum.proofs.running.Table.block.Goals as goal
 
 pub loop-i-init : goal.loop-i-init
 unfolding crc_from
@@ -15,7 +15,7 @@ loop-i-preserved c =
     let a = c.args in
     let l = c.loop-i in
     let e = c.turn.ensures in
-    (omega arith, e.many, λ j h. byte_after _ (63 * j) l.i (l.i + 63 * j) (get_or l.lanes j 0) _ a.part.now (omega arith) (omega arith) (l.invariant.2 j h) (e.each j h))
+    (omega arith, c.turn.array_long, λ j h. byte_after _ (63 * j) l.i (l.i + 63 * j) (get_or l.lanes j 0) _ a.part.now (omega arith) (omega arith) (l.invariant.2 j h) (e j h))
 
 pub returns : goal.returns
 returns c =

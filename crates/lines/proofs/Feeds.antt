@@ -1,10 +1,11 @@
 -- The input in parts: a line's answer, a piece up to a line's end, and a part piece by piece. Assumes nothing.
-use Prim.Native.Nat.{ℕ, ◌-◌, ◌≤◌}
+use Rattle.std.specs.Prelude.{Option, Some, None, is_some, unwrap_or}
+use Prim.Native.Nat.{ℕ, ◌≤◌}
 use mathlib.Core.Path.{◌≡◌, refl, sym, ap, ◌∙◌}
-use mathlib.Core.Bool.{Bool, true, false, not}
+use mathlib.Core.Bool.{Bool, true, false}
 use mathlib.Core.List.{List, [], ◌∷◌}
 use native.Mathlib.Omega.{arith}
-use borrow.Author.Tests.{not-true, not-false, eq-eqb, ne_eqb}
+use borrow.Author.Tests.{eq-eqb, ne_eqb}
 use lib.Dec.{eqb}
 use lib.ListN.{length, take, drop}
 use Rattle.le.specs.Choice.{pick}
@@ -19,7 +20,7 @@ use Rattle.lines.specs.declared.input.Gathered.{Gathered}
 use Rattle.lines.specs.declared.Passed.{Passed}
 use Rattle.lines.specs.Text.{said_text, Few}
 use Rattle.lines.specs.Input.{kept_of, gather_of, GatheredAt}
-use Rattle.lines.specs.Program.{line_turn, line_text, Held, held, after_line, piece_of, PassedAt, FedPart, saying, feed_of, last_text, turns_after}
+use Rattle.lines.specs.Program.{line_turn, line_text, Held, held, after_line, piece_of, PassedAt, FedPart, saying, feed_of, last_text}
 use Rattle.lines.proofs.Pens.{put_none}
 use Rattle.lines.proofs.Counts.{step_few}
 
@@ -48,20 +49,18 @@ module _ (h : Held) (bytes : List ℕ) where
   open_piece e = rw e
 
 module _ (vol : List ℕ) (s : Session) (start bytes : List ℕ) (at : ℕ) (line : List ℕ) (r : Gathered) (g : GatheredAt r bytes line (gather_of start (drop at bytes))) where
-  pub passed_open : not r.ended ≡ true → (out : List ℕ)
-      → PassedAt (record { session = s; at = r.at; fill = r.fill; count = 0 }) vol bytes line out out (piece_of (held vol s start) (drop at bytes))
+  pub passed_open : r.next ≡ None → (out : List ℕ)
+      → PassedAt (record { session = s; at = length bytes; fill = r.fill; count = 0 }) vol bytes line out out (piece_of (held vol s start) (drop at bytes))
   passed_open e out =
-      rw (open_piece (held vol s start) (drop at bytes) (sym g.1 ∙ not-true r.ended e))
-      (ap (held vol s) g.0, put_none 0 out (omega arith), g.2)
+      rw (open_piece (held vol s start) (drop at bytes) (sym g.1 ∙ ap is_some e))
+      (ap (held vol s) g.0, put_none 0 out (omega arith), ap (λ (o : Option ℕ). drop (unwrap_or o (length bytes)) bytes) (sym e) ∙ g.2)
 
-  pub passed_ended : not r.ended ≡ false → (before : List ℕ) {v after : List ℕ} {t : Session} {n : ℕ}
-      → (v ≡ (line_turn vol s (take (r.fill - 0) line)).0.vol) × (t ≡ (line_turn vol s (take (r.fill - 0) line)).0.session) × Put 0 (line_text vol s (take (r.fill - 0) line)) before after n × (n ≤ 8192)
-      → PassedAt (record { session = t; at = r.at; fill = 0; count = n }) v bytes line before after (piece_of (held vol s start) (drop at bytes))
-  passed_ended e before a =
-      let z : r.fill - 0 ≡ r.fill = omega arith in
-      let l : take (r.fill - 0) line ≡ (gather_of start (drop at bytes)).line = ap (λ (k : ℕ). take k line) z ∙ g.0 in
-      rw (ended_piece (held vol s start) (drop at bytes) (sym g.1 ∙ not-false r.ended e), ← l, a.0, a.1)
-      (refl, a.2, g.2)
+  pub passed_ended : {next : ℕ} → r.next ≡ Some next → (before : List ℕ) {v after : List ℕ} {t : Session} {n : ℕ}
+      → (v ≡ (line_turn vol s (take r.fill line)).0.vol) × (t ≡ (line_turn vol s (take r.fill line)).0.session) × Put 0 (line_text vol s (take r.fill line)) before after n × (n ≤ 8192)
+      → PassedAt (record { session = t; at = next; fill = 0; count = n }) v bytes line before after (piece_of (held vol s start) (drop at bytes))
+  passed_ended {next} e before a =
+      rw (ended_piece (held vol s start) (drop at bytes) (sym g.1 ∙ ap is_some e), ← g.0, a.0, a.1)
+      (refl, a.2, ap (λ (o : Option ℕ). drop (unwrap_or o (length bytes)) bytes) (sym e) ∙ g.2)
 
 -- ---- a part of the input, piece by piece
 
@@ -97,13 +96,3 @@ module _ (vol : List ℕ) (s : Session) (line out : List ℕ) where
   pub last_line : (length line ≡ 0 → ⊥) → {after : List ℕ} {n : ℕ} → Put 0 (line_text vol s line) out after n → Put 0 (last_text (held vol s line)) out after n
   unfolding last_text pick
   last_line e p = rw (ne_eqb (length line) 0 e) p
-
--- ---- the turns of the loop that reads
-
-pub turns_none : (turns n : ℕ) → n ≡ 0 → 0 ≡ turns_after turns n
-unfolding turns_after pick
-turns_none turns n e = rw (eq-eqb n 0 e)
-
-pub turns_one : (turns n : ℕ) → (n ≡ 0 → ⊥) → turns - 1 ≡ turns_after turns n
-unfolding turns_after pick
-turns_one turns n e = rw (ne_eqb n 0 e)

@@ -1,4 +1,5 @@
 -- A line gathered from the input, byte by byte. Assumes nothing.
+use Rattle.std.specs.Prelude.{is_some, unwrap_or}
 use Prim.Native.Nat.{ℕ, ◌+◌, ◌≤◌, ◌<◌}
 use mathlib.Core.Path.{◌≡◌, sym, ap}
 use mathlib.Core.Bool.{true, false}
@@ -38,6 +39,7 @@ module _ (line bytes : List ℕ) (i : ℕ) where
   gather_none h = rw (drop_end bytes i h, drop_end bytes (length bytes) (omega arith))
 
 -- what the code gives, as places
-pub gathered : (bytes line : List ℕ) (r : Gathered) {g : Gathering} → g ≡ record { line = take r.fill line; ended = r.ended; rest = drop r.at bytes }
-    → r.at ≤ length bytes → r.fill ≤ 601 → GatheredAt r bytes line g
+pub gathered : (bytes line : List ℕ) (r : Gathered) {g : Gathering}
+    → g ≡ record { line = take r.fill line; ended = is_some r.next; rest = drop (unwrap_or r.next (length bytes)) bytes }
+    → unwrap_or r.next (length bytes) ≤ length bytes → r.fill ≤ 601 → GatheredAt r bytes line g
 gathered bytes line r e h k = (sym (ap (λ (x : Gathering). x.line) e), sym (ap (λ (x : Gathering). x.ended) e), sym (ap (λ (x : Gathering). x.rest) e), h, k)

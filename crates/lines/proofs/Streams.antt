@@ -1,5 +1,5 @@
 -- What is written of an input that comes in parts, and what is read of it. Assumes nothing.
-use Rattle.std.proofs.Common.{◌≡◌, ℕ, zero, suc, ◌+◌, ◌-◌, ◌^◌, ◌≤◌, ◌<◌, List, [], ◌∷◌, ◌++◌, refl, sym, ap, ◌∙◌, replicate, append_assoc, append-nil, length, length-append, take, drop, arith}
+use Rattle.std.proofs.Common.{◌≡◌, ℕ, ◌+◌, ◌-◌, ◌^◌, ◌≤◌, ◌<◌, List, [], ◌∷◌, ◌++◌, refl, sym, ap, ◌∙◌, replicate, append_assoc, append-nil, length, length-append, take, drop, arith}
 use Rattle.std.proofs.lemmas.List.{take_at, length-take-le, nil_from_length}
 use mathlib.Core.Path.{subst}
 use mathlib.Core.Bool.{Bool, true, false}
@@ -15,8 +15,8 @@ use Rattle.decimal.specs.Decimal.{Put}
 use Rattle.session.specs.Session.{start_of}
 use Rattle.lines.specs.declared.Passed.{Passed}
 use Rattle.lines.specs.Input.{kept_of, gather_of, lines_of}
-use Rattle.lines.specs.Program.{printed_from, printed_of, Held, held, piece_of, PassedAt, FedPart, saying, feed_of, StoppedIn, last_text, turns_after}
-use Rattle.lines.proofs.Feeds.{feed_piece, feed_none, turns_none, turns_one}
+use Rattle.lines.specs.Program.{printed_from, printed_of, Held, held, piece_of, PassedAt, FedPart, saying, feed_of, StoppedIn, last_text}
+use Rattle.lines.proofs.Feeds.{feed_piece, feed_none}
 use Rattle.lines.proofs.Whole.{feed_parts, printed_any}
 
 -- ---- what a writer holds
@@ -42,9 +42,9 @@ pub record Fed (old new : Option (List ℕ)) (rest whole : FedPart) : Type 0 whe
 pub fed_none : (k : Option (List ℕ)) (f : FedPart) → Fed k k f f
 fed_none k f = record { text = []; written = appends_none k; same = refl }
 
-put_taken : (text before : List ℕ) {after : List ℕ} {n : ℕ} → Put 0 text before after n → take (n - 0) after ≡ text
+put_taken : (text before : List ℕ) {after : List ℕ} {n : ℕ} → Put 0 text before after n → take n after ≡ text
 unfolding over
-put_taken text before {after} {n} (e, k) = ap (take (n - 0)) e ∙ take_at text (drop (0 + length text) before) (n - 0) (omega (arith, k))
+put_taken text before {after} {n} (e, k) = ap (take n) e ∙ take_at text (drop (0 + length text) before) n (omega (arith, k))
 
 saying_twice : (a b : List ℕ) (f : FedPart) → saying (a ++ b) f ≡ saying a (saying b f)
 saying_twice a b f = ap (λ (t : List ℕ). record { held = f.held; text = t }) (append_assoc a b f.text)
@@ -55,7 +55,7 @@ passed_on h bytes at r vol line before p = rw (p.0, p.2) (feed_piece h (drop at 
 
 -- one turn of the loop
 pub fed_more : (a b c : Option (List ℕ)) {whole : FedPart} (h : Held) (bytes : List ℕ) (at : ℕ) (r : Passed) (vol line before : List ℕ) {after : List ℕ}
-    → Fed a b (feed_of h (drop at bytes)) whole → PassedAt r vol bytes line before after (piece_of h (drop at bytes)) → Appends b c (take (r.count - 0) after)
+    → Fed a b (feed_of h (drop at bytes)) whole → PassedAt r vol bytes line before after (piece_of h (drop at bytes)) → Appends b c (take r.count after)
     → Fed a c (feed_of (held vol r.session (take r.fill line)) (drop r.at bytes)) whole
 fed_more a b c h bytes at r vol line before f p w =
     record {
@@ -123,99 +123,81 @@ consumes_more (Some xs) None c t u p q = absurd p
 consumes_more (Some xs) (Some ys) None t u p q = absurd q
 consumes_more (Some xs) (Some ys) (Some zs) t u p q = p ∙ ap (λ (y : List ℕ). t ++ y) q ∙ sym (append_assoc t u zs)
 
--- between two parts: what was fed before is held and written, the next part is read, and the turns left are not fewer than the bytes before the
--- 2 ^ 64 - 1 of the first turn
-pub record Ran (given left a b : Option (List ℕ)) (first now : Held) (part : List ℕ) (turns : ℕ) : Type 0 where
+consumes_none : (k : Option (List ℕ)) → Consumes k k []
+consumes_none None = tt
+consumes_none (Some xs) = refl
+
+-- before a part: what was fed so far is read, held and written, and each turn fed a byte at least
+pub record Ran (given left a b : Option (List ℕ)) (first now : Held) (turns : ℕ) : Type 0 where
   pub fed : List ℕ
-  pub read : Consumes given left (fed ++ part)
+  pub read : Consumes given left fed
   pub holds : (feed_of first fed).held ≡ now
   pub written : Appends a b (feed_of first fed).text
-  pub enough : 0 < length part → 2 ^ 64 - 1 ≤ turns + length fed + length part
-  pub none : length part ≡ 0 → turns ≡ 0
+  pub many : turns ≤ length fed
 
-turns_are : (turns n left : ℕ) → left ≡ turns_after turns n → (0 < n → left ≡ turns - 1) × (n ≡ 0 → left ≡ 0)
-turns_are turns n left e = (λ h. e ∙ sym (turns_one turns n (λ z. omega arith)), λ h. e ∙ sym (turns_none turns n h))
-
-nought : (n : ℕ) → n - 0 ≡ n
-nought n = omega arith
-
-pub ran_first : (given left k : Option (List ℕ)) (first now : Held) (n : ℕ) (bytes : List ℕ) (turns : ℕ) → now ≡ first → n ≤ length bytes
-    → Consumes given left (take n bytes) → turns ≡ turns_after (2 ^ 64 - 1) n
-    → Ran given left k k first now (take n bytes) turns
+pub ran_first : (given k : Option (List ℕ)) (first now : Held) → now ≡ first → Ran given given k k first now 0
 unfolding feed_of
-ran_first given left k first now n bytes turns same room c e =
-    let t = turns_are (2 ^ 64 - 1) n turns e in
-    let l : length (take n bytes) ≡ n = length-take-le n bytes room in
-    record {
-      fed = [];
-      read = c;
-      holds = sym same;
-      written = appends_none k;
-      enough = λ h. omega (arith, t.0 (omega (arith, l, h)), l);
-      none = λ h. t.1 (sym l ∙ h);
-    }
+ran_first given k first now same = record { fed = []; read = consumes_none given; holds = sym same; written = appends_none k; many = omega arith }
 
-some_part : (n turns : ℕ) → (n ≡ 0 → turns ≡ 0) → 0 < turns → 0 < n
-some_part zero turns f b = absurd (omega (arith, f refl))
-some_part (suc n) turns f b = omega arith
-
--- one turn of the loop: the part is fed, and the next is read
-pub ran_more : (given left next a b c : Option (List ℕ)) (first h h2 : Held) (n : ℕ) (bytes : List ℕ) (n2 : ℕ) (bytes2 : List ℕ) (turns after : ℕ)
-    → Ran given left a b first h (take n bytes) turns → 0 < turns
-    → h2 ≡ (feed_of h (take (n - 0) bytes)).held → Appends b c (feed_of h (take (n - 0) bytes)).text
-    → n2 ≤ length bytes2 → Consumes left next (take n2 bytes2) → after ≡ turns_after turns n2
-    → Ran given next a c first h2 (take n2 bytes2) after
-ran_more given left next a b c first h h2 n bytes n2 bytes2 turns after r busy e w room m t =
+-- one turn of the loop: a part is read, and fed
+pub ran_more : (given left next a b c : Option (List ℕ)) (first h h2 : Held) (n : ℕ) (bytes : List ℕ) (turns : ℕ)
+    → Ran given left a b first h turns → (n ≡ 0 → ⊥) → n ≤ length bytes → Consumes left next (take n bytes)
+    → h2 ≡ (feed_of h (take n bytes)).held → Appends b c (feed_of h (take n bytes)).text
+    → Ran given next a c first h2 (turns + 1)
+ran_more given left next a b c first h h2 n bytes turns r some room m e w =
     let part : List ℕ = take n bytes in
-    let z : take (n - 0) bytes ≡ part = ap (λ (k : ℕ). take k bytes) (nought n) in
     let whole : feed_of first (r.fed ++ part) ≡ saying (feed_of first r.fed).text (feed_of h part) = feed_parts first r.fed part ∙ ap (λ (x : Held). saying (feed_of first r.fed).text (feed_of x part)) r.holds in
-    let u = turns_are turns n2 after t in
     let l : length (r.fed ++ part) ≡ length r.fed + length part = length-append r.fed part in
-    let l2 : length (take n2 bytes2) ≡ n2 = length-take-le n2 bytes2 room in
-    let enough : 2 ^ 64 - 1 ≤ turns + length r.fed + length part = r.enough (some_part (length part) turns r.none busy) in
+    let l2 : length part ≡ n = length-take-le n bytes room in
     record {
       fed = r.fed ++ part;
-      read = consumes_more given left next (r.fed ++ part) (take n2 bytes2) r.read m;
-      holds = ap (λ (f : FedPart). f.held) whole ∙ sym (e ∙ ap (λ (k : List ℕ). (feed_of h k).held) z);
-      written = subst (Appends a c) (sym (ap (λ (f : FedPart). f.text) whole)) (appends_more a b c (feed_of first r.fed).text (feed_of h part).text r.written (subst (λ (k : List ℕ). Appends b c (feed_of h k).text) z w));
-      enough = λ k. omega (arith, u.0 (omega (arith, l2, k)), l, l2, enough, busy);
-      none = λ k. u.1 (sym l2 ∙ k);
+      read = consumes_more given left next r.fed part r.read m;
+      holds = ap (λ (f : FedPart). f.held) whole ∙ sym e;
+      written = subst (Appends a c) (sym (ap (λ (f : FedPart). f.text) whole)) (appends_more a b c (feed_of first r.fed).text (feed_of h part).text r.written w);
+      many = omega (arith, r.many, l, l2, some);
     }
 
-no_part : (k fed all turns : ℕ) → (0 < k → 2 ^ 64 - 1 ≤ turns + fed + k) → turns ≤ 0 → fed + k ≤ all → all < 2 ^ 64 - 1 → k ≡ 0
-no_part zero fed all turns f z e few = refl
-no_part (suc k) fed all turns f z e few = absurd (omega (arith, f (omega arith)))
+-- behind the loop: all of an input that no run of so many turns passes by is held and written
+abbrev pub Through : Option (List ℕ) → Option (List ℕ) → Option (List ℕ) → Held → Held → ℕ → Type 0
+Through given a b first now size =
+    IfSome given (λ xs. 0 < size → length xs < 2 ^ 64 - 1 → ((feed_of first xs).held ≡ now) × Appends a b (feed_of first xs).text)
 
--- what the lines of the input ask for is written, for an input that no run of so many turns passes by
-abbrev Printed : Option (List ℕ) → Option (List ℕ) → Option (List ℕ) → List ℕ → ℕ → Type 0
-Printed given a c vol size = IfSome given (λ xs. 0 < size → length xs < 2 ^ 64 - 1 → Appends a c (printed_from vol start_of (lines_of xs)))
+-- a read of no byte was the end of the input
+pub through_end : (given left next a b : Option (List ℕ)) (first h : Held) (n : ℕ) (bytes : List ℕ) (turns size : ℕ) → Ran given left a b first h turns
+    → n ≡ 0 → n ≤ length bytes → Consumes left next (take n bytes) → (n ≡ 0 → 0 < size → IsAtEnd next) → Through given a b first h size
+through_end None left next a b first h n bytes turns size r z room m end = tt
+through_end (Some xs) None next a b first h n bytes turns size r z room m end = absurd r.read
+through_end (Some xs) (Some ys) None a b first h n bytes turns size r z room m end = absurd m
+through_end (Some xs) (Some ys) (Some zs) a b first h n bytes turns size r z room m end = λ some few.
+    let none : take n bytes ≡ [] = nil_from_length (take n bytes) (length-take-le n bytes room ∙ z) in
+    let left : ys ≡ [] = m ∙ ap (λ (l : List ℕ). l ++ zs) none ∙ end z some in
+    let fed : xs ≡ r.fed = r.read ∙ ap (λ (l : List ℕ). r.fed ++ l) left ∙ append-nil r.fed in
+    subst (λ (l : List ℕ). ((feed_of first l).held ≡ h) × Appends a b (feed_of first l).text) (sym fed) (r.holds, r.written)
 
--- the end of the input
-ran_whole : (given left a b c : Option (List ℕ)) (vol : List ℕ) (h last : Held) (n : ℕ) (bytes : List ℕ) (turns size : ℕ) (before after : List ℕ) (k : ℕ)
-    → Ran given left a b (held vol start_of []) h (take n bytes) turns → turns ≤ 0 → n ≤ length bytes → (n ≡ 0 → 0 < size → IsAtEnd left)
-    → last ≡ h → Put 0 (last_text last) before after k → Appends b c (take (k - 0) after)
-    → Printed given a c vol size
-ran_whole None left a b c vol h last n bytes turns size before after k r z room end same p w = tt
-ran_whole (Some xs) None a b c vol h last n bytes turns size before after k r z room end same p w = absurd r.read
-ran_whole (Some xs) (Some ys) a b c vol h last n bytes turns size before after k r z room end same p w = λ some few.
-    let part : List ℕ = take n bytes in
-    let m : length part ≡ n = length-take-le n bytes room in
-    let all : xs ≡ (r.fed ++ part) ++ ys = r.read in
-    let l : length xs ≡ length r.fed + length part + length ys = ap length all ∙ length-append (r.fed ++ part) ys ∙ ap (λ (j : ℕ). j + length ys) (length-append r.fed part) in
-    let none : length part ≡ 0 = no_part (length part) (length r.fed) (length xs) turns r.enough z (omega (arith, l)) few in
-    let fed : xs ≡ r.fed = all ∙ ap (λ (j : List ℕ). (r.fed ++ part) ++ j) (end (sym m ∙ none) some) ∙ append-nil (r.fed ++ part) ∙ ap (λ (j : List ℕ). r.fed ++ j) (nil_from_length part none) ∙ append-nil r.fed in
-    let f : FedPart = feed_of (held vol start_of []) r.fed in
-    let text : Appends a c (f.text ++ last_text last) = appends_more a b c f.text (last_text last) r.written (subst (Appends b c) (put_taken (last_text last) before p) w) in
-    subst (λ (x : List ℕ). Appends a c (printed_from vol start_of (lines_of x))) (sym fed)
-    (subst (Appends a c) (ap (λ (x : Held). f.text ++ last_text x) (same ∙ sym r.holds) ∙ printed_any vol start_of r.fed) text)
+-- the turns are used up by no such input
+pub through_turns : (given left a b : Option (List ℕ)) (first h : Held) (turns size : ℕ) → Ran given left a b first h turns → 2 ^ 64 - 1 ≤ turns → Through given a b first h size
+through_turns None left a b first h turns size r z = tt
+through_turns (Some xs) None a b first h turns size r z = absurd r.read
+through_turns (Some xs) (Some ys) a b first h turns size r z = λ some few.
+    let l : length xs ≡ length r.fed + length ys = ap length r.read ∙ length-append r.fed ys in
+    absurd (omega (arith, l, few, z, r.many))
 
-pub ran_done : {T E : Type 0} (result : Result T E) (given left a b c : Option (List ℕ)) (vol : List ℕ) (h last : Held) (n : ℕ) (bytes : List ℕ) (turns size : ℕ) (before after : List ℕ) (k : ℕ)
-    → Ran given left a b (held vol start_of []) h (take n bytes) turns → turns ≤ 0 → n ≤ length bytes → (n ≡ 0 → 0 < size → IsAtEnd left)
-    → last ≡ h → Put 0 (last_text last) before after k → OnOk result (Appends b c (take (k - 0) after))
+-- the end of the input ends a last line
+ran_whole : (given a b c : Option (List ℕ)) (vol : List ℕ) (h : Held) (size : ℕ) (before after : List ℕ) (k : ℕ)
+    → Through given a b (held vol start_of []) h size → Put 0 (last_text h) before after k → Appends b c (take k after)
+    → IfSome given (λ xs. 0 < size → length xs < 2 ^ 64 - 1 → Appends a c (printed_from vol start_of (lines_of xs)))
+ran_whole None a b c vol h size before after k t p w = tt
+ran_whole (Some xs) a b c vol h size before after k t p w = λ some few.
+    let g = t some few in
+    let f : FedPart = feed_of (held vol start_of []) xs in
+    let text : Appends a c (f.text ++ last_text h) = appends_more a b c f.text (last_text h) g.1 (subst (Appends b c) (put_taken (last_text h) before p) w) in
+    subst (Appends a c) (ap (λ (x : Held). f.text ++ last_text x) (sym g.0) ∙ printed_any vol start_of xs) text
+
+pub ran_done : {T E : Type 0} (result : Result T E) (given a b c : Option (List ℕ)) (vol : List ℕ) (h : Held) (size : ℕ) (before after : List ℕ) (k : ℕ)
+    → Through given a b (held vol start_of []) h size → Put 0 (last_text h) before after k → OnOk result (Appends b c (take k after))
     → OnOk result (IfSome given (λ xs. 0 < size → length xs < 2 ^ 64 - 1 → Appends a c (printed_from vol start_of (lines_of xs))))
-ran_done (Ok x) given left a b c vol h last n bytes turns size before after k r z room end same p w =
-    ran_whole given left a b c vol h last n bytes turns size before after k r z room end same p w
-ran_done (Err e) given left a b c vol h last n bytes turns size before after k r z room end same p w = tt
+ran_done (Ok x) given a b c vol h size before after k t p w = ran_whole given a b c vol h size before after k t p w
+ran_done (Err e) given a b c vol h size before after k t p w = tt
 
 -- over a zeroed volume
 pub printed_all : {T E : Type 0} (result : Result T E) (given a c : Option (List ℕ)) (vol : List ℕ) (size : ℕ) → vol ≡ zeros 65536 → 0 < size

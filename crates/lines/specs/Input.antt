@@ -1,5 +1,5 @@
 -- 01, "Hosts", the line program: its input in lines. Any bytes, of any length; a last line need not end in a line feed. Assumes nothing.
-use Rattle.std.specs.Prelude.{ℕ, ◌≤◌, ◌≡◌, Bool, true, false, List, [], ◌∷◌, ◌++◌, eqb, ltb, length, take, drop}
+use Rattle.std.specs.Prelude.{ℕ, ◌≤◌, ◌≡◌, Bool, true, false, List, [], ◌∷◌, ◌++◌, eqb, ltb, length, take, drop, is_some, unwrap_or}
 use Rattle.le.specs.Choice.{pick}
 use Rattle.runs.specs.Split.{longer}
 use Rattle.lines.specs.declared.input.Gathered.{Gathered}
@@ -26,4 +26,5 @@ gather_of line (b ∷ bs) = pick (eqb b 10) (record { line = line; ended = true;
 -- what the code gathered, as places: the line's bytes, whether its line feed came, and what is left of the part
 abbrev pub GatheredAt : Gathered → List ℕ → List ℕ → Gathering → Type 0
 GatheredAt r bytes line g =
-    (take r.fill line ≡ g.line) × (r.ended ≡ g.ended) × (drop r.at bytes ≡ g.rest) × (r.at ≤ length bytes) × (r.fill ≤ 601)
+    (take r.fill line ≡ g.line) × (is_some r.next ≡ g.ended) × (drop (unwrap_or r.next (length bytes)) bytes ≡ g.rest)
+    × (unwrap_or r.next (length bytes) ≤ length bytes) × (r.fill ≤ 601)

@@ -1,6 +1,6 @@
 -- 01, "Hosts", the line program: what it prints for an input, over a zeroed volume of 128 sectors. Then the same as the program goes, which gets the
 -- input in parts and keeps little of it: proofs/Whole has that the two are one. Assumes nothing.
-use Rattle.std.specs.Prelude.{ℕ, ◌-◌, ◌≡◌, List, [], ◌∷◌, ◌++◌, eqb, length, take, drop}
+use Rattle.std.specs.Prelude.{ℕ, ◌≡◌, List, [], ◌∷◌, ◌++◌, eqb, length, take, drop}
 use Rattle.le.specs.Choice.{pick}
 use Rattle.le.specs.Part.{zeros}
 use Rattle.decimal.specs.Decimal.{Put}
@@ -84,7 +84,3 @@ held_first = held (zeros 65536) start_of []
 abbrev pub PassedAt : Passed → List ℕ → List ℕ → List ℕ → List ℕ → List ℕ → Piece → Type 0
 PassedAt r vol bytes line before after p =
     (held vol r.session (take r.fill line) ≡ p.held) × Put 0 p.text before after r.count × (drop r.at bytes ≡ p.rest)
-
--- the turns left of the loop that reads, after a read of n bytes: none at the end of the input
-unfoldable pub turns_after : ℕ → ℕ → ℕ
-turns_after turns n = pick (eqb n 0) 0 (turns - 1)

@@ -9,7 +9,7 @@ ghost use Rattle.std.specs.Io.KnownBytes.{Appends, ReadConsumes};
 ghost use Rattle.decimal.specs.Decimal.{Put};
 ghost use Rattle.session.specs.Session.{start_of};
 ghost use Rattle.lines.specs.Input.{lines_of};
-ghost use Rattle.lines.specs.Program.{line_turn, line_text, printed_from, printed_of, held, piece_of, PassedAt, feed_of, StoppedIn, last_text, turns_after};
+ghost use Rattle.lines.specs.Program.{line_turn, line_text, printed_from, printed_of, held, piece_of, PassedAt, feed_of, StoppedIn, last_text};
 
 use session::Session;
 use std::io;
@@ -32,11 +32,9 @@ fn answer(volume: &mut [u8], session: Session, line: &[u8], out: &mut [u8]) -> A
 {
     let mut rows = [0u8; 3072];
     let t = session::step(volume, session, line, &mut rows);
-    let reply = t.reply;
-    let after = t.session;
-    let count = text::put_reply(out, reply, &rows);
+    let count = text::put_reply(out, t.reply, &rows);
     Answered {
-        session: after,
+        session: t.session,
         count,
     }
 }
@@ -69,22 +67,22 @@ fn piece(
         × (at < length bytes.now → at < result.at) }
 {
     let g = input::gather(bytes, at, &mut *line, fill);
-    if !g.ended {
-        return Passed {
+    match g.next {
+        None => Passed {
             session,
-            at: g.at,
+            at: bytes.len(),
             fill: g.fill,
             count: 0,
-        };
-    }
-    let n = g.fill;
-    let a = answer(volume, session, &line[0..n], out);
-    let after = a.session;
-    Passed {
-        session: after,
-        at: g.at,
-        fill: 0,
-        count: a.count,
+        },
+        Some(next) => {
+            let a = answer(volume, session, &line[..g.fill], out);
+            Passed {
+                session: a.session,
+                at: next,
+                fill: 0,
+                count: a.count,
+            }
+        }
     }
 }
 
@@ -113,21 +111,27 @@ fn feed<W: Write>(
         (feed_of (held volume.old session (take fill line.old)) bytes.now).text) }
     ensures stopped { OnErr result (StoppedIn (held volume.old session (take fill line.old)) bytes.now volume.new) }
 {
-    let mut s = session;
-    let mut kept = fill;
+    let mut fed = FedPart { session, fill };
     let mut at = 0;
+    // no `for`: where a piece ends is known only once it is gathered
     while at < bytes.len() {
-        let p = piece(&mut *volume, s, bytes, at, &mut *line, kept, &mut *out);
-        let n = p.count;
-        output.write_all(&out[0..n])?;
-        s = p.session;
-        kept = p.fill;
+        let p = piece(
+            &mut *volume,
+            fed.session,
+            bytes,
+            at,
+            &mut *line,
+            fed.fill,
+            &mut *out,
+        );
+        output.write_all(&out[..p.count])?;
+        fed = FedPart {
+            session: p.session,
+            fill: p.fill,
+        };
         at = p.at;
     }
-    Ok(FedPart {
-        session: s,
-        fill: kept,
-    })
+    Ok(fed)
 }
 
 // The end of the input ends a last line, unless it is empty.
@@ -135,11 +139,10 @@ fn last(volume: &mut [u8], session: Session, line: &[u8], out: &mut [u8]) -> usi
     requires { 8192 ≤ length out.old }
     ensures { Put 0 (last_text (held volume.old session line.now)) out.old out.new result × (result ≤ 8192) }
 {
-    if line.len() == 0 {
+    if line.is_empty() {
         return 0;
     }
-    let a = answer(volume, session, line, out);
-    a.count
+    answer(volume, session, line, out).count
 }
 
 // Some bytes of the input at the start of the buffer, and how many: 0 at its end.
@@ -148,18 +151,6 @@ fn read_some<R: Read>(input: &mut R, bytes: &mut [u8]) -> io::Result<usize>
     ensures taken { ReadConsumes (R.remaining input.old) (R.remaining input.new) result bytes.new }
 {
     input.read(bytes)
-}
-
-// The turns left after a read of n bytes: none at the end of the input. A proved loop has to end, and nothing says that the input does; so the turns
-// are counted down, from a number that no run uses up.
-fn left_after(turns: u64, n: usize) -> u64
-    requires { 0 < turns }
-    ensures { (result ≡ turns_after turns n) × (result < turns) }
-{
-    if n == 0 {
-        return 0;
-    }
-    turns - 1
 }
 
 // The input to its end: where its bytes are known, and those that the output holds, what its lines ask for is written.
@@ -175,27 +166,28 @@ fn run<R: Read, W: Write>(
     ensures { OnOk result (IfSome (R.remaining input.old) (λ given. 0 < length bytes.old → length given < 2 ^ 64 - 1
         → Appends (W.contents output.old) (W.contents output.new) (printed_from volume.old start_of (lines_of given)))) }
 {
-    let mut s = session::start();
+    let mut session = session::start();
     let mut fill = 0;
-    let mut n = read_some(&mut *input, &mut *bytes)?;
-    let mut turns = left_after(0xffff_ffff_ffff_ffff, n);
-    while turns > 0 {
-        let f = feed(
+    // nothing says that the input ends, so the turns are counted, up to a number that no run uses up
+    for _ in 0..u64::MAX {
+        let n = read_some(&mut *input, &mut *bytes)?;
+        if n == 0 {
+            break;
+        }
+        let fed = feed(
             &mut *volume,
-            s,
-            &bytes[0..n],
+            session,
+            &bytes[..n],
             &mut *line,
             fill,
             &mut *out,
             &mut *output,
         )?;
-        s = f.session;
-        fill = f.fill;
-        n = read_some(&mut *input, &mut *bytes)?;
-        turns = left_after(turns, n);
+        session = fed.session;
+        fill = fed.fill;
     }
-    let k = last(volume, s, &line[0..fill], &mut *out);
-    output.write_all(&out[0..k])
+    let count = last(volume, session, &line[..fill], &mut *out);
+    output.write_all(&out[..count])
 }
 
 // Over a zeroed volume.

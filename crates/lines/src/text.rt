@@ -4,6 +4,7 @@ ghost use Rattle.decimal.specs.Decimal.{Put};
 ghost use Rattle.session.specs.Session.{said_of};
 ghost use Rattle.lines.specs.Text.{field_text, word_text, row_text, rows_text, said_text, Few};
 
+use medium::Error;
 use session::Reply;
 
 // Answers where the bytes end.
@@ -38,10 +39,10 @@ fn put_row(out: &mut [u8], at: usize, row: &[u8]) -> usize
     requires { (at + 96 ≤ length out.old) × (length row.now ≡ 48) }
     ensures { Put at (row_text row.now) out.old out.new result × (result ≤ at + 96) }
 {
-    let n = names::text_len(&row[0..40]);
+    let n = names::text_len(&row[..40]);
     let id = le::get_u32(row, 40);
     let chunks = le::get_u32(row, 44);
-    let a = put(&mut *out, at, &row[0..n]);
+    let a = put(&mut *out, at, &row[..n]);
     let b = put_field(&mut *out, a, id as u64);
     let c = put_field(&mut *out, b, chunks as u64);
     put(out, c, b"\n")
@@ -54,23 +55,22 @@ fn put_rows(out: &mut [u8], at: usize, rows: &[u8], count: usize) -> usize
     let mut end = at;
     for i in 0..count {
         let from = 48 * i;
-        let to = from + 48;
-        end = put_row(&mut *out, end, &rows[from..to]);
+        end = put_row(&mut *out, end, &rows[from..from + 48]);
     }
     end
 }
 
 // An answer at the start, and how many bytes it has; a list's rows follow.
-pub fn put_reply(out: &mut [u8], reply: Reply, rows: &[u8]) -> usize
+pub fn put_reply(out: &mut [u8], reply: Result<Reply, Error>, rows: &[u8]) -> usize
     requires { (8192 ≤ length out.old) × (3072 ≤ length rows.now) × Few (said_of reply) }
     ensures { Put 0 (said_text (said_of reply) rows.now) out.old out.new result × (result ≤ 8192) }
 {
     match reply {
-        Reply::Number(n) => put_word(out, b"ok", n),
-        Reply::Rows(n) => {
+        Ok(Reply::Number(n)) => put_word(out, b"ok", n),
+        Ok(Reply::Rows(n)) => {
             let at = put_word(&mut *out, b"ok", n as u64);
             put_rows(out, at, rows, n)
         }
-        Reply::No(e) => put_word(out, b"no", medium::number(e) as u64),
+        Err(e) => put_word(out, b"no", medium::number(e) as u64),
     }
 }

@@ -23,21 +23,21 @@ loop-at-preserved g c =
       few = p.2;
       line = search rules;
       out = search rules;
-      fed = fed_more _ _ _ (held l.volume l.s (take l.kept l.line)) c.args.bytes.now l.at c.piece-p.result c.piece-p.new.volume c.piece-p.new.line l.out l.invariant.fed p.0 c.in_ok-write_all.ensures.bytes;
-      made = made_more (held l.volume l.s (take l.kept l.line)) c.args.bytes.now l.at c.piece-p.result c.piece-p.new.volume c.piece-p.new.line l.out l.invariant.made p.0;
+      fed = fed_more _ _ _ (held l.volume l.fed.session (take l.fed.fill l.line)) c.args.bytes.now l.at c.piece-p.result c.piece-p.new.volume c.piece-p.new.line l.out l.invariant.fed p.0 c.in_ok-write_all.ensures.bytes;
+      made = made_more (held l.volume l.fed.session (take l.fed.fill l.line)) c.args.bytes.now l.at c.piece-p.result c.piece-p.new.volume c.piece-p.new.line l.out l.invariant.made p.0;
     }
 
 pub returns-clause-held_after : goal.returns-clause-held_after
 returns-clause-held_after g c =
     let l = c.loop-at in
-    ((fed_end _ _ (held l.volume l.s (take l.kept l.line)) c.args.bytes.now l.at (omega arith) l.invariant.fed).0, l.invariant.few)
+    ((fed_end _ _ (held l.volume l.fed.session (take l.fed.fill l.line)) c.args.bytes.now l.at (omega arith) l.invariant.fed).0, l.invariant.few)
 
 pub returns-clause-written : goal.returns-clause-written
 returns-clause-written g c =
     let l = c.loop-at in
-    (fed_end _ _ (held l.volume l.s (take l.kept l.line)) c.args.bytes.now l.at (omega arith) l.invariant.fed).1
+    (fed_end _ _ (held l.volume l.fed.session (take l.fed.fill l.line)) c.args.bytes.now l.at (omega arith) l.invariant.fed).1
 
 pub returns-in_err-write_all-clause-stopped : goal.returns-in_err-write_all-clause-stopped
 returns-in_err-write_all-clause-stopped g c =
     let l = c.loop-at in
-    on_error c.from_residual.result (made_stopped (made_more (held l.volume l.s (take l.kept l.line)) c.args.bytes.now l.at c.piece-p.result c.piece-p.new.volume c.piece-p.new.line l.out l.invariant.made c.piece-p.ensures.0))
+    on_error c.from_residual.result (made_stopped (made_more (held l.volume l.fed.session (take l.fed.fill l.line)) c.args.bytes.now l.at c.piece-p.result c.piece-p.new.volume c.piece-p.new.line l.out l.invariant.made c.piece-p.ensures.0))

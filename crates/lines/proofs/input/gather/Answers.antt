@@ -1,3 +1,4 @@
+use Rattle.std.proofs.Common.{Some, None}
 use borrow.Author.Rules.{rules}
 use Prim.Native.Nat.{◌+◌}
 use mathlib.Core.Path.{refl, sym, ap, ◌∙◌}
@@ -16,7 +17,7 @@ pub returns-then-b-eq10 : goal.returns-then-b-eq10
 returns-then-b-eq10 c =
     let l = c.loop-i in
     let a = c.args in (
-      gathered a.bytes.now l.line _ (sym l.invariant.5 ∙ gather_end (take l.fill l.line) a.bytes.now l.i (omega arith) c.if-b-eq10.true)
+      gathered a.bytes.now l.line (record { fill = l.fill; next = Some (l.i + 1) }) (sym l.invariant.5 ∙ gather_end (take l.fill l.line) a.bytes.now l.i (omega arith) c.if-b-eq10.true)
           (omega arith) (omega arith),
       λ h. omega arith,
     )
@@ -39,7 +40,7 @@ pub returns : goal.returns
 returns c =
     let l = c.loop-i in
     let a = c.args in (
-      gathered a.bytes.now l.line _ (sym l.invariant.5 ∙ gather_none (take l.fill l.line) a.bytes.now l.i (omega arith)) (omega arith)
+      gathered a.bytes.now l.line (record { fill = l.fill; next = None }) (sym l.invariant.5 ∙ gather_none (take l.fill l.line) a.bytes.now l.i (omega arith)) (omega arith)
           (omega arith),
       λ h. omega arith,
     )

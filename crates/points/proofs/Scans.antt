@@ -1,5 +1,5 @@
 -- The walks over `MARKS` and over a file, by the ways that they go: a law for each return, over plain values. Assumes nothing.
-use Rattle.std.specs.Prelude.{Err, Ok}
+use Rattle.std.specs.Prelude.{Err, Ok, Result}
 use Prim.Native.Nat.{ℕ, ◌+◌, ◌≤◌, ◌<◌}
 use mathlib.Core.Path.{◌≡◌, refl, sym, ap, ◌∙◌}
 use mathlib.Core.Bool.{true, false}
@@ -22,8 +22,6 @@ use Rattle.medium.specs.Refusal.{Answer, ok, number_of, on_ok}
 use Rattle.medium.proofs.Laws.{on_done_keeps}
 use Rattle.handles.specs.declared.Store.{Store}
 use Rattle.reader.specs.declared.Next.TheVariants as item
-use Rattle.reader.specs.declared.Numbered.{Numbered}
-use Rattle.reader.specs.declared.Numbered.TheVariants as numbered
 use Rattle.reader.specs.declared.Read.{Read}
 use Rattle.reader.specs.declared.Reader.{Reader}
 use Rattle.reader.specs.Reader.{reader_ok}
@@ -61,7 +59,7 @@ next_passes vol m st rd out {x} =
     (λ e q w. absurd (let z : ◌≡◌ {A = ℕ} 0 1 = cc in omega arith)))
 
 pub next_size : (vol : List ℕ) (m : Medium) (st : Store) (rd : Reader) (r : Read) {out : List ℕ} {n : ℕ}
-    → read_answer r out ≡ next_call vol m st rd (zeros 486) → r.next ≡ item.Payload n → (n ≤ 486) × (length out ≡ 486)
+    → read_answer r out ≡ next_call vol m st rd (zeros 486) → r.next ≡ Ok (item.Payload n) → (n ≤ 486) × (length out ≡ 486)
 next_size vol m st rd r {out} {n} e q =
     let a : (next_call vol m st rd (zeros 486)).answer ≡ ok (payload n) = ap (λ (c : NextCall). c.answer) (sym e) ∙ ap next_answer q in
     let o = next_offered vol m st rd (zeros 486) (next_passes vol m st rd (zeros 486) a) in
@@ -69,19 +67,19 @@ next_size vol m st rd r {out} {n} e q =
 
 module _ (says : List ℕ → Mark) (vol : List ℕ) (m : Medium) (st : Store) (rd : Reader) (r : Read) {out : List ℕ}
     (read : read_answer r out ≡ next_call vol m st rd (zeros 486)) where
-  pub turn_refused : {e : Error} → r.next ≡ item.Refused e → visit_of (record { sight = sight.Refused e; reader = r.reader }) ≡ turn_of says vol m st rd
+  pub turn_refused : {e : Error} → r.next ≡ Err e → visit_of (record { sight = sight.Refused e; reader = r.reader }) ≡ turn_of says vol m st rd
   unfolding sight_visit turn_of on_ok
   turn_refused q = rw (← read, q)
 
-  pub turn_hole : {from to blank : ℕ} → r.next ≡ item.Hole from to blank → visit_of (record { sight = sight.Passed; reader = r.reader }) ≡ turn_of says vol m st rd
+  pub turn_hole : {from to blank : ℕ} → r.next ≡ Ok (item.Hole from to blank) → visit_of (record { sight = sight.Passed; reader = r.reader }) ≡ turn_of says vol m st rd
   unfolding sight_visit turn_of on_ok after_item
   turn_hole q = rw (← read, q)
 
-  pub turn_end : r.next ≡ item.End → visit_of (record { sight = sight.End; reader = r.reader }) ≡ turn_of says vol m st rd
+  pub turn_end : r.next ≡ Ok item.End → visit_of (record { sight = sight.End; reader = r.reader }) ≡ turn_of says vol m st rd
   unfolding sight_visit turn_of on_ok after_item
   turn_end q = rw (← read, q)
 
-  pub turn_payload : {n : ℕ} {s : Sight} → r.next ≡ item.Payload n → s ≡ sight_of (says (take n out))
+  pub turn_payload : {n : ℕ} {s : Sight} → r.next ≡ Ok (item.Payload n) → s ≡ sight_of (says (take n out))
       → visit_of (record { sight = s; reader = r.reader }) ≡ turn_of says vol m st rd
   unfolding turn_of on_ok after_item
   turn_payload {n} q h = rw (← read, q, h) (sight_mark (says (take n out)) r.reader)
@@ -169,11 +167,11 @@ module _ (vol : List ℕ) (m : Medium) (st : Store) (name : List ℕ) (r : Reade
     unfolding end_of on_ok
     end_no h = rw (← walks_past, ← opened, q, h)
 
-    module _ {s : Seen} (h : w ≡ walked.To s) (n : Numbered) (counts : numbered_answer n ≡ record_call st s.reader) where
-      pub end_past : {e : Error} → n ≡ numbered.Refused e → ended_answer (ended.Refused e) ≡ end_of vol m st name
+    module _ {s : Seen} (h : w ≡ walked.To s) (n : Result ℕ Error) (counts : numbered_answer n ≡ record_call st s.reader) where
+      pub end_past : {e : Error} → n ≡ Err e → ended_answer (ended.Refused e) ≡ end_of vol m st name
       unfolding end_of on_ok
       end_past k = rw (← walks_past, ← opened, q, h, ← counts, k)
 
-      pub end_at_lem : {number : ℕ} → n ≡ numbered.Is number → ended_answer (ended.At s.reader.id number) ≡ end_of vol m st name
+      pub end_at_lem : {number : ℕ} → n ≡ Ok number → ended_answer (ended.At s.reader.id number) ≡ end_of vol m st name
       unfolding end_of on_ok
       end_at_lem k = rw (← walks_past, ← opened, q, h, ← counts, k)

@@ -8,7 +8,7 @@ use super::{Ended, Place, Seen, Sight, Turn, Walked};
 use handles::Store;
 use marks::Mark;
 use medium::{Error, Medium};
-use reader::{Next, Numbered, Reader};
+use reader::{Next, Reader};
 
 // The most turns of a walk. It ends before: a reader goes forward, and a file has at most 2,048 chunks of 512 records.
 const TURNS: u32 = 1_048_577;
@@ -43,26 +43,22 @@ fn turn(
     let n = r.next;
     let behind = r.reader;
     match n {
-        Next::Refused(e) => Turn {
+        Err(e) => Turn {
             sight: Sight::Refused(e),
             reader: behind,
         },
-        Next::Payload(length) => {
+        Ok(Next::Payload(length)) => {
             let sight = sight_of(seeking, point, &out[0..length]);
             Turn {
                 sight,
                 reader: behind,
             }
         }
-        Next::Hole {
-            from: _,
-            to: _,
-            blank: _,
-        } => Turn {
+        Ok(Next::Hole { .. }) => Turn {
             sight: Sight::Passed,
             reader: behind,
         },
-        Next::End => Turn {
+        Ok(Next::End) => Turn {
             sight: Sight::End,
             reader: behind,
         },
@@ -150,8 +146,8 @@ pub(crate) fn end_of(volume: &[u8], medium: Medium, store: Store, name: &[u8]) -
             let behind = s.reader;
             let n = behind.record(store);
             match n {
-                Numbered::Refused(e) => Ended::Refused(e),
-                Numbered::Is(number) => Ended::At {
+                Err(e) => Ended::Refused(e),
+                Ok(number) => Ended::At {
                     id: behind.id,
                     number,
                 },

@@ -1,4 +1,5 @@
 -- What the bytes of an entry, a link and a record show in the views: of those made, of zeros, and of those found. Assumes nothing.
+use Rattle.std.specs.Prelude.{Some}
 use mathlib.Core.Path.{◌≡◌, refl, ◌∙◌}
 use mathlib.Core.Bool.{Bool, true, false}
 use mathlib.Core.List.{List}
@@ -21,7 +22,6 @@ use Rattle.table.specs.declared.LinkAt.{LinkAt}
 use Rattle.table.specs.declared.LinkAt.TheVariants as link
 use Rattle.table.specs.Link.{link_bytes, link_in, link_part, owned_by}
 use Rattle.table.proofs.Numbers.{Sound, Said, refused, past, free, linked, link_said, link_bytes_lem, link_zero}
-use Rattle.record.specs.declared.Judged.TheVariants.{Valid}
 use Rattle.record.specs.Record.{record_of, judge_of}
 use Rattle.record.proofs.RoundTrip.{Passes, judge_facts, judge_made, judge_carries, payload_made}
 use Rattle.layout.specs.Views.{Entry, vacant, named, stored, entry_view, link_view, rec_view}
@@ -73,7 +73,7 @@ module _ (id file number : ℕ) (x : List ℕ) (hid : id < 2 ^ 64) (hfile : file
   pub record_shown : rec_view id (record_of id file number x) ≡ stored file number x
   unfolding rec_view
   record_shown =
-      let made : judge_of id file number (record_of id file number x) ≡ Valid (length x) = judge_made id file number x most hid hfile hnumber least in
+      let made : judge_of id file number (record_of id file number x) ≡ Some (length x) = judge_made id file number x most hid hfile hnumber least in
       let p : Passes id file number (record_of id file number x) (length x) = judge_facts id file number (record_of id file number x) made in
       pick_true _ _ (judge_carries id file number (record_of id file number x) made)
       ∙ rw (p.owner, p.place, p.size, payload_made id file number x most)

@@ -12,16 +12,16 @@ returns-in-Refused c =
     end_no a.volume.now a.medium a.store a.name.now c.reader-r.result c.reader-r.ensures
     c.in_default.is a.name.now _ c.walk-w.ensures c.in-Refused.is
 
-pub returns-in-Refused-n : goal.returns-in-Refused-n
-returns-in-Refused-n c =
+pub returns-in-Err-n : goal.returns-in-Err-n
+returns-in-Err-n c =
     let a = c.args in
     end_past a.volume.now a.medium a.store a.name.now c.reader-r.result c.reader-r.ensures
     c.in_default.is a.name.now _ c.walk-w.ensures c.in-To.is _ c.record-n.ensures
-    c.in-Refused-n.is
+    c.in-Err-n.is
 
-pub returns-in-Is : goal.returns-in-Is
-returns-in-Is c =
+pub returns-in-Ok : goal.returns-in-Ok
+returns-in-Ok c =
     let a = c.args in
     end_at_lem a.volume.now a.medium a.store a.name.now c.reader-r.result c.reader-r.ensures
     c.in_default.is a.name.now _ c.walk-w.ensures c.in-To.is _ c.record-n.ensures
-    c.in-Is.is
+    c.in-Ok.is

@@ -9,33 +9,33 @@ pub slice_bounds-sight_of-end : goal.slice_bounds-sight_of-end
 unfolding zeros
 slice_bounds-sight_of-end c =
     let h = (let a = c.args in
-    next_size a.volume.now a.medium a.store a.reader c.next-r.result c.next-r.ensures c.in-Payload.is) in
+    next_size a.volume.now a.medium a.store a.reader c.next-r.result c.next-r.ensures (rw c.in-Ok-Payload.field-0-is at c.in-Ok-Payload.is)) in
     omega (arith, h.0, h.1)
 
-pub returns-in-Refused : goal.returns-in-Refused
+pub returns-in-Err : goal.returns-in-Err
 unfolding zeros
-returns-in-Refused c =
+returns-in-Err c =
     let a = c.args in
     turn_refused (sought_of a.seeking a.point.now) a.volume.now a.medium a.store a.reader c.next-r.result c.next-r.ensures
-    c.in-Refused.is
+    c.in-Err.is
 
-pub returns-in-Payload : goal.returns-in-Payload
+pub returns-in-Ok-Payload : goal.returns-in-Ok-Payload
 unfolding zeros
-returns-in-Payload c =
+returns-in-Ok-Payload c =
     let a = c.args in
     turn_payload (sought_of a.seeking a.point.now) a.volume.now a.medium a.store a.reader c.next-r.result c.next-r.ensures
-    c.in-Payload.is (simp sub-zero at c.sight_of-sight.ensures)
+    (rw c.in-Ok-Payload.field-0-is at c.in-Ok-Payload.is) (simp sub-zero at c.sight_of-sight.ensures)
 
-pub returns-in-Hole : goal.returns-in-Hole
+pub returns-in-Ok-Hole : goal.returns-in-Ok-Hole
 unfolding zeros
-returns-in-Hole c =
+returns-in-Ok-Hole c =
     let a = c.args in
     turn_hole (sought_of a.seeking a.point.now) a.volume.now a.medium a.store a.reader c.next-r.result c.next-r.ensures
-    c.in-Hole.is
+    (rw c.in-Ok-Hole.field-0-is at c.in-Ok-Hole.is)
 
-pub returns-in-End : goal.returns-in-End
+pub returns-in-Ok-End : goal.returns-in-Ok-End
 unfolding zeros
-returns-in-End c =
+returns-in-Ok-End c =
     let a = c.args in
     turn_end (sought_of a.seeking a.point.now) a.volume.now a.medium a.store a.reader c.next-r.result c.next-r.ensures
-    c.in-End.is
+    (rw c.in-Ok-End.field-0-is at c.in-Ok-End.is)

@@ -1,6 +1,5 @@
 -- The numbers in which answers, handles and the medium record cross to another language. Assumes nothing.
-use Rattle.std.specs.Prelude.{None, Option, Some}
-use Rattle.std.specs.Prelude.{ℕ, ◌%◌, Bool, true, false, not, List, [], ◌∷◌, eqb, get_or}
+use Rattle.std.specs.Prelude.{None, Option, Some, ℕ, ◌%◌, Bool, true, false, not, List, [], ◌∷◌, eqb, get_or}
 use Rattle.le.specs.Choice.{pick}
 use Rattle.le.specs.Part.{part}
 use Rattle.medium.specs.declared.Medium.{Medium}
@@ -73,8 +72,8 @@ abbrev pub found_words : Answer (ℕ × ℕ) → List ℕ
 found_words (ok found) = found.0 ∷ found.1 ∷ 0 ∷ []
 found_words (refused n) = 0 ∷ 0 ∷ 0 ∷ []
 
-unfoldable pub end_at : ℕ → ℕ → End
-end_at kind records = pick (eqb kind 0) Last (Records (narrow_of records))
+unfoldable pub end_at : ℕ → ℕ → Option ℕ
+end_at kind records = pick (eqb kind 0) None (Some (narrow_of records))
 
 unfoldable pub reader_of : List ℕ → Reader
 reader_of w =
@@ -90,9 +89,9 @@ reader_of w =
       index = narrow_of (get_or w 9 0);
     }
 
-abbrev pub end_words : End → List ℕ → List ℕ
-end_words Last l = 0 ∷ 0 ∷ l
-end_words (Records n) l = 1 ∷ n ∷ l
+abbrev pub end_words : Option ℕ → List ℕ → List ℕ
+end_words None l = 0 ∷ 0 ∷ l
+end_words (Some n) l = 1 ∷ n ∷ l
 
 unfoldable pub reader_words : Reader → List ℕ
 reader_words r =

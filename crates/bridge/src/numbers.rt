@@ -11,7 +11,7 @@ use directory::Found;
 use freemap::FreeMap;
 use handles::{Header, Store, Writer};
 use medium::{Error, Medium};
-use reader::{End, Next, Numbered, Reader};
+use reader::{Next, Reader};
 
 // The low 32 bits.
 pub fn narrow(x: u64) -> u32
@@ -201,13 +201,13 @@ pub fn found_words(f: Result<Found, Error>) -> [u64; 3]
     }
 }
 
-fn end_in(kind: u64, records: u64) -> End
+fn end_in(kind: u64, records: u64) -> Option<u32>
     ensures { result ≡ end_at kind records }
 {
     if kind == 0 {
-        return End::Last;
+        return None;
     }
-    End::Records(narrow(records))
+    Some(narrow(records))
 }
 
 pub fn reader_in(w: [u64; 10]) -> Reader
@@ -230,9 +230,8 @@ pub fn reader_in(w: [u64; 10]) -> Reader
 pub fn reader_words(r: Reader) -> [u64; 10]
     ensures { result ≡ reader_words r }
 {
-    let end = r.end;
-    match end {
-        End::Last => [
+    match r.end {
+        None => [
             r.store,
             r.generation,
             r.slot as u64,
@@ -244,7 +243,7 @@ pub fn reader_words(r: Reader) -> [u64; 10]
             r.position as u64,
             r.index as u64,
         ],
-        End::Records(n) => [
+        Some(n) => [
             r.store,
             r.generation,
             r.slot as u64,
@@ -260,48 +259,42 @@ pub fn reader_words(r: Reader) -> [u64; 10]
 }
 
 // 0, or the number of a refusal of `next`.
-pub fn next_code(n: Next) -> u32
+pub fn next_code(n: Result<Next, Error>) -> u32
     ensures { result ≡ code_of (next_answer n) }
 {
     match n {
-        Next::Refused(e) => medium::number(e),
-        Next::Payload(_) => 0,
-        Next::Hole {
-            from: _,
-            to: _,
-            blank: _,
-        } => 0,
-        Next::End => 0,
+        Err(e) => medium::number(e),
+        Ok(_) => 0,
     }
 }
 
 // 0 the end; 1 and the payload's length; 2 and a hole's first record, the one past it and how many of its sectors are blank.
-pub fn next_words(n: Next) -> [u64; 4]
+pub fn next_words(n: Result<Next, Error>) -> [u64; 4]
     ensures { result ≡ item_words (next_answer n) }
 {
     match n {
-        Next::Refused(_) => [0, 0, 0, 0],
-        Next::Payload(length) => [1, length as u64, 0, 0],
-        Next::Hole { from, to, blank } => [2, from as u64, to as u64, blank as u64],
-        Next::End => [0, 0, 0, 0],
+        Err(_) => [0, 0, 0, 0],
+        Ok(Next::Payload(length)) => [1, length as u64, 0, 0],
+        Ok(Next::Hole { from, to, blank }) => [2, from as u64, to as u64, blank as u64],
+        Ok(Next::End) => [0, 0, 0, 0],
     }
 }
 
 // 0, or the number of a refusal of `record`.
-pub fn numbered_code(n: Numbered) -> u32
+pub fn numbered_code(n: Result<u32, Error>) -> u32
     ensures { result ≡ code_of (numbered_answer n) }
 {
     match n {
-        Numbered::Refused(e) => medium::number(e),
-        Numbered::Is(_) => 0,
+        Err(e) => medium::number(e),
+        Ok(_) => 0,
     }
 }
 
-pub fn numbered_words(n: Numbered) -> [u64; 3]
+pub fn numbered_words(n: Result<u32, Error>) -> [u64; 3]
     ensures { result ≡ number_words (numbered_answer n) }
 {
     match n {
-        Numbered::Refused(_) => [0, 0, 0],
-        Numbered::Is(x) => [x as u64, 0, 0],
+        Err(_) => [0, 0, 0],
+        Ok(number) => [number as u64, 0, 0],
     }
 }

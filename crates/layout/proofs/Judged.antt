@@ -1,5 +1,6 @@
 -- The view of a data sector against the judging of it, and of an entry against its id: a stored record is valid at its own file and number, with its
 -- payload, and at no other. Assumes nothing.
+use Rattle.std.specs.Prelude.{Option, Some, None}
 use mathlib.Core.Path.{◌≡◌, refl, ap, sym, ◌∙◌}
 use mathlib.Core.Bool.{Bool, true, not, ◌&&◌}
 use mathlib.Core.Logic.{◌≢◌}
@@ -42,7 +43,7 @@ stored_parts id sector {f} {k} {x} =
 
 -- what a stored record is judged at its own file and number
 pub record Passed (id : ℕ) (sector : List ℕ) (f k : ℕ) (x : List ℕ) : Type 0 where
-  pub valid : judge_of id f k sector ≡ Valid (length x)
+  pub valid : judge_of id f k sector ≡ Some (length x)
   pub payload : payload_of sector (length x) ≡ x
   pub least : 1 ≤ length x
   pub most : length x ≤ 486
@@ -51,24 +52,24 @@ pub stored_judged : (id : ℕ) (sector : List ℕ) {f k : ℕ} {x : List ℕ} �
 unfolding payload_of
 stored_judged id sector {f} {k} {x} size e =
     let p : Stored id sector f k x = stored_parts id sector e in
-    let j : judge_of id f k sector ≡ Valid (get_le 2 20 sector) = rw (p.file, p.number) at (carries_judge id sector p.carries) in
+    let j : judge_of id f k sector ≡ Some (get_le 2 20 sector) = rw (p.file, p.number) at (carries_judge id sector p.carries) in
     let b = judge_length id f k sector j in
     let n : length x ≡ get_le 2 20 sector = ap length (sym p.payload) ∙ length_part 22 (get_le 2 20 sector) sector (omega (arith, size, b.1)) in
     record { valid = rw n j; payload = rw n p.payload; least = rw n b.0; most = rw n b.1 }
 
 -- and what is judged valid is stored
-pub judged_stored : (id f k : ℕ) (sector : List ℕ) {n : ℕ} → judge_of id f k sector ≡ Valid n → rec_view id sector ≡ stored f k (payload_of sector n)
+pub judged_stored : (id f k : ℕ) (sector : List ℕ) {n : ℕ} → judge_of id f k sector ≡ Some n → rec_view id sector ≡ stored f k (payload_of sector n)
 unfolding rec_view
 judged_stored id f k sector {n} e =
     let p = judge_facts id f k sector e in
     pick_true _ _ (judge_carries id f k sector e) ∙ rw (p.owner, p.place, p.size) refl
 
 -- where no record of this file and number is stored, the sector is judged to be another
-pub judged_other : (id f k : ℕ) (sector : List ℕ) → ((x : List ℕ) → rec_view id sector ≡ stored f k x → ⊥) → judge_of id f k sector ≡ Other
+pub judged_other : (id f k : ℕ) (sector : List ℕ) → ((x : List ℕ) → rec_view id sector ≡ stored f k x → ⊥) → judge_of id f k sector ≡ None
 unfolding judge_of
 judged_other id f k sector none =
-    pick_keeps_by (λ (j : Judged). j ≡ Other) _ _ _
-    (λ t. absurd (none _ (judged_stored id f k sector (pick_true (Valid (get_le 2 20 sector)) Other t))))
+    pick_keeps_by (λ (j : Option ℕ). j ≡ None) _ _ _
+    (λ t. absurd (none _ (judged_stored id f k sector (pick_true (Some (get_le 2 20 sector)) None t))))
     (λ t. refl)
 
 -- ---- an entry

@@ -1,6 +1,7 @@
 -- S-1: a walk over what a reader gives ends by itself, before its turns are up: each turn that goes on raises the number of the record that comes next,
 -- and a file has at most 2,048 chunks of 512 records. And a reader stays one of its file. Assumes nothing.
-use Rattle.std.specs.Prelude.{Err}
+use Rattle.std.specs.Prelude.{Err, Result, Ok}
+use Rattle.medium.specs.declared.Error.{Error}
 use Prim.Native.Nat.{ℕ, zero, suc, ◌+◌, ◌*◌, ◌≤◌, ◌<◌}
 use mathlib.Core.Path.{◌≡◌, refl, ap, sym, subst, ◌∙◌}
 use mathlib.Core.Logic.{◌⊎◌, inl, inr}
@@ -25,7 +26,7 @@ use Rattle.handles.specs.declared.Store.{Store}
 use Rattle.handles.specs.Handles.{store_ok}
 use Rattle.handles.proofs.Laws.{store_facts}
 use Rattle.record.specs.Record.{number_at}
-use Rattle.record.proofs.Laws.{on_judged_keeps}
+use Rattle.record.proofs.Laws.{on_judged_keeps, on_result_keeps}
 use Rattle.table.specs.Table.{locate_of}
 use Rattle.table.proofs.Decides.{on_place_keeps}
 use Rattle.reader.specs.declared.Reader.{Reader}
@@ -39,8 +40,8 @@ use Rattle.reader.specs.Blank.{counted_of}
 use Rattle.reader.specs.Calls.{usable_of, Item, payload, hole, end, next_answer, NextCall, next_call}
 use Rattle.reader.specs.Upto.{stands_at}
 use Rattle.reader.proofs.Facts.{Reads, reader_facts, usable_facts}
-use Rattle.reader.proofs.Moves.{enter_inside}
-use Rattle.reader.proofs.Finds.{on_searched_keeps, next_finds}
+use Rattle.reader.proofs.Moves.{moved_same, moved_none, enter_inside}
+use Rattle.reader.proofs.Finds.{next_finds}
 use Rattle.reader.proofs.Forward.{next_forward}
 use Rattle.points.specs.declared.Seen.{Seen}
 use Rattle.points.specs.Look.{after_mark, after_item, turn_of, turns, walk_of}
@@ -48,10 +49,11 @@ use Rattle.points.specs.Look.{after_mark, after_item, turn_of, turns, walk_of}
 -- ---- a reader stays in its file, and where there is more it is in one of its chunks
 
 module _ (vol : List ℕ) (m : Medium) (st : Store) where
-  enter_id : (rd : Reader) (position index : ℕ) → (enter_of vol m st rd position index).reader.id ≡ rd.id
+  enter_id : (rd : Reader) (position index : ℕ) {r : Reader} → enter_of vol m st rd position index ≡ Ok r → r.id ≡ rd.id
   unfolding enter_of inside_of
-  enter_id rd position index =
-      on_place_keeps (λ (s : Entered). s.reader.id ≡ rd.id) (locate_of vol m st rd.slot position) _ _ (λ e q. refl) (λ c l q. refl)
+  enter_id rd position index {r} =
+      on_place_keeps (λ (s : Result Reader Error). s ≡ Ok r → r.id ≡ rd.id) (locate_of vol m st rd.slot position) _ _ (λ e q z. moved_none z)
+      (λ c l q z. moved_same (λ (v : Reader). v.id ≡ rd.id) z refl)
 
   record On (chunks id k : ℕ) (rd : Reader) : Type 0 where
     at : rd.position ≡ k
@@ -60,30 +62,30 @@ module _ (vol : List ℕ) (m : Medium) (st : Store) where
 
   record Came (id : ℕ) (a : Arrived) : Type 0 where
     file : a.reader.id ≡ id
-    inside : a.more ≡ true → a.reader.position < a.reader.chunks
+    inside : a.more ≡ Ok true → a.reader.position < a.reader.chunks
 
   module _ (chunks id k : ℕ) (rd : Reader) (h : k < chunks) (p : On chunks id k rd) where
     goes : (u : Reader) → arrive_step vol m st k rd ≡ next u → On chunks id (k + 1) u
     unfolding arrive_step
     goes u =
         pick_keeps_by (λ (s : Visit Reader Arrived). s ≡ next u → On chunks id (k + 1) u) (passed_end rd.end rd.index) _ _
-        (λ t. on_done_keeps (λ (s : Visit Reader Arrived). s ≡ next u → On chunks id (k + 1) u) (enter_of vol m st rd (k + 1) 0).outcome _ _
-        (λ o q.
+        (λ t. on_result_keeps (λ (s : Visit Reader Arrived). s ≡ next u → On chunks id (k + 1) u) (enter_of vol m st rd (k + 1) 0) _ _
+        (λ x o q. absurd (let z : ◌≡◌ {A = ℕ} 0 1 = cc in omega arith))
+        (λ r o q.
         let i = enter_inside vol m st rd (k + 1) 0 o in
-        let z : (enter_of vol m st rd (k + 1) 0).reader ≡ u = cc in
-        subst (On chunks id (k + 1)) z record { at = i.0; all = i.1 ∙ p.all; file = enter_id rd (k + 1) 0 ∙ p.file })
-        (λ x o q. absurd (let z : ◌≡◌ {A = ℕ} 0 1 = cc in omega arith)))
+        let z : r ≡ u = cc in
+        subst (On chunks id (k + 1)) z record { at = i.0; all = i.1 ∙ p.all; file = enter_id rd (k + 1) 0 o ∙ p.file }))
         (λ t q. absurd (let z : ◌≡◌ {A = ℕ} 0 1 = cc in omega arith))
 
     stops : (a : Arrived) → arrive_step vol m st k rd ≡ stop a → Came id a
     unfolding arrive_step
     stops a =
         pick_keeps_by (λ (s : Visit Reader Arrived). s ≡ stop a → Came id a) (passed_end rd.end rd.index) _ _
-        (λ t. on_done_keeps (λ (s : Visit Reader Arrived). s ≡ stop a → Came id a) (enter_of vol m st rd (k + 1) 0).outcome _ _
-        (λ o q. absurd (let z : ◌≡◌ {A = ℕ} 0 1 = cc in omega arith))
+        (λ t. on_result_keeps (λ (s : Visit Reader Arrived). s ≡ stop a → Came id a) (enter_of vol m st rd (k + 1) 0) _ _
         (λ x o q.
-        let z : ◌≡◌ {A = Arrived} (record { outcome = Err x; reader = (enter_of vol m st rd (k + 1) 0).reader; more = false }) a = cc in
-        subst (Came id) z record { file = enter_id rd (k + 1) 0 ∙ p.file; inside = λ y. absurd (false≢true y) }))
+        let z : ◌≡◌ {A = Arrived} (record { reader = rd; more = Err x }) a = cc in
+        subst (Came id) z record { file = p.file; inside = λ y. absurd (let z : ◌≡◌ {A = ℕ} 0 1 = cc in omega arith) })
+        (λ r o q. absurd (let z : ◌≡◌ {A = ℕ} 0 1 = cc in omega arith)))
         (λ t q.
         let z : rd ≡ a.reader = cc in
         record { file = ap (λ (r : Reader). r.id) (sym z) ∙ p.file; inside = λ y. subst (λ (r : Reader). r.position < r.chunks) z (omega (arith, p.at, p.all, h)) })
@@ -93,15 +95,15 @@ module _ (vol : List ℕ) (m : Medium) (st : Store) where
   arrive_came rd h =
       walk_keeps (arrive_step vol m st) _ rd.chunks (On rd.chunks rd.id) (Came rd.id)
       (λ k t u l p. goes rd.chunks rd.id k t l p u) (λ k t a l p. stops rd.chunks rd.id k t l p a)
-      (λ t p. record { file = p.file; inside = λ y. absurd (false≢true y) })
+      (λ t p. record { file = p.file; inside = λ y. absurd (let z : ◌≡◌ {A = ℕ} 0 1 = cc in omega arith) })
       rd.position rd h (record { at = refl; all = refl; file = refl })
 
   -- behind a payload or a hole
-  abbrev Within : Found → Reader → Type 0
-  Within (found.Refused e) rd = Unit {0}
-  Within (found.Payload n) rd = rd.position < rd.chunks
-  Within (found.Hole a b) rd = rd.position < rd.chunks
-  Within found.End rd = Unit {0}
+  abbrev Within : Result Found Error → Reader → Type 0
+  Within (Err e) rd = Unit {0}
+  Within (Ok (found.Payload n)) rd = rd.position < rd.chunks
+  Within (Ok (found.Hole a b)) rd = rd.position < rd.chunks
+  Within (Ok found.End) rd = Unit {0}
 
   abbrev Stays : ℕ → Taken → Type 0
   Stays id t = (t.reader.id ≡ id) × Within t.next t.reader
@@ -110,7 +112,7 @@ module _ (vol : List ℕ) (m : Medium) (st : Store) where
     hole_stays : Stays id (hole_of vol m st rd)
     unfolding hole_of moved_to
     hole_stays =
-        on_searched_keeps (Stays id) (search_of vol m st rd (rd.index + 1) (limit_of rd.end st.head.chunk)) _ _ (λ e. (f, tt))
+        on_result_keeps (Stays id) (search_of vol m st rd (rd.index + 1) (limit_of rd.end st.head.chunk)) _ _ (λ e _. (f, tt))
         (λ to q. pick_keeps (Stays id) _ _ _ (f, tt) (f, b))
 
     take_stays : (out : List ℕ) → Stays id (take_of vol m st rd out).ans
@@ -122,12 +124,11 @@ module _ (vol : List ℕ) (m : Medium) (st : Store) where
   unfolding next_of
   next_stays rd out h =
       let a : Came rd.id (arrive_of vol m st rd) = arrive_came rd h in
-      on_done_keeps (λ (o : NextOut). Stays rd.id o.ans) (arrive_of vol m st rd).outcome _ _
-      (λ o.
-      pick_keeps_by (λ (x : NextOut). Stays rd.id x.ans) (arrive_of vol m st rd).more _ _
-      (λ t. take_stays rd.id (arrive_of vol m st rd).reader a.file (a.inside t) out)
+      on_result_keeps (λ (o : NextOut). Stays rd.id o.ans) (arrive_of vol m st rd).more _ _ (λ e o. (a.file, tt))
+      (λ more o.
+      pick_keeps_by (λ (x : NextOut). Stays rd.id x.ans) more _ _
+      (λ t. take_stays rd.id (arrive_of vol m st rd).reader a.file (a.inside (o ∙ ap Ok t)) out)
       (λ t. (a.file, tt)))
-      (λ e o. (a.file, tt))
 
   -- the reader that next hands back is one of the same file
   pub next_id : (rd : Reader) (out : List ℕ) → (next_call vol m st rd out).reader.id ≡ rd.id
@@ -164,12 +165,12 @@ module _ (vol : List ℕ) (m : Medium) (st : Store) where
         let q = (next_finds vol m st out ok_store enough rd r).reads in
         omega (arith, stands_most taken.reader ok_store q, q.chunks_most, h)
 
-    taken_raised : (x : Found) → taken.next ≡ x → Raised (stands_at st rd) (next_answer (counted_of vol st taken.reader x)) taken.reader
+    taken_raised : (x : Result Found Error) → taken.next ≡ x → Raised (stands_at st rd) (next_answer (counted_of vol st taken.reader x)) taken.reader
     unfolding counted_of
-    taken_raised (found.Refused e) q = tt
-    taken_raised (found.Payload n) q = (rw q at (next_forward vol m st rd out r), most (rw q at (next_stays rd out r.position).1))
-    taken_raised (found.Hole a b) q = (rw q at (next_forward vol m st rd out r), most (rw q at (next_stays rd out r.position).1))
-    taken_raised found.End q = tt
+    taken_raised (Err e) q = tt
+    taken_raised (Ok (found.Payload n)) q = (rw q at (next_forward vol m st rd out r), most (rw q at (next_stays rd out r.position).1))
+    taken_raised (Ok (found.Hole a b)) q = (rw q at (next_forward vol m st rd out r), most (rw q at (next_stays rd out r.position).1))
+    taken_raised (Ok found.End) q = tt
 
   next_raised : (rd : Reader) (out : List ℕ) → 486 ≤ length out → Raised (stands_at st rd) (next_call vol m st rd out).answer (next_call vol m st rd out).reader
   unfolding next_call

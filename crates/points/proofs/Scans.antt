@@ -57,7 +57,7 @@ next_passes vol m st rd out {x} =
     (λ e q w. absurd (let z : ◌≡◌ {A = ℕ} 0 1 = cc in omega arith)))
 
 pub next_size : (vol : List ℕ) (m : Medium) (st : Store) (rd : Reader) (r : Read) {out : List ℕ} {n : ℕ}
-    → read_answer r out ≡ next_call vol m st rd (zeros 486) → r.next ≡ item.Payload n → (n ≤ 486) × (length out ≡ 486)
+    → read_answer r out ≡ next_call vol m st rd (zeros 486) → r.next ≡ Ok (item.Payload n) → (n ≤ 486) × (length out ≡ 486)
 next_size vol m st rd r {out} {n} e q =
     let a : (next_call vol m st rd (zeros 486)).answer ≡ ok (payload n) = ap (λ (c : NextCall). c.answer) (sym e) ∙ ap next_answer q in
     let o = next_offered vol m st rd (zeros 486) (next_passes vol m st rd (zeros 486) a) in
@@ -65,19 +65,19 @@ next_size vol m st rd r {out} {n} e q =
 
 module _ (says : List ℕ → Option Mark) (vol : List ℕ) (m : Medium) (st : Store) (rd : Reader) (r : Read) {out : List ℕ}
     (read : read_answer r out ≡ next_call vol m st rd (zeros 486)) where
-  pub turn_refused : {e : Error} → r.next ≡ item.Refused e → visit_of (Err e) ≡ turn_of says vol m st rd
+  pub turn_refused : {e : Error} → r.next ≡ Err e → visit_of (Err e) ≡ turn_of says vol m st rd
   unfolding turn_of on_ok
   turn_refused q = rw (← read, q)
 
-  pub turn_hole : {from to blank : ℕ} → r.next ≡ item.Hole from to blank → visit_of (Ok (record { sight = Passed; reader = r.reader })) ≡ turn_of says vol m st rd
+  pub turn_hole : {from to blank : ℕ} → r.next ≡ Ok (item.Hole from to blank) → visit_of (Ok (record { sight = Passed; reader = r.reader })) ≡ turn_of says vol m st rd
   unfolding sight_visit turn_of on_ok after_item
   turn_hole q = rw (← read, q)
 
-  pub turn_end : r.next ≡ item.End → visit_of (Ok (record { sight = End; reader = r.reader })) ≡ turn_of says vol m st rd
+  pub turn_end : r.next ≡ Ok item.End → visit_of (Ok (record { sight = End; reader = r.reader })) ≡ turn_of says vol m st rd
   unfolding sight_visit turn_of on_ok after_item
   turn_end q = rw (← read, q)
 
-  pub turn_payload : {n : ℕ} {s : Sight} → r.next ≡ item.Payload n → s ≡ sight_of (says (take n out))
+  pub turn_payload : {n : ℕ} {s : Sight} → r.next ≡ Ok (item.Payload n) → s ≡ sight_of (says (take n out))
       → visit_of (Ok (record { sight = s; reader = r.reader })) ≡ turn_of says vol m st rd
   unfolding turn_of on_ok after_item
   turn_payload {n} q h = rw (← read, q, h) (sight_mark (says (take n out)) r.reader)
@@ -184,11 +184,11 @@ module _ (vol : List ℕ) (m : Medium) (st : Store) (name : List ℕ) (r : Reade
     unfolding end_of on_ok
     end_no h = rw (← walks_past, ← opened, q, h)
 
-    module _ {s : Seen} (h : w ≡ Ok s) (n : Numbered) (counts : numbered_answer n ≡ record_call st s.reader) where
-      pub end_past : {e : Error} → n ≡ numbered.Refused e → refused (number_of e) ≡ end_of vol m st name
+    module _ {s : Seen} (h : w ≡ Ok s) (n : Result ℕ Error) (counts : numbered_answer n ≡ record_call st s.reader) where
+      pub end_past : {e : Error} → n ≡ Err e → refused (number_of e) ≡ end_of vol m st name
       unfolding end_of on_ok
       end_past k = rw (← walks_past, ← opened, q, h, ← counts, k)
 
-      pub end_at_lem : {number : ℕ} → n ≡ numbered.Is number → ok (s.reader.id, number) ≡ end_of vol m st name
+      pub end_at_lem : {number : ℕ} → n ≡ Ok number → ok (s.reader.id, number) ≡ end_of vol m st name
       unfolding end_of on_ok
       end_at_lem k = rw (← walks_past, ← opened, q, h, ← counts, k)

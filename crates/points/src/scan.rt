@@ -8,7 +8,7 @@ use super::{Ended, Place, Seen, Sight, Turn};
 use handles::Store;
 use marks::Mark;
 use medium::{Error, Medium};
-use reader::{Next, Numbered, Reader};
+use reader::{Next, Reader};
 
 // The most turns of a walk. It ends before: a reader goes forward, and a file has at most 2,048 chunks of 512 records.
 const TURNS: u32 = 1_048_577;
@@ -38,8 +38,8 @@ fn turn(
 {
     let mut out = [0u8; 486];
     let r = reader.next(volume, medium, store, &mut out);
-    let sight = match r.next {
-        Next::Refused(e) => return Err(e),
+    let found = r.next?;
+    let sight = match found {
         Next::Payload(length) => sight_of(sought, &out[..length]),
         Next::Hole { .. } => Sight::Passed,
         Next::End => Sight::End,
@@ -115,11 +115,9 @@ pub(crate) fn end_of(
     let r = store::reader(volume, medium, store, name);
     r.outcome?;
     let seen = walk(volume, medium, store, r.reader, None)?;
-    match seen.reader.record(store) {
-        Numbered::Refused(e) => Err(e),
-        Numbered::Is(number) => Ok(Ended {
-            id: seen.reader.id,
-            number,
-        }),
-    }
+    let number = seen.reader.record(store)?;
+    Ok(Ended {
+        id: seen.reader.id,
+        number,
+    })
 }

@@ -37,7 +37,7 @@ use Rattle.files.specs.declared.Rollover.{Rollover}
 use Rattle.files.specs.Opened.{refused_at, next_token, opened_out}
 use Rattle.files.specs.Create.{Next, make_out, over_out, round_out, create_from}
 use Rattle.reopen.specs.Reopen.{records_from, tail_for, file_out, reopen_of}
-use Rattle.reopen.proofs.Opens.{on_records_keeps}
+use Rattle.record.proofs.Laws.{on_result_keeps}
 use Rattle.store.specs.Opening.{rollover_of}
 use Rattle.store.proofs.Laws.{asked_done}
 use Rattle.safe.proofs.Frame.{clash}
@@ -73,8 +73,8 @@ module _ {P : Skipped → Type 0} {L : List ℕ → Store → Type 0} (rules : L
     file_hands : (over : Rollover) (vol : List ℕ) (m : Medium) (st : Store) (slot id : ℕ) → Kept vol st → Hands vol (file_out over vol m st slot id)
     unfolding file_out
     file_hands over vol m st slot id k =
-        on_chain_keeps (Hands vol) (chain_of vol m st slot) _ _ (λ e. refused_hands vol m st e k)
-        (λ p _. on_records_keeps (Hands vol) (records_from vol m st id p.last (p.count - 1) st.head.chunk) _ _ (λ e. refused_hands vol m st e k)
+        on_chain_keeps (Hands vol) (chain_of vol m st slot) _ _ (λ e _. refused_hands vol m st e k)
+        (λ p _. on_result_keeps (Hands vol) (records_from vol m st id p.last (p.count - 1) st.head.chunk) _ _ (λ e _. refused_hands vol m st e k)
         (λ n _. opened_hands vol m st slot id p.last (p.count - 1) (tail_for st.head.chunk n) over k.0))
 
     reopen_hands : (name : List ℕ) (over : Rollover) (vol : List ℕ) (m : Medium) (st : Store) → Kept vol st → Hands vol (reopen_of name over vol m st)

@@ -1,5 +1,5 @@
 -- open_append keeps the invariant: it changes nothing on the volume, and the appender that it opens stands at the end of the file found. Assumes nothing.
-use Rattle.std.specs.Prelude.{Err, Ok, Result}
+use Rattle.std.specs.Prelude.{Err, Ok, Result, Some, None}
 use Prim.Native.Nat.{ℕ, zero, suc, ◌+◌, ◌-◌, ◌*◌, ◌≤◌, ◌<◌}
 use mathlib.Core.Path.{◌≡◌, refl, sym, ap, subst, ◌∙◌}
 use mathlib.Core.Bool.{Bool, true}
@@ -25,7 +25,7 @@ use Rattle.handles.specs.declared.Store.{Store}
 use Rattle.directory.specs.declared.Found.{Found}
 use Rattle.directory.specs.Scan.{find_of, on_found, found_at}
 use Rattle.table.specs.Table.{on_chain}
-use Rattle.record.specs.Record.{judge_of, on_judged, data_at, number_at, read_record_of, record_at}
+use Rattle.record.specs.Record.{judge_of, on_judged, data_at, number_at, read_record_of, record_at, on_result}
 use Rattle.append.specs.declared.Appender.{Appender}
 use Rattle.append.specs.declared.Tail.{Tail}
 use Rattle.append.specs.Calls.{call_of}
@@ -100,16 +100,16 @@ module _ (vol : List ℕ) (m : Medium) (st : Store) (G : ℕ → List Segment) (
     within : (i : ℕ) → i < st.head.chunk → data_at st chunk i < sectors_of vol
     within i k = record_inside vol st w.inv.ok chunk i (w.good.inside s p h l) k
 
-    read_at : (i : ℕ) → i < st.head.chunk → record_at vol m st id chunk p i ≡ judge_of st.head.id id (number i) (bytes i)
+    read_at : (i : ℕ) → i < st.head.chunk → record_at vol m st id chunk p i ≡ Ok (judge_of st.head.id id (number i) (bytes i))
     unfolding record_at read_record_of number_at on_done
     read_at i k = rw (reads m vol r (data_at st chunk i) (within i k))
 
-    valid_at : (i : ℕ) → i < count → judge_of st.head.id id (number i) (bytes i) ≡ Valid (length (get_or (segment_at (G s) p).payloads i []))
+    valid_at : (i : ℕ) → i < count → judge_of st.head.id id (number i) (bytes i) ≡ Some (length (get_or (segment_at (G s) p).payloads i []))
     valid_at i k =
         let q : i < st.head.chunk = omega (arith, w.good.fits s p h l) in
         (stored_judged st.head.id (bytes i) (length_sector vol (data_at st chunk i) (within i q)) (w.good.written s p i name id h e l k)).valid
 
-    other_at : (i : ℕ) → i < st.head.chunk → count ≤ i → judge_of st.head.id id (number i) (bytes i) ≡ Other
+    other_at : (i : ℕ) → i < st.head.chunk → count ≤ i → judge_of st.head.id id (number i) (bytes i) ≡ None
     other_at i k q =
         judged_other st.head.id id (number i) (bytes i)
         (λ x f.
@@ -118,12 +118,12 @@ module _ (vol : List ℕ) (m : Medium) (st : Store) (G : ℕ → List Segment) (
         let c : length (segment_at (G s) a.position).payloads ≡ count = ap (λ (j : ℕ). length (segment_at (G s) j).payloads) o.1 in
         omega (arith, a.filled))
 
-    counts_to : (n : ℕ) → n ≤ st.head.chunk → count ≤ n → records_from vol m st id chunk p n ≡ records.Are count
+    counts_to : (n : ℕ) → n ≤ st.head.chunk → count ≤ n → records_from vol m st id chunk p n ≡ Ok count
     unfolding records_from on_judged
-    counts_to zero k q = let z : count ≡ 0 = omega arith in ap records.Are (sym z)
+    counts_to zero k q = let z : count ≡ 0 = omega arith in ap Ok (sym z)
     counts_to (suc n) k q =
         case count (suc n)
-        (λ f. rw (read_at n (omega arith), valid_at n (omega arith)) (ap records.Are (sym f)))
+        (λ f. rw (read_at n (omega arith), valid_at n (omega arith)) (ap Ok (sym f)))
         (λ f. rw (read_at n (omega arith), other_at n (omega arith) (omega (arith, f))) (counts_to n (omega arith) (omega (arith, f))))
 
   -- ---- the file found
@@ -137,7 +137,7 @@ module _ (vol : List ℕ) (m : Medium) (st : Store) (G : ℕ → List Segment) (
       opened_out vol m st s id (segment_at (G s) (final s)).chunk (final s) (tail_for st.head.chunk (length (segment_at (G s) (final s)).payloads)) over
 
   file_opens : (over : Rollover) (s : ℕ) (name : List ℕ) (id : ℕ) → s < 64 → (disk_of vol st).entry s ≡ named name id → file_out over vol m st s id ≡ opened over s id
-  unfolding file_out on_chain on_records
+  unfolding file_out on_chain on_result
   file_opens over s name id h e =
       let some : 1 ≤ length (G s) = w.good.held s name id h e in
       let l : final s < length (G s) = omega arith in

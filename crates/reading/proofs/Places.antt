@@ -1,5 +1,6 @@
 -- A file on a volume where every sector reads: the reader at each of its places, and what one turn of a reader finds there. Assumes nothing.
-use Rattle.std.specs.Prelude.{Ok}
+use Rattle.std.specs.Prelude.{Ok, Option, Some, None, Result}
+use Rattle.medium.specs.declared.Error.{Error}
 use mathlib.Core.Path.{◌≡◌, refl, ap, sym, ◌∙◌}
 use mathlib.Core.Logic.{◌≢◌}
 use mathlib.Core.Bool.{true, false}
@@ -46,11 +47,11 @@ count_of size s g p h = case (length (segment_at g p).payloads) size
     (λ n. rw (partial_link_lem size s g p (λ e. absurd (omega (arith, h, e))) n))
 
 pub end_inner : (size s : ℕ) (g : List Segment) (p : ℕ) → p + 1 < length g
-    → end_of (length g) p size (link_for size s g p).partial (link_for size s g p).records ≡ Records (length (segment_at g p).payloads)
+    → end_of (length g) p size (link_for size s g p).partial (link_for size s g p).records ≡ Some (length (segment_at g p).payloads)
 unfolding end_of
-end_inner size s g p h = pick_true _ _ (lt-ltb (p + 1) (length g) h) ∙ ap Records (count_of size s g p h)
+end_inner size s g p h = pick_true _ _ (lt-ltb (p + 1) (length g) h) ∙ ap Some (count_of size s g p h)
 
-pub end_last : (size s : ℕ) (g : List Segment) (p : ℕ) → p + 1 ≡ length g → end_of (length g) p size (link_for size s g p).partial (link_for size s g p).records ≡ Last
+pub end_last : (size s : ℕ) (g : List Segment) (p : ℕ) → p + 1 ≡ length g → end_of (length g) p size (link_for size s g p).partial (link_for size s g p).records ≡ None
 unfolding end_of
 end_last size s g p h = pick_false _ _ (le-ltb (p + 1) (length g) (omega (arith, h)))
 
@@ -123,12 +124,12 @@ module _ {vol : List ℕ} {m : Medium} {st : Store} {G : ℕ → List Segment} {
   stands p j h k =
       stored_judged st.head.id (sector p j) (length_sector vol (data_at st (segment_at (G s) p).chunk j) (inside p j h (omega (arith, k, fits p h)))) (f.good.written s p j name id f.slot f.entry h k)
 
-  pub judged_at_lem : (p i j : ℕ) {r : Judged} → p < length (G s) → j < size → judge_of st.head.id id (p * size + j) (sector p j) ≡ r → record_here vol m st (at p i) j ≡ r
+  pub judged_at_lem : (p i j : ℕ) {r : Option ℕ} → p < length (G s) → j < size → judge_of st.head.id id (p * size + j) (sector p j) ≡ r → record_here vol m st (at p i) j ≡ Ok r
   unfolding record_here record_at read_record_of number_at on_done
-  judged_at_lem p i j h k e = rw (f.readable (data_at st (segment_at (G s) p).chunk j) (inside p j h k)) e
+  judged_at_lem p i j h k e = rw (f.readable (data_at st (segment_at (G s) p).chunk j) (inside p j h k), e)
 
   -- past the last one none passes
-  pub none_past : (p i j : ℕ) → p < length (G s) → count p ≤ j → j < size → record_here vol m st (at p i) j ≡ judged.Other
+  pub none_past : (p i j : ℕ) → p < length (G s) → count p ≤ j → j < size → record_here vol m st (at p i) j ≡ Ok None
   none_past p i j h k l =
       judged_at_lem p i j h l (judged_other st.head.id id (p * size + j) (sector p j) (λ x q.
       let w = f.good.placed (segment_at (G s) p).chunk j s (p * size + j) x name id (f.good.inside s p f.slot h) l f.slot q f.entry in
@@ -141,15 +142,15 @@ module _ {vol : List ℕ} {m : Medium} {st : Store} {G : ℕ → List Segment} {
   pub not_passed : (p i : ℕ) → p < length (G s) → (p + 1 < length (G s) → i < count p) → passed_end (at p i).end i ≡ false
   unfolding passed_end
   not_passed p i h k = case (p + 1) (length (G s))
-      (λ e. ap (λ (x : End). passed_end x i) (end_last size s (G s) p e))
+      (λ e. ap (λ (x : Option ℕ). passed_end x i) (end_last size s (G s) p e))
       (λ e.
       let l : p + 1 < length (G s) = omega (arith, h, e) in
-      ap (λ (x : End). passed_end x i) (end_inner size s (G s) p l) ∙ lt-leb (count p) i (k l))
+      ap (λ (x : Option ℕ). passed_end x i) (end_inner size s (G s) p l) ∙ lt-leb (count p) i (k l))
 
-  pub arrived : (p i : ℕ) → p < length (G s) → (p + 1 < length (G s) → i < count p) → i ≢ size → arrive_of vol m st (at p i) ≡ record { outcome = Ok tt; reader = at p i; more = true }
+  pub arrived : (p i : ℕ) → p < length (G s) → (p + 1 < length (G s) → i < count p) → i ≢ size → arrive_of vol m st (at p i) ≡ record { reader = at p i; more = Ok true }
   arrived p i h k ne = arrive_here vol m st (at p i) h (not_passed p i h k) ∙ rw (ne_eqb i size ne)
 
-  pub entering : (p i : ℕ) → p + 1 < length (G s) → enter_of vol m st (at p i) (p + 1) 0 ≡ record { outcome = Ok tt; reader = at (p + 1) 0 }
+  pub entering : (p i : ℕ) → p + 1 < length (G s) → enter_of vol m st (at p i) (p + 1) 0 ≡ Ok (at (p + 1) 0)
   unfolding enter_of on_place inside_of
   entering p i h = rw (f.located (p + 1) h)
 
@@ -157,21 +158,21 @@ module _ {vol : List ℕ} {m : Medium} {st : Store} {G : ℕ → List Segment} {
   pub going_on : (p i : ℕ) → p + 1 < length (G s) → i ≡ count p → arrive_of vol m st (at p i) ≡ arrive_of vol m st (at (p + 1) 0)
   unfolding passed_end
   going_on p i h e =
-      arrive_on vol m st (at p i) (omega (arith, h)) (ap (λ (x : End). passed_end x i) (end_inner size s (G s) p h) ∙ le-leb (count p) i (omega (arith, e))) (sym (entering p i h)) refl
+      arrive_on vol m st (at p i) (omega (arith, h)) (ap (λ (x : Option ℕ). passed_end x i) (end_inner size s (G s) p h) ∙ le-leb (count p) i (omega (arith, e))) (entering p i h)
 
   pub taken : (p i : ℕ) (out : List ℕ) → p < length (G s) → i < count p
       → take_of vol m st (at p i) out ≡ record {
         out = over 0 (get_or (segment_at (G s) p).payloads i []) out;
-        ans = tells (found.Payload (length (get_or (segment_at (G s) p).payloads i []))) (at p (i + 1));
+        ans = tells (Ok (found.Payload (length (get_or (segment_at (G s) p).payloads i [])))) (at p (i + 1));
       }
   unfolding moved_to
   taken p i out h k =
       let b : i < size = omega (arith, k, fits p h) in
       let w = stands p i h k in
       take_valid vol m st (at p i) out (judged_at_lem p i i h b w.valid)
-      ∙ ap (λ (x : List ℕ). record { out = over 0 x out; ans = tells (found.Payload (length (get_or (segment_at (G s) p).payloads i []))) (at p (i + 1)) }) w.payload
+      ∙ ap (λ (x : List ℕ). record { out = over 0 x out; ans = tells (Ok (found.Payload (length (get_or (segment_at (G s) p).payloads i [])))) (at p (i + 1)) }) w.payload
 
-  pub taken_end : (p i : ℕ) (out : List ℕ) → p + 1 ≡ length (G s) → i ≡ count p → i < size → take_of vol m st (at p i) out ≡ record { out = out; ans = tells found.End (at p i) }
+  pub taken_end : (p i : ℕ) (out : List ℕ) → p + 1 ≡ length (G s) → i ≡ count p → i < size → take_of vol m st (at p i) out ≡ record { out = out; ans = tells (Ok found.End) (at p i) }
   taken_end p i out h e b =
       let l : p < length (G s) = omega (arith, h) in
       take_other vol m st (at p i) out (none_past p i i l (omega (arith, e)) b)

@@ -1,5 +1,6 @@
 -- A file read from its start gives its payloads in order, with no hole, then the end, at the number behind its last record. Assumes nothing.
-use Rattle.std.specs.Prelude.{Ok}
+use Rattle.std.specs.Prelude.{Ok, Result}
+use Rattle.medium.specs.declared.Error.{Error}
 use mathlib.Core.Path.{◌≡◌, refl, ap, sym, ◌∙◌}
 use mathlib.Core.Bool.{true}
 use mathlib.Core.List.{List, [], ◌∷◌}
@@ -63,7 +64,7 @@ module _ (vol : List ℕ) (m : Medium) (st : Store) (G : ℕ → List Segment) (
   a_record_lem : (p i : ℕ) (out : List ℕ) → p < length (G s) → i < count p
       → next_of vol m st (at p i) out ≡ record {
         out = over 0 (get_or (segment_at (G s) p).payloads i []) out;
-        ans = tells (found.Payload (length (get_or (segment_at (G s) p).payloads i []))) (at p (i + 1));
+        ans = tells (Ok (found.Payload (length (get_or (segment_at (G s) p).payloads i [])))) (at p (i + 1));
       }
   a_record_lem p i out h k = next_here vol m st (at p i) out (arrived f p i h (λ l. k) (λ e. absurd (omega (arith, k, fits f p h, e)))) ∙ taken f p i out h k
 
@@ -74,7 +75,7 @@ module _ (vol : List ℕ) (m : Medium) (st : Store) (G : ℕ → List Segment) (
   ending = end_number size (parts_of (G s))
 
   abbrev Ends : NextOut → Type 0
-  Ends o = (o.ans.next ≡ found.End) × (stands_at st o.ans.reader ≡ ending)
+  Ends o = (o.ans.next ≡ Ok found.End) × (stands_at st o.ans.reader ≡ ending)
 
   at_ending : (p i : ℕ) → p + 1 ≡ length (G s) → i ≡ count p → stands_at st (at p i) ≡ ending
   unfolding stands_at number_at
@@ -102,7 +103,7 @@ module _ (vol : List ℕ) (m : Medium) (st : Store) (G : ℕ → List Segment) (
     short : length x ≤ 486
     left : rest (G s) q j ≡ more
     first : l ≡ x ∷ more
-    answer : (out : List ℕ) → next_of vol m st (at p i) out ≡ record { out = over 0 x out; ans = tells (found.Payload (length x)) (at q j) }
+    answer : (out : List ℕ) → next_of vol m st (at p i) out ≡ record { out = over 0 x out; ans = tells (Ok (found.Payload (length x))) (at q j) }
 
   data Onward (p i : ℕ) (l : List (List ℕ)) : Type 0 where
     one : Turn p i l → Onward p i l
@@ -163,7 +164,7 @@ module _ (vol : List ℕ) (m : Medium) (st : Store) (G : ℕ → List Segment) (
       go : Onward p i [] → (out : List ℕ) → 486 ≤ length out → ((next_call vol m st (at p i) out).answer ≡ ok end) × (stands_at st (next_call vol m st (at p i) out).reader ≡ ending)
       go (one t) out e = absurd (let a : ◌≡◌ {A = List (List ℕ)} [] (t.x ∷ t.more) = t.first in let z : ◌≡◌ {A = ℕ} 0 1 = cc in omega (arith, z))
       go (over_now a b) out e =
-          rw (called p i out h k e) (ap (λ (x : Found). next_answer (counted_of vol st (next_of vol m st (at p i) out).ans.reader x)) (b out).0, (b out).1)
+          rw (called p i out h k e) (ap (λ (x : Result Found Error). next_answer (counted_of vol st (next_of vol m st (at p i) out).ans.reader x)) (b out).0, (b out).1)
   gives (x ∷ xs) p i h k r = go (λ q j a b c. gives xs q j a b c) (onward (length (G s)) p i h k (omega arith) (x ∷ xs) r)
     where
       go : ((q j : ℕ) → q < length (G s) → j ≤ count q → rest (G s) q j ≡ xs → GivesTo vol m st (at q j) xs ending) → Onward p i (x ∷ xs) → (out : List ℕ) → 486 ≤ length out
@@ -174,7 +175,7 @@ module _ (vol : List ℕ) (m : Medium) (st : Store) (G : ℕ → List Segment) (
           let u : t.x ≡ x = cc in
           let v : t.more ≡ xs = cc in
           let w : length x ≤ 486 = rw u at t.short in
-          let a : next_of vol m st (at p i) out ≡ record { out = over 0 x out; ans = tells (found.Payload (length x)) (at t.q t.j) } = rw u at (t.answer out) in
+          let a : next_of vol m st (at p i) out ≡ record { out = over 0 x out; ans = tells (Ok (found.Payload (length x))) (at t.q t.j) } = rw u at (t.answer out) in
           rw (called p i out h k e, a) (refl, part_over 0 x out (omega (arith, w, e)), ih t.q t.j t.in_file_lem t.in_chunk (t.left ∙ v))
       go ih (over_now a b) out e = absurd (let z : ◌≡◌ {A = ℕ} 0 1 = cc in omega (arith, z))
 

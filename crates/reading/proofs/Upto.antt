@@ -1,5 +1,6 @@
 -- S-1: a file read from its start up to a record number gives its payloads with a number below it, in order, then the end. Assumes nothing.
-use Rattle.std.specs.Prelude.{Ok}
+use Rattle.std.specs.Prelude.{Ok, Result}
+use Rattle.medium.specs.declared.Error.{Error}
 use mathlib.Core.Path.{◌≡◌, refl, ap, sym, ◌∙◌}
 use mathlib.Core.Logic.{◌≢◌, ◌⊎◌, inl, inr}
 use mathlib.Core.Bool.{Bool, true, false, not, ◌&&◌, and-false}
@@ -19,7 +20,7 @@ use Rattle.medium.specs.Sector.{sectors_of, read_of}
 use Rattle.handles.specs.declared.Store.{Store}
 use Rattle.handles.specs.Handles.{store_ok}
 use Rattle.table.specs.Table.{locate_of, place_at}
-use Rattle.record.specs.Record.{number_at}
+use Rattle.record.specs.Record.{number_at, on_result}
 use Rattle.reader.specs.declared.Reader.{Reader}
 use Rattle.reader.specs.declared.Found.{Found}
 use Rattle.reader.specs.declared.Found.TheVariants as found
@@ -91,7 +92,7 @@ module _ (vol : List ℕ) (m : Medium) (st : Store) (G : ℕ → List Segment) (
       in_chunk : j ≤ count q
       same : until p i ≡ until q j
       way : (j < count q) ⊎ ((q + 1 ≡ length (G s)) × (j ≡ count q))
-      came : arrive_of vol m st (at p i) ≡ record { outcome = Ok tt; reader = at q j; more = not (eqb j size) }
+      came : arrive_of vol m st (at p i) ≡ record { reader = at q j; more = Ok (not (eqb j size)) }
 
     arrives_here : (p i : ℕ) → p < length (G s) → i ≤ count p → (p + 1 < length (G s) → i < count p) → (i < count p) ⊎ ((p + 1 ≡ length (G s)) × (i ≡ count p)) → Arrival p i
     arrives_here p i h k l y =
@@ -122,7 +123,7 @@ module _ (vol : List ℕ) (m : Medium) (st : Store) (G : ℕ → List Segment) (
 
     -- ---- one call
 
-    given : (p i : ℕ) (out : List ℕ) → left p ≤ i → (below_of limit vol m st (at p i) out).ans.next ≡ found.End
+    given : (p i : ℕ) (out : List ℕ) → left p ≤ i → (below_of limit vol m st (at p i) out).ans.next ≡ Ok found.End
     unfolding below_of
     given p i out h = ap (λ (o : NextOut). o.ans.next) (pick_true _ _ (le-leb limit (stands_at st (at p i)) (far p i h)))
 
@@ -131,16 +132,16 @@ module _ (vol : List ℕ) (m : Medium) (st : Store) (G : ℕ → List Segment) (
       here = at a.q a.j
 
       by_arrival : below_of limit vol m st (at p i) out
-          ≡ pick (not (eqb a.j size) && ltb (stands_at st here) limit) (cut_out limit st here (take_of vol m st here out)) (record { out = out; ans = tells found.End here })
-      unfolding below_of on_done
+          ≡ pick (not (eqb a.j size) && ltb (stands_at st here) limit) (cut_out limit st here (take_of vol m st here out)) (record { out = out; ans = tells (Ok found.End) here })
+      unfolding below_of on_result
       by_arrival = pick_false _ _ (lt-leb limit (stands_at st (at p i)) (near p i more)) ∙ rw a.came
 
-      past : left a.q ≤ a.j → (below_of limit vol m st (at p i) out).ans.next ≡ found.End
+      past : left a.q ≤ a.j → (below_of limit vol m st (at p i) out).ans.next ≡ Ok found.End
       past h =
           let z : (not (eqb a.j size) && ltb (stands_at st here) limit) ≡ false = rw (le-ltb (stands_at st here) limit (far a.q a.j h)) (and-false (not (eqb a.j size))) in
           ap (λ (o : NextOut). o.ans.next) (by_arrival ∙ pick_false _ _ z)
 
-      full : a.j ≡ size → (below_of limit vol m st (at p i) out).ans.next ≡ found.End
+      full : a.j ≡ size → (below_of limit vol m st (at p i) out).ans.next ≡ Ok found.End
       full e =
           let z : (not (eqb a.j size) && ltb (stands_at st here) limit) ≡ false = rw (eq-eqb a.j size e) refl in
           ap (λ (o : NextOut). o.ans.next) (by_arrival ∙ pick_false _ _ z)
@@ -154,15 +155,15 @@ module _ (vol : List ℕ) (m : Medium) (st : Store) (G : ℕ → List Segment) (
 
         one_more : a.j < count a.q → below_of limit vol m st (at p i) out ≡ record {
           out = over 0 (get_or (segment_at (G s) a.q).payloads a.j []) out;
-          ans = tells (found.Payload (length (get_or (segment_at (G s) a.q).payloads a.j []))) (at a.q (a.j + 1));
+          ans = tells (Ok (found.Payload (length (get_or (segment_at (G s) a.q).payloads a.j [])))) (at a.q (a.j + 1));
         }
         unfolding cut_out cut_at
         one_more l = reads_on ∙ rw (taken f a.q a.j out a.in_file_lem l)
 
-        no_more : a.q + 1 ≡ length (G s) → a.j ≡ count a.q → (below_of limit vol m st (at p i) out).ans.next ≡ found.End
+        no_more : a.q + 1 ≡ length (G s) → a.j ≡ count a.q → (below_of limit vol m st (at p i) out).ans.next ≡ Ok found.End
         unfolding cut_out cut_at
         no_more l e =
-            let z : cut_out limit st here (take_of vol m st here out) ≡ record { out = out; ans = tells found.End here } = rw (taken_end f a.q a.j out l e h) in
+            let z : cut_out limit st here (take_of vol m st here out) ≡ record { out = out; ans = tells (Ok found.End) here } = rw (taken_end f a.q a.j out l e h) in
             ap (λ (o : NextOut). o.ans.next) (reads_on ∙ z)
 
     -- ---- the way on from a place
@@ -177,11 +178,11 @@ module _ (vol : List ℕ) (m : Medium) (st : Store) (G : ℕ → List Segment) (
       short : length x ≤ 486
       left_over : until q j ≡ more
       first : l ≡ x ∷ more
-      answer : (out : List ℕ) → below_of limit vol m st (at p i) out ≡ record { out = over 0 x out; ans = tells (found.Payload (length x)) (at q j) }
+      answer : (out : List ℕ) → below_of limit vol m st (at p i) out ≡ record { out = over 0 x out; ans = tells (Ok (found.Payload (length x))) (at q j) }
 
     data Ahead (p i : ℕ) (l : List (List ℕ)) : Type 0 where
       one : Stride p i l → Ahead p i l
-      over_now : l ≡ [] → ((out : List ℕ) → (below_of limit vol m st (at p i) out).ans.next ≡ found.End) → Ahead p i l
+      over_now : l ≡ [] → ((out : List ℕ) → (below_of limit vol m st (at p i) out).ans.next ≡ Ok found.End) → Ahead p i l
 
     ahead : (p i : ℕ) → p < length (G s) → i ≤ count p → (l : List (List ℕ)) → until p i ≡ l → Ahead p i l
     ahead p i h k l r = split i (left p) (λ b. over_now (sym r ∙ until_past size limit (G s) p i (omega (arith, k, fits f p h)) b) (λ out. given p i out b))
@@ -228,7 +229,7 @@ module _ (vol : List ℕ) (m : Medium) (st : Store) (G : ℕ → List Segment) (
         go (one t) out e = absurd (let a : ◌≡◌ {A = List (List ℕ)} [] (t.x ∷ t.more) = t.first in let z : ◌≡◌ {A = ℕ} 0 1 = cc in omega (arith, z))
         go (over_now a b) out e =
             ap (λ (c : UptoCall). c.answer) (asked p i out h k e)
-            ∙ ap (λ (x : Found). next_answer (counted_of vol st (below_of limit vol m st (at p i) out).ans.reader x)) (b out)
+            ∙ ap (λ (x : Result Found Error). next_answer (counted_of vol st (below_of limit vol m st (at p i) out).ans.reader x)) (b out)
     upto (x ∷ xs) p i h k r = go (λ q j a b c. upto xs q j a b c) (ahead p i h k (x ∷ xs) r)
       where
         go : ((q j : ℕ) → q < length (G s) → j ≤ count q → until q j ≡ xs → GivesUpto vol m st (record { reader = at q j; limit = limit }) xs) → Ahead p i (x ∷ xs)
@@ -241,7 +242,7 @@ module _ (vol : List ℕ) (m : Medium) (st : Store) (G : ℕ → List Segment) (
             let u : t.x ≡ x = cc in
             let v : t.more ≡ xs = cc in
             let w : length x ≤ 486 = rw u at t.short in
-            let a : below_of limit vol m st (at p i) out ≡ record { out = over 0 x out; ans = tells (found.Payload (length x)) (at t.q t.j) } = rw u at (t.answer out) in
+            let a : below_of limit vol m st (at p i) out ≡ record { out = over 0 x out; ans = tells (Ok (found.Payload (length x))) (at t.q t.j) } = rw u at (t.answer out) in
             rw (asked p i out h k e, a) (refl, part_over 0 x out (omega (arith, w, e)), ih t.q t.j t.in_file_lem t.in_chunk (t.left_over ∙ v))
         go ih (over_now a b) out e = absurd (let z : ◌≡◌ {A = ℕ} 0 1 = cc in omega (arith, z))
 

@@ -1,5 +1,5 @@
 -- What the bytes of an entry, a link and a record show in the views: of those made, of zeros, and of those found. Assumes nothing.
-use Rattle.std.specs.Prelude.{Result, Ok, Err}
+use Rattle.std.specs.Prelude.{Result, Ok, Err, Some}
 use mathlib.Core.Path.{◌≡◌, refl, ◌∙◌}
 use mathlib.Core.Bool.{Bool, true, false}
 use mathlib.Core.List.{List}
@@ -73,7 +73,7 @@ module _ (id file number : ℕ) (x : List ℕ) (hid : id < 2 ^ 64) (hfile : file
   pub record_shown : rec_view id (record_of id file number x) ≡ stored file number x
   unfolding rec_view
   record_shown =
-      let made : judge_of id file number (record_of id file number x) ≡ Valid (length x) = judge_made id file number x most hid hfile hnumber least in
+      let made : judge_of id file number (record_of id file number x) ≡ Some (length x) = judge_made id file number x most hid hfile hnumber least in
       let p : Passes id file number (record_of id file number x) (length x) = judge_facts id file number (record_of id file number x) made in
       pick_true _ _ (judge_carries id file number (record_of id file number x) made)
       ∙ rw (p.owner, p.place, p.size, payload_made id file number x most)

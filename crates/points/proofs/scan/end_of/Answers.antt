@@ -14,12 +14,13 @@ returns-in_err-seen c =
     let e : c.from_residual-in_err-seen.result ≡ Err c.in_err-seen.field-0.0 = search rules in
     rw e (end_no a.volume.now a.medium a.store a.name.now c.reader-r.result c.reader-r.ensures c.in_ok-r.was _ c.walk.ensures c.in_err-seen.was)
 
-pub returns-in-Refused : goal.returns-in-Refused
-returns-in-Refused c =
+pub returns-in_err-number : goal.returns-in_err-number
+returns-in_err-number c =
     let a = c.args in
-    end_past a.volume.now a.medium a.store a.name.now c.reader-r.result c.reader-r.ensures c.in_ok-r.was _ c.walk.ensures c.in_ok-seen.was _ c.record.ensures c.in-Refused.is
+    let e : c.from_residual-in_err-number.result ≡ Err c.in_err-number.field-0.0 = search rules in
+    rw e (end_past a.volume.now a.medium a.store a.name.now c.reader-r.result c.reader-r.ensures c.in_ok-r.was _ c.walk.ensures c.in_ok-seen.was _ c.record.ensures c.in_err-number.was)
 
-pub returns-in-Is : goal.returns-in-Is
-returns-in-Is c =
+pub returns : goal.returns
+returns c =
     let a = c.args in
-    end_at_lem a.volume.now a.medium a.store a.name.now c.reader-r.result c.reader-r.ensures c.in_ok-r.was _ c.walk.ensures c.in_ok-seen.was _ c.record.ensures c.in-Is.is
+    end_at_lem a.volume.now a.medium a.store a.name.now c.reader-r.result c.reader-r.ensures c.in_ok-r.was _ c.walk.ensures c.in_ok-seen.was _ c.record.ensures c.in_ok-number.was

@@ -1,15 +1,16 @@
-use Rattle.std.proofs.Common.{sym, arith}
+use Rattle.std.proofs.Common.{◌≡◌, Err, rules, sym, arith}
 use lib.Seq.{length-take-le}
 use Rattle.le.specs.Part.{zeros}
 use Rattle.points.proofs.Scans.{turn_refused, turn_hole, turn_end, turn_payload, next_size}
 use Rattle.points.proofs.scan.turn.Goals.{in-Payload, in-Hole, in-End}
 use Rattle.points.proofs.scan.turn.Goals as goal
 
-pub returns-in-Refused : goal.returns-in-Refused
+pub returns-in_err-found : goal.returns-in_err-found
 unfolding zeros
-returns-in-Refused c =
+returns-in_err-found c =
     let a = c.args in
-    turn_refused _ a.volume.now a.medium a.store a.reader c.next-r.result c.next-r.ensures c.in-Refused.is
+    let e : c.from_residual.result ≡ Err c.in_err-found.field-0.0 = search rules in
+    rw e (turn_refused _ a.volume.now a.medium a.store a.reader c.next-r.result c.next-r.ensures c.in_err-found.was)
 
 pub slice_bounds-out-end : goal.slice_bounds-out-end
 unfolding zeros

@@ -14,13 +14,21 @@ use Rattle.medium.specs.declared.Written.{Written}
 use Rattle.medium.specs.Refusal.{number_of, refused, outcome_of}
 use Rattle.medium.specs.Sector.{read_of, spend_of, write_of}
 
--- an answer that is not 11
-abbrev pub NotStale : {A : Type 0} → Result A Error → Type 0
-NotStale (Ok a) = Unit
+-- an outcome that is not 11
+abbrev pub NotStale : Result Unit Error → Type 0
+NotStale (Ok tt) = Unit
 NotStale (Err e) = eqb (number_of e) 11 ≡ false
 
-pub no_stale : {A : Type 0} {r : Result A Error} {e : Error} → NotStale r → r ≡ Err e → NotStale {A = Unit} (Err e)
+pub no_stale : {o : Result Unit Error} {e : Error} → NotStale o → o ≡ Err e → NotStale (Err e)
 no_stale n q = subst NotStale q n
+
+-- the same of a step that gives a value
+abbrev pub NotStaleOf : {A : Type 0} → Result A Error → Type 0
+NotStaleOf (Ok a) = Unit
+NotStaleOf (Err e) = NotStale (Err e)
+
+pub no_stale_of : {A : Type 0} {r : Result A Error} {e : Error} → NotStaleOf r → r ≡ Err e → NotStale (Err e)
+no_stale_of n q = subst NotStaleOf q n
 
 -- as 01 has it
 pub told_not_stale : (o : Result Unit Error) → NotStale o → outcome_of o ≡ refused 11 → ⊥

@@ -216,7 +216,8 @@ pub fn commit(volume: &mut [u8], medium: Medium, store: Store, edit: Edit, name:
     if !is_current(found, store) {
         return refused(Error::Stale, medium, store);
     }
-    if store.head.generation == u64::MAX {
+    let last = u64::MAX;
+    if store.head.generation == last {
         return refused(Error::Spent, medium, store);
     }
     rewrite(volume, medium, store, found.listed, edit, name)

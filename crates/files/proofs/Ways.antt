@@ -1,5 +1,5 @@
 -- What create gives, by the way that it goes: a law for each return, over plain values. Assumes nothing.
-use Rattle.std.specs.Prelude.{Err, Ok, None, Result}
+use Rattle.std.specs.Prelude.{Err, Ok, Option, None, Some, Result}
 use Rattle.std.proofs.Common.{◌≡◌, ℕ, ◌-◌, ◌^◌, true, false, List, [], sym, refl, ap, ◌∙◌, eq-eqb, ne_eqb}
 use mathlib.Core.Bool.{false≢true}
 use Rattle.le.specs.Choice.{pick}

@@ -6,11 +6,11 @@ returns-in-Err c =
     let a = c.args in
     not_found a.volume.now a.medium a.store c.in-Err.is c.no_reader.ensures
 
-pub returns-in-Refused-c : goal.returns-in-Refused-c
-returns-in-Refused-c c =
+pub returns-in-Refused : goal.returns-in-Refused
+returns-in-Refused c =
     let a = c.args in
     no_chain_lem a.volume.now a.medium a.store c.in-Ok.is c.chain-c.ensures
-    c.in-Refused-c.is c.no_reader-in-Refused-c.ensures
+    c.in-Refused.is c.no_reader-in-Refused.ensures
 
 pub returns-in-Whole : goal.returns-in-Whole
 returns-in-Whole c =

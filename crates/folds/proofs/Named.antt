@@ -151,16 +151,16 @@ module _ (vol : List ℕ) (m : Medium) (st : Store) (ok : Checked vol m st) (G :
   more_there : (name : List ℕ) (k : ℕ) (t : Seen) → Upto name k t → t.exists ≡ true → (s : ℕ) × (s < k + 1) × ((i : ℕ) × ((disk_of vol st).entry s ≡ named name i))
   more_there name k t p e = let x = p.there e in (x.0, omega (arith, x.1), x.2)
 
-  never_none : (o : Option ℕ) {i : ℕ} → option_or o (Some i) ≡ None → ⊥
-  never_none None e = none-some _ (sym e)
-  never_none (Some j) e = none-some _ (sym e)
+  never_none : (o : Option ℕ) (i : ℕ) → option_or o (Some i) ≡ None → ⊥
+  never_none None i e = none-some _ (sym e)
+  never_none (Some j) i e = none-some _ (sym e)
 
   upto_free : (name : List ℕ) (k : ℕ) (t : Seen) → (disk_of vol st).entry k ≡ vacant → Upto name k t → Upto name (k + 1) (free_seen k t)
   unfolding free_seen
   upto_free name k t q p =
       let new = more_new name k t p (λ i v. vacant≢named q v) in
       let there = more_there name k t p in
-      record { new = new; there = there; full = λ e. absurd (never_none t.free e) }
+      record { new = new; there = there; full = λ e. absurd (never_none t.free k e) }
 
   upto_file : (name : List ℕ) (k : ℕ) (t : Seen) (n : List ℕ) (id : ℕ) → (disk_of vol st).entry k ≡ named n id → Upto name k t
       → Upto name (k + 1) (file_seen (same_bytes name n) t)

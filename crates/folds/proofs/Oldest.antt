@@ -54,12 +54,12 @@ module _ (vol : List ℕ) (st : Store) (dir : List ℕ) (spared : Option ℕ) wh
 
   -- slot k has no file that may go and is older
   passed : (k : ℕ) (old : Option Old) → Olds k old → (old ≡ None → (n : List ℕ) (i : ℕ) → (disk_of vol st).entry k ≡ named n i → Goes dir spared n i → ⊥)
-      → ({o : Old} → old ≡ Some o → (n : List ℕ) (i : ℕ) → (disk_of vol st).entry k ≡ named n i → Goes dir spared n i → o.id ≤ i) → Olds (k + 1) old
+      → ((o : Old) → old ≡ Some o → (n : List ℕ) (i : ℕ) → (disk_of vol st).entry k ≡ named n i → Goes dir spared n i → o.id ≤ i) → Olds (k + 1) old
   passed k old p f g =
       record {
         none = λ e. below_more (λ (s : ℕ). (n : List ℕ) (i : ℕ) → (disk_of vol st).entry s ≡ named n i → Goes dir spared n i → ⊥) k (p.none e) (f e);
         some = p.some;
-        least = λ {o} e. below_more (λ (s : ℕ). (n : List ℕ) (i : ℕ) → (disk_of vol st).entry s ≡ named n i → Goes dir spared n i → o.id ≤ i) k (p.least e) (g e);
+        least = λ {o} e. below_more (λ (s : ℕ). (n : List ℕ) (i : ℕ) → (disk_of vol st).entry s ≡ named n i → Goes dir spared n i → o.id ≤ i) k (p.least e) (g o e);
       }
 
   module _ (k : ℕ) (n : List ℕ) (i : ℕ) (h : k < 64) (q : (disk_of vol st).entry k ≡ named n i) where
@@ -93,15 +93,15 @@ module _ (vol : List ℕ) (st : Store) (dir : List ℕ) (spared : Option ℕ) wh
         (λ t. picked None p (and_true (test n i) true t).0 (λ o e. absurd (none-some _ e)))
         (λ t.
         passed k None p
-        (λ e n' i' v g. true≢false (both_false (test n i) true t (goes_test n' i' v g)))
-        (λ {o} e n' i' v g. absurd (none-some _ e)))
+        (λ e n' i' v g. false≢true (sym (both_false (test n i) true t (goes_test n' i' v g))))
+        (λ o e n' i' v g. absurd (none-some _ e)))
     older (Some old) p =
         pick_keeps_by (Olds (k + 1)) (test n i && ltb i old.id) _ _
         (λ t. let a = and_true (test n i) (ltb i old.id) t in picked (Some old) p a.0 (λ o e. rw (← same_Some _ _ e) (ltb-true i old.id a.1)))
         (λ t.
         passed k (Some old) p
         (λ e n' i' v g. absurd (none-some _ (sym e)))
-        (λ {o} e n' i' v g. rw (← same_Some _ _ e, ← same_id q v) (ltb-false i old.id (both_false (test n i) _ t (goes_test n' i' v g)))))
+        (λ o e n' i' v g. rw (← same_Some _ _ e, ← same_id q v) (ltb-false i old.id (both_false (test n i) _ t (goes_test n' i' v g)))))
 
 pub oldest_view : (vol : List ℕ) (m : Medium) (st : Store) → Checked vol m st → (G : ℕ → List Segment) → Good (disk_of vol st) G → (dir : List ℕ) (spared : Option ℕ)
     → (old : Option Old) × (oldest_of vol m st dir spared ≡ Ok old) × Olds vol st dir spared 64 old
@@ -109,6 +109,6 @@ unfolding oldest_of
 oldest_view vol m st ok G good dir spared =
     scan_views vol m st ok (seeking dir spared) (Olds vol st dir spared)
     (λ r. (old : Option Old) × (r ≡ Ok old) × Olds vol st dir spared 64 old) good.whole
-    (λ k t b p q. passed vol st dir spared k t p (λ e n i v g. vacant≢named q v) (λ {o} e n i v g. absurd (vacant≢named q v)))
+    (λ k t b p q. passed vol st dir spared k t p (λ e n i v g. vacant≢named q v) (λ o e n i v g. absurd (vacant≢named q v)))
     (λ k t n i b p q. older vol st dir spared k n i b q t p) (λ t p. (t, refl, p)) _
     (record { none = λ e. below_none _; some = λ {o} e. absurd (none-some _ e); least = λ {o} e. absurd (none-some _ e) })

@@ -6,11 +6,11 @@ returns-in-Err c =
     let a = c.args in
     not_found a.volume.now a.medium a.store c.in-Err.is c.no_reader.ensures
 
-pub returns-in-Err : goal.returns-in-Err
-returns-in-Err c =
+pub returns-in-Err-p : goal.returns-in-Err-p
+returns-in-Err-p c =
     let a = c.args in
     no_chain_lem a.volume.now a.medium a.store c.in-Ok.is c.chain-c.ensures
-    c.in-Err-p-c.is c.no_reader-in-Err-p-c.ensures
+    c.in-Err-p.is c.no_reader-in-Err-p.ensures
 
 pub returns-in-Ok : goal.returns-in-Ok
 returns-in-Ok c =

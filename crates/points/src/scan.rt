@@ -40,9 +40,8 @@ fn turn(
 {
     let mut out = [0u8; 486];
     let r = reader.next(volume, medium, store, &mut out);
-    let n = r.next;
     let behind = r.reader;
-    match n {
+    match r.next {
         Err(e) => Turn {
             sight: Sight::Refused(e),
             reader: behind,

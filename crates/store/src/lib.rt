@@ -228,22 +228,17 @@ fn started(volume: &[u8], medium: Medium, store: Store, f: Result<Found, Error>)
     requires { (64 ≤ sectors_of volume.now) × (store.head.chunks ≤ 2048) }
     ensures { result ≡ started_at volume.now medium store f }
 {
-    match f {
+    let found = match f {
+        Ok(found) => found,
+        Err(e) => return no_reader(e, medium),
+    };
+    match table::chain(volume, medium, store, found.slot) {
+        Ok(chain) => ReaderAnswer {
+            outcome: Ok(()),
+            reader: Reader::start(store, found.slot, found.id, chain),
+            medium,
+        },
         Err(e) => no_reader(e, medium),
-        Ok(Found { slot, id }) => {
-            let c = table::chain(volume, medium, store, slot);
-            match c {
-                Err(e) => no_reader(e, medium),
-                Ok(p) => {
-                    let reader = Reader::start(store, slot, id, p);
-                    ReaderAnswer {
-                        outcome: Ok(()),
-                        reader,
-                        medium,
-                    }
-                }
-            }
-        }
     }
 }
 

@@ -1,7 +1,7 @@
 use Rattle.bridge.proofs.numbers.next_words.Goals as goal
 
-pub returns-in-Payload : goal.returns-in-Payload
-returns-in-Payload c = rw c.in-Payload.is
+pub returns-in-Ok-Payload : goal.returns-in-Ok-Payload
+returns-in-Ok-Payload c = rw (c.in-Ok-Payload.is, rw c.in-Ok-Payload.is at c.in-Ok-Payload.field-0-is)
 
-pub returns-in-Hole : goal.returns-in-Hole
-returns-in-Hole c = rw c.in-Hole.is
+pub returns-in-Ok-Hole : goal.returns-in-Ok-Hole
+returns-in-Ok-Hole c = rw (c.in-Ok-Hole.is, rw c.in-Ok-Hole.is at c.in-Ok-Hole.field-0-is)

@@ -1,10 +1,10 @@
 use Rattle.bridge.specs.Numbers.{reader_words}
 use Rattle.bridge.proofs.numbers.reader_words.Goals as goal
 
-pub returns-in-Last : goal.returns-in-Last
+pub returns-in-None : goal.returns-in-None
 unfolding reader_words
-returns-in-Last c = rw c.in-Last.is
+returns-in-None c = rw c.in-None.is
 
-pub returns-in-Records : goal.returns-in-Records
+pub returns-in-Some : goal.returns-in-Some
 unfolding reader_words
-returns-in-Records c = rw c.in-Records.is
+returns-in-Some c = rw c.in-Some.is

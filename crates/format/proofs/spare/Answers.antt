@@ -12,16 +12,16 @@ returns-then-not-has_id-2 c =
     rw (
       ← c.has_id.ensures,
       c.if-not-has_id.false,
-      ← c.has_id-2.ensures,
+      ← c.has_id-else-not-has_id.ensures,
       c.if-not-has_id-2.true,
     )
 
-pub returns : goal.returns
+pub returns-else-not-has_id-2 : goal.returns-else-not-has_id-2
 unfolding spare_of pick
-returns c =
+returns-else-not-has_id-2 c =
     rw (
       ← c.has_id.ensures,
       c.if-not-has_id.false,
-      ← c.has_id-2.ensures,
+      ← c.has_id-else-not-has_id.ensures,
       c.if-not-has_id-2.false,
     )

@@ -1,6 +1,6 @@
 -- What a commit gives, by the way that it goes: a law for a turn of the loop over the body, and for each return of `write_body`, `rewrite` and
 -- `commit`, over plain values. Assumes nothing.
-use Rattle.std.specs.Prelude.{Err, Ok, Result}
+use Rattle.std.specs.Prelude.{Err, Ok}
 use mathlib.Core.Path.{◌≡◌, refl, ap, ◌∙◌}
 use mathlib.Core.Bool.{Bool, true, false}
 use mathlib.Core.List.{List}
@@ -14,7 +14,7 @@ use Rattle.medium.specs.declared.Error.{Error}
 use Rattle.medium.specs.declared.Error.TheVariants.{Stale, Spent}
 use Rattle.medium.specs.declared.Medium.{Medium}
 use Rattle.medium.specs.declared.Written.{Written}
-use Rattle.medium.specs.Refusal.{on_done, on_value}
+use Rattle.medium.specs.Refusal.{on_done}
 use Rattle.medium.specs.Sector.{sectors_of, write_of}
 use Rattle.freemap.specs.declared.FreeMap.{FreeMap}
 use Rattle.handles.specs.declared.Header.{Header}
@@ -101,22 +101,22 @@ module _ (p : Plan) (vol : List ℕ) (m : Medium) {at : ℕ} {vz : List ℕ} {z 
 
 -- ---- before the first write
 
-module _ (edit : Edit) (name vol : List ℕ) (m : Medium) (st : Store) {r : Result Current Error} (hr : r ≡ current_of vol m) where
-  pub unfound : {e : Error} → r ≡ Err e → GivesC vol (record { outcome = Err e; medium = m; store = st }) (commit_of edit name vol m st)
-  unfolding commit_of on_value
-  unfound d = rw (told hr d) (refl, refl)
+module _ (edit : Edit) (name vol : List ℕ) (m : Medium) (st : Store) {c : Current} (hc : c ≡ current_of vol m) where
+  pub unfound : {e : Error} → c.outcome ≡ Err e → GivesC vol (record { outcome = Err e; medium = m; store = st }) (commit_of edit name vol m st)
+  unfolding commit_of on_done
+  unfound d = rw (← hc, d) (refl, refl)
 
-  module _ {c : Current} (d : r ≡ Ok c) {b : Bool} (hb : b ≡ is_current c st) where
+  module _ (d : c.outcome ≡ Ok tt) {b : Bool} (hb : b ≡ is_current c st) where
     pub stale : b ≡ false → GivesC vol (record { outcome = Err Stale; medium = m; store = st }) (commit_of edit name vol m st)
-    unfolding commit_of on_value pick
-    stale t = rw (told hr d, ← hb, t) (refl, refl)
+    unfolding commit_of on_done pick
+    stale t = rw (← hc, ← hb, t, d) (refl, refl)
 
     module _ (t : b ≡ true) where
       pub spent : st.head.generation ≡ 2 ^ 64 - 1 → GivesC vol (record { outcome = Err Spent; medium = m; store = st }) (commit_of edit name vol m st)
-      unfolding commit_of on_value pick
-      spent g = rw (told hr d, ← hb, t, eq-eqb _ _ g) (refl, refl)
+      unfolding commit_of on_done pick
+      spent g = rw (← hc, ← hb, t, eq-eqb _ _ g, d) (refl, refl)
 
-      pub rewritten : {v : List ℕ} {x : Committed} → (st.head.generation ≡ 2 ^ 64 - 1 → ⊥) → GivesC v x (copy_out (commit_plan c.listed edit name st) vol m)
-          → GivesC v x (commit_of edit name vol m st)
-      unfolding commit_of commit_plan on_value pick
-      rewritten g w = rw (told hr d, ← hb, t, ne_eqb _ _ g) w
+      pub rewritten : {v : List ℕ} {r : Committed} → (st.head.generation ≡ 2 ^ 64 - 1 → ⊥) → GivesC v r (copy_out (commit_plan c edit name st) vol m)
+          → GivesC v r (commit_of edit name vol m st)
+      unfolding commit_of commit_plan on_done pick
+      rewritten g w = rw (← hc, ← hb, t, ne_eqb _ _ g, d) w

@@ -1,6 +1,6 @@
 -- The store of an accepted mount is current, and a commit on a current store never gives 11. Assumes nothing.
 use Rattle.std.specs.Prelude.{Ok}
-use mathlib.Core.Path.{◌≡◌, refl, sym, ◌∙◌}
+use mathlib.Core.Path.{◌≡◌, refl}
 use mathlib.Core.Bool.{true}
 use mathlib.Core.List.{List}
 use Prim.Native.Nat.{ℕ, ◌-◌, ◌^◌}
@@ -9,11 +9,10 @@ use lib.Dec.{eqb}
 use Rattle.le.proofs.Choices.{pick_keeps, pick_true}
 use Rattle.runs.proofs.Tests.{same_self}
 use Rattle.medium.specs.declared.Medium.{Medium}
-use Rattle.medium.proofs.Laws.{on_value_keeps, ok_one}
-use Rattle.medium.proofs.Stale.{NotStale, no_stale_of}
+use Rattle.medium.proofs.Laws.{on_done_keeps}
+use Rattle.medium.proofs.Stale.{NotStale, no_stale}
 use Rattle.handles.specs.declared.Header.{Header}
 use Rattle.handles.specs.declared.Store.{Store}
-use Rattle.header.specs.declared.answers.Current.{Current}
 use Rattle.header.specs.Copies.{current_of, mount_of}
 use Rattle.header.proofs.Accepted.{mount_current}
 use Rattle.header.proofs.Stale.{current_not_stale}
@@ -35,19 +34,16 @@ same_head_lem h =
     )
     (same_self h.crcs)
 
-pub mounted_current : (vol : List ℕ) (m : Medium) {st : Store} → mount_of vol m ≡ Ok st → (c : Current) → current_of vol m ≡ Ok c → is_current c st ≡ true
+pub mounted_current : (vol : List ℕ) (m : Medium) → (mount_of vol m).outcome ≡ Ok tt → is_current (current_of vol m) (mount_of vol m).store ≡ true
 unfolding is_current
-mounted_current vol m d c q =
-    let t = mount_current vol m d in
-    let e : t.0 ≡ c = ok_one (sym t.1 ∙ q) in
-    rw (t.2, e, eq-eqb c.copy c.copy refl) (same_head_lem c.head)
+mounted_current vol m d = rw ((mount_current vol m d).1, eq-eqb (current_of vol m).copy (current_of vol m).copy refl) (same_head_lem (current_of vol m).head)
 
-pub commit_not_stale : (edit : Edit) (name vol : List ℕ) (m : Medium) (st : Store) → ((c : Current) → current_of vol m ≡ Ok c → is_current c st ≡ true)
+pub commit_not_stale : (edit : Edit) (name vol : List ℕ) (m : Medium) (st : Store) → is_current (current_of vol m) st ≡ true
     → NotStale (commit_of edit name vol m st).ans.outcome
 unfolding commit_of
-commit_not_stale edit name vol m st current =
-    on_value_keeps (λ (o : Out). NotStale o.ans.outcome) (current_of vol m) _ _
-    (λ c d. rw (pick_true _ _ (current c d))
+commit_not_stale edit name vol m st c =
+    on_done_keeps (λ (o : Out). NotStale o.ans.outcome) (current_of vol m).outcome _ _
+    (λ _. rw (pick_true _ _ c)
     (pick_keeps (λ (o : Out). NotStale o.ans.outcome) (eqb st.head.generation (2 ^ 64 - 1)) _ _ refl
-    (copy_not_stale (commit_plan c.listed edit name st) vol m)))
-    (λ e q. no_stale_of (current_not_stale vol m) q)
+    (copy_not_stale (commit_plan (current_of vol m) edit name st) vol m)))
+    (λ e q. no_stale (current_not_stale vol m) q)

@@ -1,5 +1,5 @@
 -- What a commit keeps, whatever the writes left: what a caller goes on with, accepted or refused. Assumes nothing.
-use Rattle.std.specs.Prelude.{Option, Err, Ok, Result}
+use Rattle.std.specs.Prelude.{Err, Ok, Result}
 use mathlib.Core.Path.{◌≡◌, refl, sym, ap, ◌∙◌}
 use mathlib.Core.Bool.{true}
 use mathlib.Core.List.{List}
@@ -14,13 +14,14 @@ use Rattle.le.proofs.Parts.{length_zeros}
 use Rattle.medium.specs.declared.Error.{Error}
 use Rattle.medium.specs.declared.Medium.{Medium}
 use Rattle.medium.specs.Sector.{sectors_of}
-use Rattle.medium.proofs.Laws.{on_value_keeps, not_done}
+use Rattle.medium.proofs.Laws.{on_done_keeps, not_done}
 use Rattle.medium.specs.Frame.{Spends}
 use Rattle.medium.proofs.Frame.{rest_of, kept_rest, spends_none}
 use Rattle.handles.specs.declared.Header.{Header}
 use Rattle.handles.specs.declared.Store.{Store}
 use Rattle.handles.specs.Handles.{sane_of, store_ok}
 use Rattle.handles.proofs.Laws.{base_most, Sane, Held, store_facts, store_ok_lem}
+use Rattle.header.specs.declared.answers.Current.{Current}
 use Rattle.header.specs.Copies.{current_of}
 use Rattle.header.specs.Header.{with_crcs}
 use Rattle.plan.specs.declared.Edit.{Edit}
@@ -114,9 +115,9 @@ module _ (edit : Edit) (name vol : List ℕ) (m : Medium) (st : Store) (ok : sto
         accepted = λ d. not_done (sym q ∙ d);
       }
 
-  copied : (listed : Option (List ℕ)) (o : Out) → Copied (commit_plan listed edit name st) vol m o → Kept edit vol m st o
+  copied : (c : Current) (o : Out) → Copied (commit_plan c edit name st) vol m o → Kept edit vol m st o
   unfolding commit_plan head_after
-  copied listed o k = go o.ans.outcome refl
+  copied c o k = go o.ans.outcome refl
     where
       past : rest_of o.vol ≡ rest_of vol
       past = kept_rest (omega (arith, base_most (1 - st.copy), (store_facts st (sectors_of vol) ok).enough)) k.frame
@@ -148,11 +149,11 @@ module _ (edit : Edit) (name vol : List ℕ) (m : Medium) (st : Store) (ok : sto
   unfolding commit_of commit_plan head_after
   commit_keeps short =
       let f : Held st (sectors_of vol) = store_facts st (sectors_of vol) ok in
+      let c : Current = current_of vol m in
       let same : Spends m m = spends_none m in
-      on_value_keeps (Kept edit vol m st) (current_of vol m) _ _
-      (λ c _. pick_keeps (Kept edit vol m st) (is_current c st) _ _
+      on_done_keeps (Kept edit vol m st) c.outcome _ _
+      (λ _. pick_keeps (Kept edit vol m st) (is_current c st) _ _
       (pick_keeps (Kept edit vol m st) (eqb st.head.generation (2 ^ 64 - 1)) _ _ (old _ refl refl same refl refl)
-      (copied c.listed _
-      (copy_copied (commit_plan c.listed edit name st) vol m (record { short = short; enough = f.enough }) f.head.chunks_most count (length_zeros 512))))
+      (copied c _ (copy_copied (commit_plan c edit name st) vol m (record { short = short; enough = f.enough }) f.head.chunks_most count (length_zeros 512))))
       (old _ refl refl same refl refl))
       (λ _ _. old _ refl refl same refl refl)

@@ -6,6 +6,7 @@ use mathlib.Core.Bool.{Bool, true, false, not, ◌&&◌}
 use mathlib.Core.List.{List}
 use Prim.Native.Nat.{ℕ, ◌+◌}
 use borrow.Author.Tests.{eq-eqb, ne_eqb}
+use lib.Dec.{eqb}
 use lib.ListN.{get_or}
 use Rattle.le.specs.Choice.{pick}
 use Rattle.le.proofs.Turns.{told}
@@ -22,7 +23,7 @@ use Rattle.handles.specs.Body.{body_at, check_of}
 use Rattle.handles.specs.Handles.{base_of}
 use Rattle.plan.specs.declared.BodyWritten.{BodyWritten}
 use Rattle.plan.specs.Edit.{changes_of, edit_of}
-use Rattle.plan.specs.Copy.{listed_at, Plan, unread, matched, put, bad, BodyOut, due_bytes, lists, due_move, is_format, move_of, with_crc, act_of, body_sector_of}
+use Rattle.plan.specs.Copy.{Plan, unread, matched, put, bad, BodyOut, due_bytes, lists, due_move, is_format, move_of, with_crc, act_of, body_sector_of}
 
 -- the volume and the answer are what a definition gives
 abbrev pub Gives : List ℕ → BodyWritten → BodyOut → Type 0
@@ -72,7 +73,7 @@ check_read vol m st k e = go (read_of m (body_at st k)) _ e
 -- ---- one body sector
 
 module _ (p : Plan) (vol : List ℕ) (m : Medium) (h : Header) (k : ℕ) (edits : is_format p.edit ≡ false) {b l : Bool} (hb : b ≡ changes_of p.edit k)
-    (hl : l ≡ listed_at p.listed k (get_or p.store.head.crcs k 0)) where
+    (hl : l ≡ (p.known && eqb (get_or p.listed k 0) (get_or p.store.head.crcs k 0))) where
   move : move_of p vol m k ≡ pick (not b && l) unread (on_done (check_of vol m p.store k) (due_move p k (due_bytes p vol k)) bad)
   unfolding move_of lists pick
   move = rw (edits, ← hb, ← hl)
@@ -88,7 +89,7 @@ module _ (p : Plan) (vol : List ℕ) (m : Medium) (h : Header) (k : ℕ) (edits 
 
     module _ (d : o ≡ Ok tt) (z : List ℕ) {s s' : List ℕ} {c : ℕ} {l' : Bool}
         (hs : s ≡ left_in vol m z (body_at p.store k)) (hs' : s' ≡ pick b (edit_of p.edit p.name k s) s)
-        (hc : c ≡ crc32_of s') (hl' : l' ≡ listed_at p.listed k c) where
+        (hc : c ≡ crc32_of s') (hl' : l' ≡ (p.known && eqb (get_or p.listed k 0) c)) where
       due : s' ≡ due_bytes p vol k
       unfolding due_bytes on_done
       due =

@@ -1,12 +1,12 @@
 -- 01, "Commit": it reads both headers, refuses if the store value is not current, zeros the other header, writes each body sector whose new
 -- checksum that header did not list, then the new header. Assumes nothing.
-use Rattle.std.specs.Prelude.{ℕ, ◌-◌, ◌^◌, Bool, ◌&&◌, List, Option, eqb}
+use Rattle.std.specs.Prelude.{ℕ, ◌-◌, ◌^◌, Bool, ◌&&◌, List, eqb}
 use Rattle.le.specs.Choice.{pick}
 use Rattle.le.specs.Part.{zeros}
 use Rattle.runs.specs.Run.{same_bytes}
 use Rattle.medium.specs.declared.Error.TheVariants.{Stale, Spent}
 use Rattle.medium.specs.declared.Medium.{Medium}
-use Rattle.medium.specs.Refusal.{on_value}
+use Rattle.medium.specs.Refusal.{on_done}
 use Rattle.handles.specs.declared.Header.{Header}
 use Rattle.handles.specs.declared.Store.{Store}
 use Rattle.header.specs.declared.answers.Current.{Current}
@@ -25,9 +25,9 @@ same_head a b =
 unfoldable pub is_current : Current → Store → Bool
 is_current c st = eqb c.copy st.copy && same_head c.head st.head
 
--- into the other copy, whose header is zeroed first, with what is known of its body
-unfoldable pub commit_plan : Option (List ℕ) → Edit → List ℕ → Store → Plan
-commit_plan listed edit name st =
+-- into the other copy, whose header is zeroed first
+unfoldable pub commit_plan : Current → Edit → List ℕ → Store → Plan
+commit_plan c edit name st =
     record {
       store = st;
       copy = 1 - st.copy;
@@ -35,13 +35,15 @@ commit_plan listed edit name st =
       first = zeros 512;
       edit = edit;
       name = name;
-      listed = listed;
+      known = c.known;
+      listed = c.listed;
     }
 
 unfoldable pub commit_of : Edit → List ℕ → List ℕ → Medium → Store → Out
 commit_of edit name vol m st =
-    on_value (current_of vol m)
-    (λ c. pick (is_current c st)
-    (pick (eqb st.head.generation (2 ^ 64 - 1)) (refused_out st vol m Spent) (copy_out (commit_plan c.listed edit name st) vol m))
+    let c : Current = current_of vol m in
+    on_done c.outcome
+    (pick (is_current c st)
+    (pick (eqb st.head.generation (2 ^ 64 - 1)) (refused_out st vol m Spent) (copy_out (commit_plan c edit name st) vol m))
     (refused_out st vol m Stale))
     (refused_out st vol m)

@@ -9,19 +9,44 @@ ghost use Rattle.medium.specs.Sector.{sectors_of, sector_at, read_of};
 ghost use Rattle.handles.specs.Body.{body_at, check_of};
 ghost use Rattle.handles.specs.Handles.{body_of, store_ok};
 ghost use Rattle.plan.specs.Edit.{Fits, head_after};
-ghost use Rattle.plan.specs.Copy.{is_format, listed_at, body_sector_of, body_from, copy_out};
-ghost use Rattle.commit.specs.Commit.{is_current, commit_plan, commit_of};
+ghost use Rattle.plan.specs.Copy.{is_format, body_sector_of, body_from, copy_out};
+ghost use Rattle.commit.specs.Commit.{same_head, is_current, commit_plan, commit_of};
 
+use freemap::FreeMap;
 use handles::{Header, Store};
 use header::Current;
 use medium::{Error, Medium};
 use plan::{BodyWritten, Committed, Edit};
 
-// Copy and header, all 24 checksums too. `&`: one jump for both.
+fn same_crcs(a: [u32; 24], b: [u32; 24]) -> bool
+    ensures { result ≡ same_bytes a b }
+{
+    for i in 0..24 {
+        if a[i] != b[i] {
+            return false;
+        }
+    }
+    true
+}
+
+fn same_head(a: Header, b: Header) -> bool
+    ensures { result ≡ same_head a b }
+{
+    let x = a.crcs;
+    let y = b.crcs;
+    (a.id == b.id)
+        & ((a.generation == b.generation)
+            & ((a.next_id == b.next_id)
+                & ((a.cursor == b.cursor)
+                    & ((a.chunks == b.chunks) & ((a.chunk == b.chunk) & same_crcs(x, y))))))
+}
+
 fn is_current(found: Current, store: Store) -> bool
     ensures { result ≡ is_current found store }
 {
-    (found.copy == store.copy) & (found.head == store.head)
+    let x = found.head;
+    let y = store.head;
+    (found.copy == store.copy) & same_head(x, y)
 }
 
 // The checksum of a sector: an array's length is known, so that a caller owes nothing.
@@ -31,15 +56,11 @@ fn crc_of(sector: &[u8; 512]) -> u32
     checksum::crc32(sector)
 }
 
-// Whether the other header, where it is of this store, lists this checksum for sector `k`.
-fn lists(listed: Option<[u32; 24]>, k: usize, crc: u32) -> bool
-    requires { k < 24 }
-    ensures { result ≡ listed_at listed k crc }
+// Whether the other header, where it is of this store, lists this checksum.
+fn lists(known: bool, theirs: u32, crc: u32) -> bool
+    ensures { result ≡ (known && eqb theirs crc) }
 {
-    match listed {
-        Some(crcs) => crcs[k] == crc,
-        None => false,
-    }
+    known & (theirs == crc)
 }
 
 // Body sector `k` of the store's own copy, read and checked.
@@ -55,11 +76,25 @@ fn read_body(
         × (sector.new ≡ on_done (read_of medium (body_at store k)) (sector_at volume.now (body_at store k)) (λ _. sector.old)) }
 {
     let at = handles::base(store.copy) + 1 + (k as u64);
-    medium::read_sector(volume, medium, at, sector)?;
-    if checksum::crc32(sector) == store.head.crcs[k] {
-        Ok(())
-    } else {
-        Err(Error::Corrupt)
+    let o = medium::read_sector(volume, medium, at, sector);
+    if let Err(e) = o {
+        return Err(e);
+    }
+    let h = store.head;
+    if checksum::crc32(sector) == h.crcs[k] {
+        return Ok(());
+    }
+    Err(Error::Corrupt)
+}
+
+// What the body has come to: the header so far.
+fn so_far(outcome: Result<(), Error>, medium: Medium, head: Header) -> BodyWritten
+    ensures { result ≡ record { outcome = outcome; medium = medium; head = head } }
+{
+    BodyWritten {
+        outcome,
+        medium,
+        head,
     }
 }
 
@@ -74,12 +109,29 @@ fn refused(e: Error, medium: Medium, store: Store) -> Committed
     }
 }
 
+// The store of the copy that was written, with the map after the edit.
+fn finished(medium: Medium, store: Store, copy: u64, head: Header, free: FreeMap) -> Committed
+    ensures { result ≡ record { outcome = Ok tt; medium = medium; store = record { copy = copy; head = head; writer = store.writer; free = free } } }
+{
+    let writer = store.writer;
+    Committed {
+        outcome: Ok(()),
+        medium,
+        store: Store {
+            copy,
+            head,
+            writer,
+            free,
+        },
+    }
+}
+
 // One body sector: left unread, or read, checked, edited, and written to the other copy unless its header lists the checksum.
 fn write_body_sector(
     volume: &mut [u8],
     medium: Medium,
     store: Store,
-    listed: Option<[u32; 24]>,
+    found: Current,
     head: Header,
     edit: Edit,
     name: &[u8],
@@ -87,44 +139,33 @@ fn write_body_sector(
 ) -> BodyWritten
     requires { (store.copy < 2) × (64 ≤ sectors_of volume.old) × (k < 24) × (Fits edit store.head.chunks) × (is_format edit ≡ false)
         × (length name.now ≤ 40) }
-    ensures { (volume.new ≡ (body_sector_of (commit_plan listed edit name.now store) volume.old medium head k).vol)
-        × (result ≡ (body_sector_of (commit_plan listed edit name.now store) volume.old medium head k).ans) }
+    ensures { (volume.new ≡ (body_sector_of (commit_plan found edit name.now store) volume.old medium head k).vol)
+        × (result ≡ (body_sector_of (commit_plan found edit name.now store) volume.old medium head k).ans) }
 {
+    let own = store.head;
     let changing = plan::changes(edit, k);
-    // `&`: two cheap tests, and one jump
-    if !changing & lists(listed, k, store.head.crcs[k]) {
-        return BodyWritten {
-            outcome: Ok(()),
-            medium,
-            head,
-        };
+    let known = found.known;
+    let theirs = found.listed[k];
+    if !changing & lists(known, theirs, own.crcs[k]) {
+        return so_far(Ok(()), medium, head);
     }
     let mut sector = [0u8; 512];
-    if let Err(e) = read_body(volume, medium, store, k, &mut sector) {
-        return BodyWritten {
-            outcome: Err(e),
-            medium,
-            head,
-        };
+    let o = read_body(&volume[..], medium, store, k, &mut sector);
+    if let Err(e) = o {
+        return so_far(Err(e), medium, head);
     }
-    plan::edited(changing, edit, name, k, store.head.chunks, &mut sector);
+    plan::edited(changing, edit, name, k, own.chunks, &mut sector);
     let crc = crc_of(&sector);
     let mut next = head;
     next.crcs[k] = crc;
-    if lists(listed, k, crc) {
-        return BodyWritten {
-            outcome: Ok(()),
-            medium,
-            head: next,
-        };
+    if lists(known, theirs, crc) {
+        return so_far(Ok(()), medium, next);
     }
     let at = handles::base(1 - store.copy) + 1 + (k as u64);
-    let w = medium::write_sector(volume, medium, at, &sector);
-    BodyWritten {
-        outcome: w.outcome,
-        medium: w.medium,
-        head: next,
-    }
+    let w = medium::write_sector(&mut *volume, medium, at, &sector);
+    let outcome = w.outcome;
+    let after = w.medium;
+    so_far(outcome, after, next)
 }
 
 // The body sectors in order, up to a refusal.
@@ -132,34 +173,35 @@ fn write_body(
     volume: &mut [u8],
     medium: Medium,
     store: Store,
-    listed: Option<[u32; 24]>,
+    found: Current,
     edit: Edit,
     name: &[u8],
 ) -> BodyWritten
     requires { (store_ok store (sectors_of volume.old) ≡ true) × (store.head.generation + 1 < 2 ^ 64) × (Fits edit store.head.chunks)
         × (is_format edit ≡ false) × (length name.now ≤ 40) }
     ensures { (volume.new
-        ≡ (body_from (commit_plan listed edit name.now store) (body_of store.head.chunks) 0 volume.old medium
+        ≡ (body_from (commit_plan found edit name.now store) (body_of store.head.chunks) 0 volume.old medium
         (head_after edit store.head)).vol)
         × (result
-        ≡ (body_from (commit_plan listed edit name.now store) (body_of store.head.chunks) 0 volume.old medium
+        ≡ (body_from (commit_plan found edit name.now store) (body_of store.head.chunks) 0 volume.old medium
         (head_after edit store.head)).ans) }
 {
-    let mut head = plan::head_after(edit, store.head);
+    let own = store.head;
+    let n = handles::body(own.chunks);
+    let mut head = plan::head_after(edit, own);
     let mut m = medium;
-    for k in 0..handles::body(store.head.chunks) {
-        let s = write_body_sector(volume, m, store, listed, head, edit, name, k);
-        if let Err(_) = s.outcome {
+    let mut k = 0;
+    while k < n {
+        let s = write_body_sector(&mut *volume, m, store, found, head, edit, name, k);
+        let o = s.outcome;
+        if let Err(_) = o {
             return s;
         }
         m = s.medium;
         head = s.head;
+        k += 1;
     }
-    BodyWritten {
-        outcome: Ok(()),
-        medium: m,
-        head,
-    }
+    so_far(Ok(()), m, head)
 }
 
 // The other copy written anew: its header zeroed, the body, the new header.
@@ -167,40 +209,38 @@ fn rewrite(
     volume: &mut [u8],
     medium: Medium,
     store: Store,
-    listed: Option<[u32; 24]>,
+    found: Current,
     edit: Edit,
     name: &[u8],
 ) -> Committed
     requires { (store_ok store (sectors_of volume.old) ≡ true) × (store.head.generation + 1 < 2 ^ 64) × (Fits edit store.head.chunks)
         × (is_format edit ≡ false) × (length name.now ≤ 40) }
-    ensures { (volume.new ≡ (copy_out (commit_plan listed edit name.now store) volume.old medium).vol)
-        × (result ≡ (copy_out (commit_plan listed edit name.now store) volume.old medium).ans) }
+    ensures { (volume.new ≡ (copy_out (commit_plan found edit name.now store) volume.old medium).vol)
+        × (result ≡ (copy_out (commit_plan found edit name.now store) volume.old medium).ans) }
 {
     // before the first write, while a removed file's links stand as they were given
-    let free = plan::map_after(volume, store, edit);
+    let free = plan::map_after(&volume[..], store, edit);
     let copy = 1 - store.copy;
-    let z = medium::zero_sector(volume, medium, handles::base(copy));
-    if let Err(e) = z.outcome {
-        return refused(e, z.medium, store);
+    let z = medium::zero_sector(&mut *volume, medium, handles::base(copy));
+    let zo = z.outcome;
+    let zm = z.medium;
+    if let Err(e) = zo {
+        return refused(e, zm, store);
     }
-    let b = write_body(volume, z.medium, store, listed, edit, name);
-    if let Err(e) = b.outcome {
-        return refused(e, b.medium, store);
+    let b = write_body(&mut *volume, zm, store, found, edit, name);
+    let bo = b.outcome;
+    let bm = b.medium;
+    if let Err(e) = bo {
+        return refused(e, bm, store);
     }
-    let w = header::write_head(volume, b.medium, copy, b.head);
-    if let Err(e) = w.outcome {
-        return refused(e, w.medium, store);
+    let head = b.head;
+    let w = header::write_head(&mut *volume, bm, copy, head);
+    let wo = w.outcome;
+    let wm = w.medium;
+    if let Err(e) = wo {
+        return refused(e, wm, store);
     }
-    Committed {
-        outcome: Ok(()),
-        medium: w.medium,
-        store: Store {
-            copy,
-            head: b.head,
-            free,
-            ..store
-        },
-    }
+    finished(wm, store, copy, head, free)
 }
 
 // Makes the edit in the metadata, where the store value is the current one.
@@ -209,16 +249,17 @@ pub fn commit(volume: &mut [u8], medium: Medium, store: Store, edit: Edit, name:
     ensures { (volume.new ≡ (commit_of edit name.now volume.old medium store).vol)
         × (result ≡ (commit_of edit name.now volume.old medium store).ans) }
 {
-    let found = match header::current(volume, medium) {
-        Ok(found) => found,
-        Err(e) => return refused(e, medium, store),
-    };
+    let found = header::current(&volume[..], medium);
+    let o = found.outcome;
+    if let Err(e) = o {
+        return refused(e, medium, store);
+    }
     if !is_current(found, store) {
         return refused(Error::Stale, medium, store);
     }
-    let last = u64::MAX;
-    if store.head.generation == last {
+    let own = store.head;
+    if own.generation == 0xffff_ffff_ffff_ffff {
         return refused(Error::Spent, medium, store);
     }
-    rewrite(volume, medium, store, found.listed, edit, name)
+    rewrite(volume, medium, store, found, edit, name)
 }

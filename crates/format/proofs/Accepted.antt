@@ -12,7 +12,7 @@ use Rattle.le.proofs.Choices.{pick_keeps_by}
 use Rattle.le.proofs.Bools.{and_true}
 use Rattle.medium.specs.declared.Medium.{Medium}
 use Rattle.medium.specs.Sector.{sectors_of, WriteOut, write_of}
-use Rattle.medium.proofs.Laws.{on_done_keeps, on_value_keeps, not_done}
+use Rattle.medium.proofs.Laws.{on_done_keeps, not_done}
 use Rattle.le.specs.Choice.{pick}
 use Rattle.freemap.specs.Map.{full_of}
 use Rattle.freemap.proofs.Rule.{full_ok}
@@ -55,13 +55,12 @@ made_store copy h sums vol m =
 
 -- what the tests on the way say
 pub record Made (size seed : ℕ) (vol : List ℕ) (m : Medium) (st : Store) : Type 0 where
-  pub copies : Copies
-  pub headers : headers_of vol m ≡ Ok copies
+  pub headers : (headers_of vol m).outcome ≡ Ok tt
   pub size_least : 1 ≤ size
   pub size_most : size ≤ 512
   pub some : chunks_of (sectors_of vol) size ≡ 0 → ⊥
-  pub less : newest_of copies ≡ 2 ^ 64 - 1 → ⊥
-  pub store : st ≡ store_for (copy_for copies) (format_head copies m (chunks_of (sectors_of vol) size) size seed)
+  pub less : newest_of (headers_of vol m) ≡ 2 ^ 64 - 1 → ⊥
+  pub store : st ≡ store_for (copy_for (headers_of vol m)) (format_head (headers_of vol m) m (chunks_of (sectors_of vol) size) size seed)
 
 module _ (size seed : ℕ) (vol : List ℕ) (m : Medium) where
   abbrev Right : Out → Type 0
@@ -70,14 +69,14 @@ module _ (size seed : ℕ) (vol : List ℕ) (m : Medium) where
   pub format_made : (format_of size seed vol m).ans.outcome ≡ Ok tt → Made size seed vol m (format_of size seed vol m).ans.store
   unfolding format_of format_over
   format_made =
+      let c : Copies = headers_of vol m in
       let n : ℕ = chunks_of (sectors_of vol) size in
       pick_keeps_by Right (leb 1 size && leb size 512) _ _
-      (λ t. on_value_keeps Right (headers_of vol m) _ _
-      (λ c q. pick_keeps_by Right (eqb n 0) _ _ (λ _. not_done)
+      (λ t. on_done_keeps Right c.outcome _ _
+      (λ q. pick_keeps_by Right (eqb n 0) _ _ (λ _. not_done)
       (λ z. pick_keeps_by Right (eqb (newest_of c) (2 ^ 64 - 1)) _ _ (λ _. not_done)
       (λ l d. let s = and_true (leb 1 size) (leb size 512) t in
       record {
-        copies = c;
         headers = q;
         size_least = leb-true 1 size s.0;
         size_most = leb-true size 512 s.1;
@@ -97,21 +96,21 @@ module _ (size seed : ℕ) (vol : List ℕ) (m : Medium) (accepted : (format_of 
   facts : Made size seed vol m (store_after size seed vol m)
   facts = format_made size seed vol m accepted
 
-  both : Both vol facts.copies
+  both : Both vol (headers_of vol m)
   both = headers_both vol m facts.headers
 
   -- nothing has it open, and its first file gets id 1
   pub format_fresh : ((store_after size seed vol m).copy < 2) × ((store_after size seed vol m).writer ≡ None) × ((store_after size seed vol m).head.next_id ≡ 1) × ((store_after size seed vol m).head.cursor ≡ 0)
   unfolding format_head
-  format_fresh = rw facts.store (copy_lt facts.copies, refl, refl, refl)
+  format_fresh = rw facts.store (copy_lt (headers_of vol m), refl, refl, refl)
 
   pub format_ok : store_ok (store_after size seed vol m) (sectors_of vol) ≡ true
   format_ok =
-      let sane = head_sane facts.copies m (sectors_of vol) size seed facts.size_most both.enough facts.size_least facts.some in
-      rw facts.store (store_ok_lem _ (sectors_of vol) (copy_lt facts.copies) sane (full_ok _))
+      let sane = head_sane (headers_of vol m) m (sectors_of vol) size seed facts.size_most both.enough facts.size_least facts.some in
+      rw facts.store (store_ok_lem _ (sectors_of vol) (copy_lt (headers_of vol m)) sane (full_ok _))
 
   pub format_range : Bytes vol → InRange (store_after size seed vol m).head
   format_range small =
-      let g : newest_of facts.copies < 2 ^ 64 = rw both.same (newest_lt vol small both.enough) in
-      let l : newest_of facts.copies + 1 < 2 ^ 64 = next_fits (newest_of facts.copies) g facts.less in
-      rw facts.store (head_range facts.copies m (sectors_of vol) size seed facts.size_most l)
+      let g : newest_of (headers_of vol m) < 2 ^ 64 = rw both.same (newest_lt vol small both.enough) in
+      let l : newest_of (headers_of vol m) + 1 < 2 ^ 64 = next_fits (newest_of (headers_of vol m)) g facts.less in
+      rw facts.store (head_range (headers_of vol m) m (sectors_of vol) size seed facts.size_most l)

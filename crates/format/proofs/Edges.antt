@@ -12,7 +12,6 @@ use Rattle.medium.specs.Refusal.{refused, outcome_of}
 use Rattle.medium.specs.Sector.{sectors_of}
 use Rattle.handles.specs.declared.Store.{Store}
 use Rattle.handles.specs.Handles.{no_store}
-use Rattle.header.specs.declared.answers.Copies.{Copies}
 use Rattle.header.specs.Copies.{headers_of}
 use Rattle.plan.specs.Copy.{refused_out}
 use Rattle.format.specs.Format.{chunks_of, newest_of, format_head, format_over, format_of}
@@ -29,7 +28,7 @@ unfolding chunks_of
 chunks_576 = refl
 
 -- whatever the volume holds, as long as both headers are accepted
-module _ (seed : ℕ) (vol : List ℕ) (m : Medium) {c : Copies} (headers : headers_of vol m ≡ Ok c) where
+module _ (seed : ℕ) (vol : List ℕ) (m : Medium) (headers : (headers_of vol m).outcome ≡ Ok tt) where
   pub none_575 : sectors_of vol ≡ 575 → (format_of 512 seed vol m ≡ refused_out no_store vol m Range) × (outcome_of (format_of 512 seed vol m).ans.outcome ≡ refused 2)
   unfolding format_over pick
   none_575 s =
@@ -37,7 +36,7 @@ module _ (seed : ℕ) (vol : List ℕ) (m : Medium) {c : Copies} (headers : head
       (e, rw e)
 
   -- with the 11 writes of a body of 9 sectors left, and another generation to give
-  pub one_576 : sectors_of vol ≡ 576 → (newest_of c ≡ 2 ^ 64 - 1 → ⊥) → 11 ≤ m.left
+  pub one_576 : sectors_of vol ≡ 576 → (newest_of (headers_of vol m) ≡ 2 ^ 64 - 1 → ⊥) → 11 ≤ m.left
       → ((format_of 512 seed vol m).ans.outcome ≡ Ok tt) × ((format_of 512 seed vol m).ans.store.head.chunks ≡ 1)
   unfolding format_head
   one_576 s less l =

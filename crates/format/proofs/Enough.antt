@@ -9,7 +9,7 @@ use Rattle.le.specs.Choice.{pick}
 use Rattle.le.specs.Part.{zeros}
 use Rattle.medium.specs.declared.Medium.{Medium}
 use Rattle.medium.specs.Sector.{sectors_of, spend_of, WriteOut, write_of}
-use Rattle.medium.proofs.Laws.{on_done_done, on_value_ok}
+use Rattle.medium.proofs.Laws.{on_done_done}
 use Rattle.handles.specs.declared.Header.{Header}
 use Rattle.handles.specs.Handles.{body_of, base_of, no_store}
 use Rattle.header.specs.declared.answers.Copies.{Copies}
@@ -50,21 +50,22 @@ module _ (copy : ℕ) (h : Header) (sums : Zeroed h) where
       ap (λ (o : Out). o.ans.outcome) (on_done_done _ _ s₁.0 ∙ on_done_done _ _ s₂.0 ∙ on_done_done _ _ s₃.0)
 
 -- what the tests let through
-module _ (size seed : ℕ) (vol : List ℕ) (m : Medium) {c : Copies} (headers : headers_of vol m ≡ Ok c) (least : 1 ≤ size) (most : size ≤ 512) where
-  pub format_over_lem : format_of size seed vol m ≡ format_over c size seed vol m
+module _ (size seed : ℕ) (vol : List ℕ) (m : Medium) (headers : (headers_of vol m).outcome ≡ Ok tt) (least : 1 ≤ size) (most : size ≤ 512) where
+  pub format_over_lem : format_of size seed vol m ≡ format_over (headers_of vol m) size seed vol m
   unfolding format_of pick
   format_over_lem =
       rw (le-leb 1 size least, le-leb size 512 most)
-      (on_value_ok (λ x. format_over x size seed vol m) (refused_out no_store vol m) headers)
+      (on_done_done (format_over (headers_of vol m) size seed vol m) (refused_out no_store vol m) headers)
 
-  pub format_is : (chunks_of (sectors_of vol) size ≡ 0 → ⊥) → (newest_of c ≡ 2 ^ 64 - 1 → ⊥)
-      → format_of size seed vol m ≡ made_of (copy_for c) (format_head c m (chunks_of (sectors_of vol) size) size seed) vol m
+  pub format_is : (chunks_of (sectors_of vol) size ≡ 0 → ⊥) → (newest_of (headers_of vol m) ≡ 2 ^ 64 - 1 → ⊥)
+      → format_of size seed vol m ≡ made_of (copy_for (headers_of vol m)) (format_head (headers_of vol m) m (chunks_of (sectors_of vol) size) size seed) vol m
   unfolding format_over pick
-  format_is some less = rw (format_over_lem, ne_eqb (chunks_of (sectors_of vol) size) 0 some, ne_eqb (newest_of c) (2 ^ 64 - 1) less)
+  format_is some less = rw (format_over_lem, ne_eqb (chunks_of (sectors_of vol) size) 0 some, ne_eqb (newest_of (headers_of vol m)) (2 ^ 64 - 1) less)
 
-  pub format_done : (chunks_of (sectors_of vol) size ≡ 0 → ⊥) → (newest_of c ≡ 2 ^ 64 - 1 → ⊥) → body_of (chunks_of (sectors_of vol) size) + 2 ≤ m.left
+  pub format_done : (chunks_of (sectors_of vol) size ≡ 0 → ⊥) → (newest_of (headers_of vol m) ≡ 2 ^ 64 - 1 → ⊥) → body_of (chunks_of (sectors_of vol) size) + 2 ≤ m.left
       → (format_of size seed vol m).ans.outcome ≡ Ok tt
   unfolding format_head
   format_done some less l =
+      let c : Copies = headers_of vol m in
       let n : ℕ = chunks_of (sectors_of vol) size in
       rw (format_is some less) (made_done (copy_for c) (format_head c m n size seed) (head_zeroed c m n size seed) vol m l)

@@ -16,10 +16,9 @@ use Rattle.mix.specs.SplitMix.{folded, stage, split_mix}
 use Rattle.medium.specs.declared.Medium.{Medium}
 use Rattle.handles.specs.declared.Header.{Header}
 use Rattle.header.specs.declared.answers.Copies.{Copies}
-use Rattle.header.specs.Copies.{is_ours, head_in, both_of}
+use Rattle.header.specs.Header.{ours}
+use Rattle.header.specs.Copies.{is_ours, head_a, head_b, both_of}
 use Rattle.format.specs.Format.{has_id, spare_of, id_from, id_for}
-use Rattle.header.specs.declared.codec.Replica.{Replica}
-use Rattle.header.specs.declared.codec.Replica.TheVariants.{Ours}
 
 -- ---- the turns of the search: t says whether a copy has x, and r is what the search gives
 
@@ -77,7 +76,7 @@ spare_free c =
     (λ one. (λ e. omega arith, one))
   where
     three : has_id c 1 ≡ true → has_id c 2 ≡ true → has_id c 3 ≡ false
-    three = third (is_ours c.a) (is_ours c.b) (head_in c.a).id (head_in c.b).id
+    three = third (is_ours c.a) (is_ours c.b) (head_a c).id (head_b c).id
 
 from_free : (c : Copies) (n x : ℕ) → Free c (id_from c n x)
 unfolding id_from
@@ -91,10 +90,10 @@ unfolding id_for
 id_fresh c m seed = from_free c 4 (split_mix (bit_xor seed m.entropy))
 
 -- so neither valid copy has it
-pub neither_has : (a b : Replica) (x : ℕ) → has_id (both_of a b) x ≡ false → ((h : Header) → a ≡ Ours h → h.id ≡ x → ⊥) × ((h : Header) → b ≡ Ours h → h.id ≡ x → ⊥)
+pub neither_has : (a b : Decoded) (x : ℕ) → has_id (both_of a b) x ≡ false → ((h : Header) → a ≡ ours h → h.id ≡ x → ⊥) × ((h : Header) → b ≡ ours h → h.id ≡ x → ⊥)
 unfolding has_id
 neither_has a b x e =
-    let f = or_false (is_ours a && eqb (head_in a).id x) (is_ours b && eqb (head_in b).id x) e in
+    let f = or_false (is_ours a.kind && eqb a.head.id x) (is_ours b.kind && eqb b.head.id x) e in
     (λ h p. eqb-false h.id x (rw p at f.0), λ h p. eqb-false h.id x (rw p at f.1))
 
 -- ---- and fits 64 bits

@@ -1,8 +1,6 @@
 -- What a format leaves as it was, however many writes are left: the length, every sector outside the copy that it writes, the bytes past the last whole
 -- sector, and of the medium record all but writes left. Assumes nothing.
-use Rattle.std.specs.Prelude.{Result, Ok, Err}
-use mathlib.Core.Path.{◌≡◌, refl, sym, subst}
-use Rattle.medium.specs.declared.Error.{Error}
+use mathlib.Core.Path.{◌≡◌, refl}
 use mathlib.Core.Bool.{◌&&◌}
 use mathlib.Core.List.{List}
 use Prim.Native.Nat.{ℕ, ◌+◌, ◌-◌, ◌^◌, ◌≤◌}
@@ -12,14 +10,13 @@ use Rattle.le.proofs.Choices.{pick_keeps}
 use Rattle.medium.specs.declared.Medium.{Medium}
 use Rattle.medium.specs.Sector.{sectors_of}
 use Rattle.medium.specs.Frame.{Kept, Spends}
-use Rattle.medium.proofs.Laws.{on_value_keeps}
+use Rattle.medium.proofs.Laws.{on_done_keeps}
 use Rattle.medium.proofs.Frame.{rest_of, kept_none, kept_rest, spends_none}
 use Rattle.handles.specs.declared.Header.{Header}
 use Rattle.handles.specs.Handles.{body_of, base_of}
 use Rattle.handles.proofs.Laws.{base_most}
 use Rattle.header.specs.declared.answers.Copies.{Copies}
-use Rattle.header.specs.declared.codec.Replica.TheVariants.{Absent}
-use Rattle.header.specs.Copies.{both_of, headers_of}
+use Rattle.header.specs.Copies.{headers_of}
 use Rattle.header.proofs.Accepted.{headers_both}
 use Rattle.header.proofs.Fill.{length_unmarked}
 use Rattle.plan.specs.Copy.{Plan, Out}
@@ -27,11 +24,6 @@ use Rattle.plan.proofs.Whole.{Copied, copy_copied}
 use Rattle.format.specs.Format.{chunks_of, copy_for, newest_of, format_head, format_plan, format_over, format_of}
 use Rattle.format.proofs.Crcs.{length_crcs}
 use Rattle.format.proofs.Numbers.{chunks_most}
-
--- the copies; where they were not read nothing is written, and any will do
-abbrev pub copies_in : Result Copies Error → Copies
-copies_in (Ok c) = c
-copies_in (Err e) = both_of Absent Absent
 
 module _ (size seed : ℕ) (vol : List ℕ) (m : Medium) where
   abbrev Left : Copies → Out → Type 0
@@ -55,12 +47,11 @@ module _ (size seed : ℕ) (vol : List ℕ) (m : Medium) where
       (pick_keeps (Left c) (eqb (newest_of c) (2 ^ 64 - 1)) _ _ (none c) (k.frame, k.medium, kept_rest below k.frame))
 
   -- refused before its first write, it leaves all as it was
-  pub format_keeps : Kept (base_of (copy_for (copies_in (headers_of vol m)))) 25 vol (format_of size seed vol m).vol × Spends m (format_of size seed vol m).ans.medium
+  pub format_keeps : Kept (base_of (copy_for (headers_of vol m))) 25 vol (format_of size seed vol m).vol × Spends m (format_of size seed vol m).ans.medium
       × (rest_of (format_of size seed vol m).vol ≡ rest_of vol)
   unfolding format_of
   format_keeps =
-      pick_keeps (Left (copies_in (headers_of vol m))) (leb 1 size && leb size 512) _ _
-      (on_value_keeps (Left (copies_in (headers_of vol m))) (headers_of vol m) _ _
-      (λ c q. subst (λ (r : Result Copies Error). Left (copies_in r) (format_over c size seed vol m)) (sym q) (over_keeps c (headers_both vol m q).enough))
-      (λ e _. none (copies_in (headers_of vol m))))
-      (none (copies_in (headers_of vol m)))
+      let c : Copies = headers_of vol m in
+      pick_keeps (Left c) (leb 1 size && leb size 512) _ _
+      (on_done_keeps (Left c) c.outcome _ _ (λ q. over_keeps c (headers_both vol m q).enough) (λ e _. none c))
+      (none c)

@@ -1,23 +1,19 @@
 -- The numbers of a new header: a sector can hold them, and the header is not foreign. Assumes nothing.
-use mathlib.Core.Path.{◌≡◌, refl, sym}
-use mathlib.Core.Bool.{Bool, true, false, not, ◌&&◌, ◌||◌}
+use mathlib.Core.Path.{◌≡◌, refl}
+use mathlib.Core.Bool.{true, not, ◌&&◌, ◌||◌}
 use mathlib.Core.List.{List}
-use Prim.Native.Nat.{ℕ, zero, suc, max, ◌+◌, ◌-◌, ◌*◌, ◌/◌, ◌^◌, ◌≤◌, ◌<◌}
+use Prim.Native.Nat.{ℕ, zero, suc, ◌+◌, ◌-◌, ◌*◌, ◌/◌, ◌^◌, ◌≤◌, ◌<◌}
 use native.Mathlib.Nat.{min-le_left, min-le_right, div-mul-le_self, mul-le-mul_right, le_trans}
 use native.Mathlib.Omega.{arith}
-use borrow.Author.Tests.{lt-ltb, le-leb, ne_eqb, ltb-true, ltb-false}
-use Rattle.le.specs.Choice.{pick}
+use borrow.Author.Tests.{lt-ltb, le-leb, ne_eqb}
 use lib.Dec.{ltb, lit<}
 use Rattle.le.proofs.Choices.{pick_keeps, pick_keeps_by}
 use Rattle.le.proofs.Bools.{and_true}
 use Rattle.medium.specs.declared.Medium.{Medium}
 use Rattle.medium.specs.Sector.{sectors_of}
-use Rattle.handles.specs.Handles.{blank_of, body_of, sane_of}
+use Rattle.handles.specs.Handles.{body_of, sane_of}
 use Rattle.header.specs.declared.answers.Copies.{Copies}
-use Rattle.header.specs.declared.codec.Replica.{Replica}
-use Rattle.header.specs.declared.codec.Replica.TheVariants.{Ours, Foreign, Damaged, Absent}
-use Rattle.header.proofs.Range.{no_way}
-use Rattle.header.specs.Copies.{is_ours, copy_of, both_of, takes_b, head_in}
+use Rattle.header.specs.Copies.{is_ours, copy_of, both_of, takes_b}
 use Rattle.header.specs.Header.{Bytes, InRange}
 use Rattle.header.proofs.Accepted.{copy_valid, copy_range}
 use Rattle.format.specs.Format.{chunks_of, copy_for, newest_of, id_for, format_head}
@@ -72,29 +68,9 @@ module _ (c : Copies) (m : Medium) (sectors size seed : ℕ) (most : size ≤ 51
 pub newest_lt : (vol : List ℕ) → Bytes vol → 64 ≤ sectors_of vol → newest_of (both_of (copy_of vol 0) (copy_of vol 32)) < 2 ^ 64
 unfolding newest_of takes_b
 newest_lt vol small enough =
-    pick_keeps_by (λ (g : ℕ). g < 2 ^ 64) (is_ours (copy_of vol 32) && (not (is_ours (copy_of vol 0)) || ltb (head_in (copy_of vol 0)).generation (head_in (copy_of vol 32)).generation)) _ _
-    (λ t. held 32 (omega arith) (and_true (is_ours (copy_of vol 32)) _ t).0)
-    (λ _. pick_keeps_by (λ (g : ℕ). g < 2 ^ 64) (is_ours (copy_of vol 0)) _ _ (held 0 (omega arith)) (λ _. lit< tt))
+    pick_keeps_by (λ (g : ℕ). g < 2 ^ 64) (is_ours (copy_of vol 32).kind && (not (is_ours (copy_of vol 0).kind) || ltb (copy_of vol 0).head.generation (copy_of vol 32).head.generation)) _ _
+    (λ t. held 32 (omega arith) (and_true (is_ours (copy_of vol 32).kind) _ t).0)
+    (λ _. pick_keeps_by (λ (g : ℕ). g < 2 ^ 64) (is_ours (copy_of vol 0).kind) _ _ (held 0 (omega arith)) (λ _. lit< tt))
   where
-    held : (k : ℕ) → k < sectors_of vol → is_ours (copy_of vol k) ≡ true → (head_in (copy_of vol k)).generation < 2 ^ 64
-    held k f t = (copy_range vol k (head_in (copy_of vol k)) (copy_valid vol k t) f small).generation
-
--- it is the larger one of the two, where a copy that is not valid counts as 0
-pub none_zero : (r : Replica) → is_ours r ≡ false → (head_in r).generation ≡ 0
-unfolding blank_of
-none_zero (Ours h) e = no_way (sym e)
-none_zero Foreign e = refl
-none_zero Damaged e = refl
-none_zero Absent e = refl
-
-larger : (t u : Bool) (x y : ℕ) → (t ≡ false → x ≡ 0) → (u ≡ false → y ≡ 0) → max x y ≡ pick (u && (not t || ltb x y)) y (pick t x 0)
-unfolding pick
-larger true true x y p q =
-    pick_keeps_by (λ (n : ℕ). max x y ≡ n) (ltb x y) y x (λ e. let l = ltb-true x y e in omega arith) (λ e. let l = ltb-false x y e in omega arith)
-larger true false x y p q = let e = q refl in omega arith
-larger false true x y p q = let e = p refl in omega arith
-larger false false x y p q = let d = p refl in let e = q refl in omega arith
-
-pub newest_max : (c : Copies) → max (head_in c.a).generation (head_in c.b).generation ≡ newest_of c
-unfolding newest_of takes_b
-newest_max c = larger (is_ours c.a) (is_ours c.b) _ _ (none_zero c.a) (none_zero c.b)
+    held : (k : ℕ) → k < sectors_of vol → is_ours (copy_of vol k).kind ≡ true → (copy_of vol k).head.generation < 2 ^ 64
+    held k f t = (copy_range vol k (copy_of vol k).head (copy_valid vol k t) f small).generation

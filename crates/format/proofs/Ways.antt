@@ -1,5 +1,5 @@
 -- The ways through format, from what the calls on each ensure. Assumes nothing.
-use Rattle.std.specs.Prelude.{Err, Ok, Result}
+use Rattle.std.specs.Prelude.{Err, Ok}
 use mathlib.Core.Path.{◌≡◌, refl}
 use mathlib.Core.Bool.{true, false, not, ◌&&◌}
 use mathlib.Core.List.{List, []}
@@ -7,14 +7,13 @@ use Prim.Native.Nat.{ℕ, ◌-◌, ◌^◌, ◌≤◌}
 use borrow.Author.Tests.{eq-eqb, ne_eqb, leb-true, not-true, not-false}
 use lib.Dec.{eqb, leb}
 use Rattle.le.specs.Choice.{pick}
-use Rattle.le.proofs.Turns.{told}
 use Rattle.le.proofs.Bools.{and_true}
 use Rattle.medium.specs.declared.Error.{Error}
 use Rattle.medium.specs.declared.Error.TheVariants.{Range, Spent}
 use Rattle.medium.specs.declared.Medium.{Medium}
-use Rattle.medium.specs.Refusal.{on_value}
+use Rattle.medium.specs.Refusal.{on_done}
 use Rattle.medium.specs.Sector.{sectors_of}
-use Rattle.medium.proofs.Laws.{on_value_ok}
+use Rattle.medium.proofs.Laws.{on_done_done}
 use Rattle.handles.specs.declared.Header.{Header}
 use Rattle.handles.specs.Handles.{no_store}
 use Rattle.header.specs.declared.answers.Copies.{Copies}
@@ -64,16 +63,15 @@ module _ (size seed : ℕ) (vol : List ℕ) (m : Medium) where
   unfolding format_of pick
   wrong_size t er = rw (not-true (leb 1 size && leb size 512) t) (refl, er)
 
-  module _ (t : not (leb 1 size && leb size 512) ≡ false) {o : Result Copies Error} (eo : o ≡ headers_of vol m) where
-    pub unread : {e : Error} {r : Committed} → o ≡ Err e → r ≡ (refused_out no_store [] m e).ans → Gives (format_of size seed vol m) vol r
-    unfolding format_of pick on_value
-    unread q er = rw (not-false (leb 1 size && leb size 512) t, told eo q) (refl, er)
+  module _ {c : Copies} (t : not (leb 1 size && leb size 512) ≡ false) (ec : c ≡ headers_of vol m) where
+    pub unread : {e : Error} {r : Committed} → c.outcome ≡ Err e → r ≡ (refused_out no_store [] m e).ans → Gives (format_of size seed vol m) vol r
+    unfolding format_of pick on_done
+    unread q er = rw (not-false (leb 1 size && leb size 512) t, ← ec, q) (refl, er)
 
-    module _ {c : Copies} (q : o ≡ Ok c) where
-      pub enough : (64 ≤ sectors_of vol) × (1 ≤ size)
-      enough = ((headers_both vol m (told eo q)).enough, leb-true 1 size (and_true (leb 1 size) (leb size 512) (not-false (leb 1 size && leb size 512) t)).0)
+    pub enough : c.outcome ≡ Ok tt → (64 ≤ sectors_of vol) × (1 ≤ size)
+    enough q =
+        ((headers_both vol m (rw (← ec) q)).enough, leb-true 1 size (and_true (leb 1 size) (leb size 512) (not-false (leb 1 size && leb size 512) t)).0)
 
-      pub whole : {v : List ℕ} {r : Committed} → Gives (format_over c size seed vol m) v r → Gives (format_of size seed vol m) v r
-      unfolding format_of pick
-      whole over =
-          rw (not-false (leb 1 size && leb size 512) t, on_value_ok (λ x. format_over x size seed vol m) (refused_out no_store vol m) (told eo q)) over
+    pub whole : {v : List ℕ} {r : Committed} → c.outcome ≡ Ok tt → Gives (format_over c size seed vol m) v r → Gives (format_of size seed vol m) v r
+    unfolding format_of pick
+    whole q over = rw (not-false (leb 1 size && leb size 512) t, ← ec, on_done_done (format_over c size seed vol m) (refused_out no_store vol m) q) over

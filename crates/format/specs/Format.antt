@@ -1,5 +1,5 @@
 -- 01, "Header": what format writes, and where it refuses. Assumes nothing.
-use Rattle.std.specs.Prelude.{◌≡◌, ℕ, zero, suc, ◌+◌, ◌-◌, ◌/◌, ◌^◌, ◌<◌, min, Bool, None, ◌&&◌, ◌||◌, List, [], ◌++◌, eqb, leb, get_or, replicate}
+use Rattle.std.specs.Prelude.{◌≡◌, ℕ, zero, suc, ◌+◌, ◌-◌, ◌/◌, ◌^◌, ◌<◌, min, Bool, false, ◌&&◌, ◌||◌, List, [], ◌++◌, eqb, leb, get_or, replicate}
 use Rattle.std.specs.Int.Bits.{bit_xor}
 use Rattle.le.specs.Choice.{pick}
 use Rattle.le.specs.Part.{zeros}
@@ -7,12 +7,12 @@ use Rattle.checksum.specs.Crc.{crc32_of}
 use Rattle.mix.specs.SplitMix.{split_mix}
 use Rattle.medium.specs.declared.Error.TheVariants.{Range, Spent}
 use Rattle.medium.specs.declared.Medium.{Medium}
-use Rattle.medium.specs.Refusal.{on_value}
+use Rattle.medium.specs.Refusal.{on_done}
 use Rattle.medium.specs.Sector.{sectors_of}
 use Rattle.handles.specs.declared.Header.{Header}
 use Rattle.handles.specs.Handles.{body_of, no_store}
 use Rattle.header.specs.declared.answers.Copies.{Copies}
-use Rattle.header.specs.Copies.{headers_of, is_ours, head_in, takes_b}
+use Rattle.header.specs.Copies.{headers_of, is_ours, head_a, head_b, takes_b}
 use Rattle.header.specs.Header.{unmarked_of}
 use Rattle.plan.specs.declared.Edit.TheVariants.{Format}
 use Rattle.plan.specs.Copy.{Plan, Out, refused_out, copy_out}
@@ -27,11 +27,11 @@ copy_for c = pick (takes_b c) 0 (pick (is_ours c.a) 1 0)
 
 -- the newest's generation; 0 where there is none
 unfoldable pub newest_of : Copies → ℕ
-newest_of c = pick (takes_b c) (head_in c.b).generation (pick (is_ours c.a) (head_in c.a).generation 0)
+newest_of c = pick (takes_b c) (head_b c).generation (pick (is_ours c.a) (head_a c).generation 0)
 
 -- a valid copy has this id
 unfoldable pub has_id : Copies → ℕ → Bool
-has_id c id = (is_ours c.a && eqb (head_in c.a).id id) || (is_ours c.b && eqb (head_in c.b).id id)
+has_id c id = (is_ours c.a && eqb (head_a c).id id) || (is_ours c.b && eqb (head_b c).id id)
 
 -- the smallest of 1, 2, 3 that no valid copy has
 unfoldable pub spare_of : Copies → ℕ
@@ -70,7 +70,7 @@ Zeroed h = (k : ℕ) → k < body_of h.chunks → get_or h.crcs k 0 ≡ crc32_of
 -- the header without magic first; every body sector is written
 unfoldable pub format_plan : ℕ → Header → Plan
 format_plan copy h =
-    record { store = no_store; copy = copy; head = h; first = unmarked_of h; edit = Format; name = []; listed = None }
+    record { store = no_store; copy = copy; head = h; first = unmarked_of h; edit = Format; name = []; known = false; listed = zeros 24 }
 
 -- the writes: the header without magic, the zeroed body, the whole header
 abbrev pub made_of : ℕ → Header → List ℕ → Medium → Out
@@ -87,5 +87,5 @@ format_over c size seed vol m =
 unfoldable pub format_of : ℕ → ℕ → List ℕ → Medium → Out
 format_of size seed vol m =
     pick (leb 1 size && leb size 512)
-    (on_value (headers_of vol m) (λ c. format_over c size seed vol m) (refused_out no_store vol m))
+    (on_done (headers_of vol m).outcome (format_over (headers_of vol m) size seed vol m) (refused_out no_store vol m))
     (refused_out no_store vol m Range)

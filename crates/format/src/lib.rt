@@ -1,16 +1,15 @@
 // A store made anew: 01's `format`, which is the Rust's `format_chunks`.
 #![tactic(auto)]
 
-ghost use Rattle.std.specs.Prelude.{◌≡◌, ◌&&◌, [], ◌+◌, ◌^◌, ◌<◌, ◌≤◌, eqb};
+ghost use Rattle.std.specs.Prelude.{◌≡◌, [], ◌+◌, ◌^◌, ◌<◌, ◌≤◌};
 ghost use Rattle.medium.specs.Sector.{sectors_of};
 ghost use Rattle.handles.specs.Handles.{body_of, no_store};
-ghost use Rattle.header.specs.Copies.{is_ours, head_in};
 ghost use Rattle.plan.specs.Copy.{refused_out, body_from};
 ghost use Rattle.format.specs.Format.{chunks_of, copy_for, newest_of, has_id, spare_of, id_from, zero_crcs, format_head, Zeroed};
 ghost use Rattle.format.specs.Format.{format_plan, made_of, format_over, format_of};
 
 use handles::{Header, Store};
-use header::{Copies, Replica};
+use header::Copies;
 use medium::{Error, Medium};
 use plan::{BodyWritten, Committed};
 
@@ -22,52 +21,52 @@ fn chunks_for(sectors: u64, size: u32) -> u32
     requires { (64 ≤ sectors) × (1 ≤ size) }
     ensures { (result ≡ chunks_of sectors size) × (result ≤ 2048) }
 {
-    ((sectors - 64) / (size as u64)).min(2048) as u32
+    let fit = (sectors - 64) / (size as u64);
+    if fit < 2048 {
+        return fit as u32;
+    }
+    2048
 }
 
 // The copy to write: opposite the newest. Newest is the copy that mount takes, so mount takes it until the last write.
 fn copy_for(c: Copies) -> u64
     ensures { result ≡ copy_for c }
 {
-    // `&`: two cheap tests, and one jump
-    if !header::takes_b(c) & header::is_ours(c.a) {
-        1
-    } else {
-        0
+    let ka = c.a;
+    if header::takes_b(c) {
+        return 0;
     }
-}
-
-// The generation of a valid copy; 0 where it is none.
-fn generation(copy: Replica) -> u64
-    ensures { result ≡ (head_in copy).generation }
-{
-    match copy {
-        Replica::Ours(head) => head.generation,
-        _ => 0,
+    if header::is_ours(ka) {
+        return 1;
     }
+    0
 }
 
 // The newest's generation, 0 where no copy is valid.
 fn newest(c: Copies) -> u64
     ensures { result ≡ newest_of c }
 {
-    generation(c.a).max(generation(c.b))
-}
-
-fn has(copy: Replica, id: u64) -> bool
-    ensures { result ≡ (is_ours copy && eqb (head_in copy).id id) }
-{
-    match copy {
-        Replica::Ours(head) => head.id == id,
-        _ => false,
+    let ka = c.a;
+    let x = c.heads[0];
+    let y = c.heads[1];
+    if header::takes_b(c) {
+        return y.generation;
     }
+    if header::is_ours(ka) {
+        return x.generation;
+    }
+    0
 }
 
 // Whether a valid copy has this id.
 fn has_id(c: Copies, id: u64) -> bool
     ensures { result ≡ has_id c id }
 {
-    has(c.a, id) | has(c.b, id)
+    let ka = c.a;
+    let kb = c.b;
+    let x = c.heads[0];
+    let y = c.heads[1];
+    (header::is_ours(ka) & (x.id == id)) | (header::is_ours(kb) & (y.id == id))
 }
 
 // Two copies have at most two of the ids 1, 2 and 3.
@@ -75,12 +74,12 @@ fn spare(c: Copies) -> u64
     ensures { result ≡ spare_of c }
 {
     if !has_id(c, 1) {
-        1
-    } else if !has_id(c, 2) {
-        2
-    } else {
-        3
+        return 1;
     }
+    if !has_id(c, 2) {
+        return 2;
+    }
+    3
 }
 
 // The Rust mixes until an id is free. Four bad values would come round for ever, so here the fourth is the last.
@@ -103,8 +102,10 @@ fn zero_crcs(n: usize) -> [u32; 24]
     requires { n ≤ 24 }
     ensures { result ≡ zero_crcs n }
 {
-    let mut crcs = [0; 24];
-    crcs[..n].fill(ZERO_SUM);
+    let mut crcs = [0u32; 24];
+    for k in 0..n {
+        crcs[k] = ZERO_SUM;
+    }
     crcs
 }
 
@@ -113,14 +114,17 @@ fn format_head(c: Copies, medium: Medium, chunks: u32, size: u32, seed: u64) -> 
     requires { (chunks ≤ 2048) × (newest_of c + 1 < 2 ^ 64) }
     ensures { result ≡ format_head c medium chunks size seed }
 {
+    let id = id_from(c, mix::mix(seed ^ medium.entropy));
+    let generation = newest(c) + 1;
+    let crcs = zero_crcs(handles::body(chunks));
     Header {
-        id: id_from(c, mix::mix(seed ^ medium.entropy)),
-        generation: newest(c) + 1,
+        id,
+        generation,
         next_id: 1,
         cursor: 0,
         chunks,
         chunk: size,
-        crcs: zero_crcs(handles::body(chunks)),
+        crcs,
     }
 }
 
@@ -131,11 +135,13 @@ fn zero_body(volume: &mut [u8], medium: Medium, copy: u64, head: Header) -> Body
         × (result ≡ (body_from (format_plan copy head) (body_of head.chunks) 0 volume.old medium head).ans) }
 {
     let first = handles::base(copy) + 1;
+    let body = handles::body(head.chunks);
     let mut m = medium;
-    for k in 0..handles::body(head.chunks) {
+    for k in 0..body {
         let w = medium::zero_sector(volume, m, first + (k as u64));
         m = w.medium;
-        if let Err(e) = w.outcome {
+        let o = w.outcome;
+        if let Err(e) = o {
             return BodyWritten {
                 outcome: Err(e),
                 medium: m,
@@ -153,10 +159,11 @@ fn zero_body(volume: &mut [u8], medium: Medium, copy: u64, head: Header) -> Body
 fn refused(medium: Medium, e: Error) -> Committed
     ensures { result ≡ (refused_out no_store [] medium e).ans }
 {
+    let store = handles::no_store();
     Committed {
         outcome: Err(e),
         medium,
-        store: handles::no_store(),
+        store,
     }
 }
 
@@ -167,26 +174,32 @@ fn make(volume: &mut [u8], medium: Medium, copy: u64, head: Header) -> Committed
     ensures { (volume.new ≡ (made_of copy head volume.old medium).vol) × (result ≡ (made_of copy head volume.old medium).ans) }
 {
     let z = header::write_unmarked(volume, medium, copy, head);
-    if let Err(e) = z.outcome {
+    let first = z.outcome;
+    if let Err(e) = first {
         return refused(z.medium, e);
     }
     let b = zero_body(volume, z.medium, copy, head);
-    if let Err(e) = b.outcome {
+    let zeroed = b.outcome;
+    if let Err(e) = zeroed {
         return refused(b.medium, e);
     }
     let w = header::write_head(volume, b.medium, copy, head);
-    if let Err(e) = w.outcome {
+    let last = w.outcome;
+    if let Err(e) = last {
         return refused(w.medium, e);
     }
+    let free = freemap::full(head.chunks);
+    let store = Store {
+        copy,
+        head,
+        writer: None,
+        free,
+    };
+    let after = w.medium;
     Committed {
         outcome: Ok(()),
-        medium: w.medium,
-        store: Store {
-            copy,
-            head,
-            writer: None,
-            free: freemap::full(head.chunks),
-        },
+        medium: after,
+        store,
     }
 }
 
@@ -200,8 +213,7 @@ fn format_over(volume: &mut [u8], medium: Medium, c: Copies, size: u32, seed: u6
     if chunks == 0 {
         return refused(medium, Error::Range);
     }
-    let last = u64::MAX;
-    if newest(c) == last {
+    if newest(c) == 0xffff_ffff_ffff_ffff {
         return refused(medium, Error::Spent);
     }
     let head = format_head(c, medium, chunks, size, seed);
@@ -217,8 +229,10 @@ pub fn format(volume: &mut [u8], medium: Medium, size: u32, seed: u64) -> Commit
     if !sized {
         return refused(medium, Error::Range);
     }
-    match header::headers(volume, medium) {
-        Ok(c) => format_over(volume, medium, c, size, seed),
-        Err(e) => refused(medium, e),
+    let c = header::headers(volume, medium);
+    let o = c.outcome;
+    if let Err(e) = o {
+        return refused(medium, e);
     }
+    format_over(volume, medium, c, size, seed)
 }

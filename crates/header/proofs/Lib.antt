@@ -6,5 +6,3 @@ pub mod Range
 pub mod Accepted
 pub mod Stale
 pub mod Edges
-pub mod Tells
-pub mod Choices

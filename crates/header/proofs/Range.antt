@@ -19,9 +19,9 @@ use Rattle.seal.specs.Seal.{is_sealed}
 use Rattle.handles.specs.declared.Header.{Header}
 use Rattle.handles.specs.Handles.{body_of, sane_of}
 use Rattle.handles.proofs.Laws.{sane_facts}
-use Rattle.header.specs.declared.codec.Replica.TheVariants.{Foreign, Damaged, Absent, Ours}
-use Rattle.header.specs.Header.{magic, fixed_ok, numbers_at, crcs_of, head_of, decode_of, Bytes, InRange}
-use Rattle.header.specs.Copies.{is_ours, head_in}
+use Rattle.header.specs.declared.codec.Replica.TheVariants.{Foreign, Damaged, Absent}
+use Rattle.header.specs.Header.{magic, fixed_ok, numbers_at, crcs_of, head_of, ours, bare, decode_of, Bytes, InRange}
+use Rattle.header.specs.Copies.{is_ours}
 use Rattle.header.proofs.Words.{length_numbers}
 
 -- ---- a field of bytes fits its width
@@ -77,22 +77,22 @@ head_range l sectors size small e =
 pub no_way : {A : Type 0} → false ≡ true → A
 no_way e = absurd (false≢true e)
 
-chosen : (a b c : Bool) (x : Header) → is_ours (pick a (pick b (pick c (Ours x) Foreign) Damaged) Absent) ≡ true
-    → (pick a (pick b (pick c (Ours x) Foreign) Damaged) Absent ≡ Ours x) × (c ≡ true)
+chosen : (a b c : Bool) (x : Header) → is_ours (pick a (pick b (pick c (ours x) (bare Foreign)) (bare Damaged)) (bare Absent)).kind ≡ true
+    → (pick a (pick b (pick c (ours x) (bare Foreign)) (bare Damaged)) (bare Absent) ≡ ours x) × (c ≡ true)
 unfolding pick
 chosen true true true x e = (refl, refl)
 chosen true true false x e = no_way e
 chosen true false c x e = no_way e
 chosen false b c x e = no_way e
 
-pub valid : (l : List ℕ) (sectors : ℕ) → is_ours (decode_of l sectors) ≡ true → (decode_of l sectors ≡ Ours (head_of l)) × (sane_of (head_of l) sectors ≡ true)
+pub valid : (l : List ℕ) (sectors : ℕ) → is_ours (decode_of l sectors).kind ≡ true → (decode_of l sectors ≡ ours (head_of l)) × (sane_of (head_of l) sectors ≡ true)
 unfolding decode_of
 valid l sectors e =
     let t = chosen (starts_with magic l) (is_sealed l) (sane_of (head_of l) sectors && fixed_ok l (get_le 4 48 l)) (head_of l) e in
     (t.0, (and_true _ _ t.1).0)
 
-pub decode_range : (l : List ℕ) (sectors : ℕ) (h : Header) → length l ≡ 512 → Bytes l → decode_of l sectors ≡ Ours h → (sane_of h sectors ≡ true) × InRange h
+pub decode_range : (l : List ℕ) (sectors : ℕ) (h : Header) → length l ≡ 512 → Bytes l → decode_of l sectors ≡ ours h → (sane_of h sectors ≡ true) × InRange h
 decode_range l sectors h size small e =
-    let t = valid l sectors (ap is_ours e) in
-    let s : head_of l ≡ h = ap head_in (sym t.0 ∙ e) in
+    let t = valid l sectors (ap (λ (d : Decoded). is_ours d.kind) e) in
+    let s : head_of l ≡ h = ap (λ (d : Decoded). d.head) (sym t.0 ∙ e) in
     (rw s at t.1, rw s at (head_range l sectors size small t.1))

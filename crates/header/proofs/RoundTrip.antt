@@ -24,8 +24,8 @@ use Rattle.checksum.specs.Crc.{crc32_of}
 use Rattle.handles.specs.declared.Header.{Header}
 use Rattle.handles.specs.Handles.{table_of, body_of, sane_of}
 use Rattle.handles.proofs.Laws.{sane_facts}
-use Rattle.header.specs.declared.codec.Replica.TheVariants.{Absent, Ours}
-use Rattle.header.specs.Header.{magic, fields_of, content_of, encode_of, unmarked_of, zero_from, fixed_ok, numbers_at, crcs_of, head_of, decode_of, InRange}
+use Rattle.header.specs.declared.codec.Replica.TheVariants.{Absent}
+use Rattle.header.specs.Header.{magic, fields_of, content_of, encode_of, unmarked_of, zero_from, fixed_ok, numbers_at, crcs_of, head_of, ours, bare, decode_of, InRange}
 use Rattle.header.proofs.Words.{numbers_words}
 use Rattle.header.proofs.Fill.{start_of, list_of, listed, listed_fits, length_content}
 
@@ -139,21 +139,21 @@ module _ (h : Header) (k : InRange h) (most : h.chunks ≤ 2048) where
 
 -- ---- the laws
 
-pub decode_encode : (h : Header) (sectors : ℕ) → sane_of h sectors ≡ true → InRange h → decode_of (encode_of h) sectors ≡ Ours h
+pub decode_encode : (h : Header) (sectors : ℕ) → sane_of h sectors ≡ true → InRange h → decode_of (encode_of h) sectors ≡ ours h
 unfolding decode_of pick
 decode_encode h sectors e k =
     let most : h.chunks ≤ 2048 = (sane_facts h sectors e).chunks_most in
     rw (marked h k.count most, sealed_read h k.count most, head_read h k most, chunks_read h k most, e, row_read h k.count most)
 
 -- a sector without the magic holds no copy
-pub unmarked : (l : List ℕ) (sectors : ℕ) → starts_with magic l ≡ false → decode_of l sectors ≡ Absent
+pub unmarked : (l : List ℕ) (sectors : ℕ) → starts_with magic l ≡ false → decode_of l sectors ≡ bare Absent
 unfolding decode_of
 unmarked l sectors e = pick_false _ _ e
 
-pub zeros_absent : (sectors : ℕ) → decode_of (zeros 512) sectors ≡ Absent
+pub zeros_absent : (sectors : ℕ) → decode_of (zeros 512) sectors ≡ bare Absent
 unfolding magic zeros starts_with
 zeros_absent sectors = unmarked (zeros 512) sectors refl
 
-pub unmarked_absent : (h : Header) (sectors : ℕ) → decode_of (unmarked_of h) sectors ≡ Absent
+pub unmarked_absent : (h : Header) (sectors : ℕ) → decode_of (unmarked_of h) sectors ≡ bare Absent
 unfolding unmarked_of over magic zeros starts_with
 unmarked_absent h sectors = unmarked (unmarked_of h) sectors refl

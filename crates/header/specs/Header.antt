@@ -84,14 +84,21 @@ abbrev pub with_crcs : Header → List ℕ → Header
 with_crcs h crcs =
     record { id = h.id; generation = h.generation; next_id = h.next_id; cursor = h.cursor; chunks = h.chunks; chunk = h.chunk; crcs = crcs }
 
+-- a copy that is valid, and a kind with no header
+abbrev pub ours : Header → Decoded
+ours h = record { kind = Ours; head = h }
+
+abbrev pub bare : Replica → Decoded
+bare k = record { kind = k; head = blank_of }
+
 -- the copy in a sector of a volume of so many sectors
-unfoldable pub decode_of : List ℕ → ℕ → Replica
+unfoldable pub decode_of : List ℕ → ℕ → Decoded
 decode_of l sectors =
     pick (starts_with magic l)
     (pick (is_sealed l)
-    (pick (sane_of (head_of l) sectors && fixed_ok l (get_le 4 48 l)) (Ours (head_of l)) Foreign)
-    Damaged)
-    Absent
+    (pick (sane_of (head_of l) sectors && fixed_ok l (get_le 4 48 l)) (ours (head_of l)) (bare Foreign))
+    (bare Damaged))
+    (bare Absent)
 
 -- a list of bytes
 abbrev pub Bytes : List ℕ → Type 0

@@ -3,17 +3,24 @@ ghost use Rattle.std.specs.Prelude.{◌≡◌, ◌++◌, ◌≤◌, length, take
 ghost use Rattle.le.specs.Part.{over, zeros};
 ghost use Rattle.le.specs.Field.{put_le};
 ghost use Rattle.le.specs.Layout.{put_all};
-ghost use Rattle.header.specs.Header.{magic, fields_of, words, encode_of, unmarked_of, fixed_ok, crcs_of, head_of, with_crcs, decode_of};
+ghost use Rattle.header.specs.Header.{magic, fields_of, words, encode_of, unmarked_of, fixed_ok, crcs_of, bare, decode_of};
 
 use handles::Header;
 
 // What a header sector holds: a valid copy, one of another version or geometry, one whose CRC fails, none.
-#[derive(Clone, Copy, Debug, PartialEq, Eq)]
+#[derive(Clone, Copy)]
 pub enum Replica {
-    Ours(Header),
+    Ours,
     Foreign,
     Damaged,
     Absent,
+}
+
+// The kind, and beside it the header: blank unless the copy is valid.
+#[derive(Clone, Copy)]
+pub struct Decoded {
+    pub kind: Replica,
+    pub head: Header,
 }
 
 // What all headers with so many table sectors share: the magic, the version, the 8 and the count; the rest is 0.
@@ -99,40 +106,44 @@ fn crcs_at(sector: &[u8], n: usize) -> [u32; 24]
     crcs
 }
 
-// The numbers of a sector, its checksums still to be read.
-fn numbers_at(sector: &[u8]) -> Header
-    requires { length sector.now ≡ 512 }
-    ensures { result ≡ with_crcs (head_of sector.now) (zeros 24) }
+// A kind with no header.
+fn bare(kind: Replica) -> Decoded
+    ensures { result ≡ bare kind }
 {
-    Header {
+    let head = handles::blank();
+    Decoded { kind, head }
+}
+
+// The copy in a sector, on a volume of so many sectors.
+pub fn decode(sector: &[u8], sectors: u64) -> Decoded
+    requires { length sector.now ≡ 512 }
+    ensures { result ≡ decode_of sector.now sectors }
+{
+    if !runs::starts_with(sector, 0, b"CYCLING-STORE\0\0\0") {
+        return bare(Replica::Absent);
+    }
+    if !seal::is_sealed(sector) {
+        return bare(Replica::Damaged);
+    }
+    let mut head = Header {
         id: le::get_u64(sector, 24),
         generation: le::get_u64(sector, 32),
         next_id: le::get_u32(sector, 40),
         cursor: le::get_u32(sector, 44),
         chunks: le::get_u32(sector, 48),
         chunk: le::get_u32(sector, 52),
-        crcs: [0; 24],
-    }
-}
-
-// The copy in a sector, on a volume of so many sectors.
-pub fn decode(sector: &[u8], sectors: u64) -> Replica
-    requires { length sector.now ≡ 512 }
-    ensures { result ≡ decode_of sector.now sectors }
-{
-    if !runs::starts_with(sector, 0, b"CYCLING-STORE\0\0\0") {
-        return Replica::Absent;
-    }
-    if !seal::is_sealed(sector) {
-        return Replica::Damaged;
-    }
-    let head = numbers_at(sector);
+        crcs: [0u32; 24],
+    };
     if !handles::sane(head, sectors) {
-        return Replica::Foreign;
+        return bare(Replica::Foreign);
     }
     if !fixed_ok(sector, head.chunks) {
-        return Replica::Foreign;
+        return bare(Replica::Foreign);
     }
     let crcs = crcs_at(sector, handles::body(head.chunks));
-    Replica::Ours(Header { crcs, ..head })
+    head.crcs = crcs;
+    Decoded {
+        kind: Replica::Ours,
+        head,
+    }
 }

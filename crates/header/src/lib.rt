@@ -4,75 +4,117 @@
 mod answers;
 mod codec;
 
-ghost use Rattle.std.specs.Prelude.{◌≡◌, ◌||◌, ◌<◌, ◌≤◌};
-ghost use Rattle.le.specs.Choice.{pick};
-ghost use Rattle.medium.specs.declared.Error.TheVariants.{Corrupt, Uninitialized};
+ghost use Rattle.std.specs.Prelude.{◌≡◌, ◌<◌, ◌≤◌};
 ghost use Rattle.medium.specs.Sector.{sectors_of, write_of};
 ghost use Rattle.handles.specs.Handles.{base_of};
 ghost use Rattle.header.specs.Header.{encode_of, unmarked_of};
-ghost use Rattle.header.specs.Copies.{is_ours, is_damaged, read_copy, headers_of, takes_b, same_store, listed_of, taken_of};
+ghost use Rattle.header.specs.Copies.{is_ours, is_foreign, is_damaged, copy_of, no_copies, headers_of, takes_b, same_store, taken_of, no_current};
 ghost use Rattle.header.specs.Copies.{choice_of, current_of, mount_of};
 
-pub use answers::{Copies, Current};
-pub use codec::{Replica, decode, encode, encode_unmarked};
+pub use answers::{Copies, Current, Mounted};
+pub use codec::{Decoded, Replica, decode, encode, encode_unmarked};
 use handles::{Header, Store};
 use medium::{Error, Medium, Written};
 
 // A copy that is valid.
-pub fn is_ours(copy: Replica) -> bool
-    ensures { result ≡ is_ours copy }
+pub fn is_ours(k: Replica) -> bool
+    ensures { result ≡ is_ours k }
 {
-    match copy {
-        Replica::Ours(_) => true,
-        _ => false,
+    match k {
+        Replica::Ours => true,
+        Replica::Foreign => false,
+        Replica::Damaged => false,
+        Replica::Absent => false,
     }
 }
 
-fn is_damaged(copy: Replica) -> bool
-    ensures { result ≡ is_damaged copy }
+fn is_foreign(k: Replica) -> bool
+    ensures { result ≡ is_foreign k }
 {
-    match copy {
+    match k {
+        Replica::Ours => false,
+        Replica::Foreign => true,
+        Replica::Damaged => false,
+        Replica::Absent => false,
+    }
+}
+
+fn is_damaged(k: Replica) -> bool
+    ensures { result ≡ is_damaged k }
+{
+    match k {
+        Replica::Ours => false,
+        Replica::Foreign => false,
         Replica::Damaged => true,
-        _ => false,
+        Replica::Absent => false,
     }
 }
 
-// The copy in sector `at`, judged where it stands. A foreign one refuses.
-fn copy_at(volume: &[u8], medium: Medium, at: u64) -> Result<Replica, Error>
-    requires { at < sectors_of volume.now }
-    ensures { result ≡ read_copy volume.now medium at }
+fn no_copies(e: Error) -> Copies
+    ensures { result ≡ no_copies e }
 {
-    medium::readable(medium, at)?;
-    let start = 512 * (at as usize);
-    match decode(&volume[start..start + 512], medium::sectors(volume)) {
-        Replica::Foreign => Err(Error::Foreign),
-        copy => Ok(copy),
+    let head = handles::blank();
+    Copies {
+        outcome: Err(e),
+        heads: [head, head],
+        a: Replica::Absent,
+        b: Replica::Absent,
     }
 }
 
-// Both copies, A first.
-pub fn headers(volume: &[u8], medium: Medium) -> Result<Copies, Error>
+// The copy in sector `at`, judged where it stands.
+fn copy_at(volume: &[u8], at: u64) -> Decoded
+    requires { at < sectors_of volume.now }
+    ensures { result ≡ copy_of volume.now at }
+{
+    let a = 512 * (at as usize);
+    decode(&volume[a..a + 512], medium::sectors(volume))
+}
+
+// Both copies, A first. A foreign one refuses.
+pub fn headers(volume: &[u8], medium: Medium) -> Copies
     ensures { result ≡ headers_of volume.now medium }
 {
     if medium::sectors(volume) < 64 {
-        return Err(Error::Range);
+        return no_copies(Error::Range);
     }
-    let a = copy_at(volume, medium, 0)?;
-    let b = copy_at(volume, medium, 32)?;
-    Ok(Copies { a, b })
+    let ra = medium::readable(medium, 0);
+    if let Err(e) = ra {
+        return no_copies(e);
+    }
+    let a = copy_at(volume, 0);
+    let ka = a.kind;
+    if is_foreign(ka) {
+        return no_copies(Error::Foreign);
+    }
+    let rb = medium::readable(medium, 32);
+    if let Err(e) = rb {
+        return no_copies(e);
+    }
+    let b = copy_at(volume, 32);
+    let kb = b.kind;
+    if is_foreign(kb) {
+        return no_copies(Error::Foreign);
+    }
+    let ha = a.head;
+    let hb = b.head;
+    Copies {
+        outcome: Ok(()),
+        heads: [ha, hb],
+        a: ka,
+        b: kb,
+    }
 }
 
 // Whether mount takes copy B.
 pub fn takes_b(c: Copies) -> bool
     ensures { result ≡ takes_b c }
 {
-    match c.b {
-        Replica::Ours(y) => match c.a {
-            Replica::Ours(x) => x.generation < y.generation,
-            _ => true,
-        },
-        _ => false,
-    }
+    let ka = c.a;
+    let kb = c.b;
+    let x = c.heads[0];
+    let y = c.heads[1];
+    is_ours(kb) & (!is_ours(ka) | (x.generation < y.generation))
 }
 
 fn same_store(x: Header, y: Header) -> bool
@@ -81,82 +123,90 @@ fn same_store(x: Header, y: Header) -> bool
     (x.id == y.id) & ((x.chunks == y.chunks) & (x.chunk == y.chunk))
 }
 
-// The checksums that the other copy's header lists, where it is valid and of the same store.
-fn listed(head: Header, other: Replica) -> Option<[u32; 24]>
-    ensures { result ≡ listed_of head other }
+fn taken(copy: u64, head: Header, other: Header, valid: bool) -> Current
+    ensures { result ≡ taken_of copy head other valid }
 {
-    match other {
-        Replica::Ours(theirs) => {
-            if same_store(head, theirs) {
-                Some(theirs.crcs)
-            } else {
-                None
-            }
-        }
-        _ => None,
-    }
-}
-
-fn taken(copy: u64, head: Header, other: Replica) -> Current
-    ensures { result ≡ taken_of copy head other }
-{
+    let same = same_store(head, other);
+    let listed = other.crcs;
     Current {
+        outcome: Ok(()),
         copy,
         head,
-        listed: listed(head, other),
+        known: valid & same,
+        listed,
     }
 }
 
-// Why no copy is taken, where none is valid.
-fn refusal(c: Copies) -> Error
-    ensures { result ≡ pick (is_damaged c.a || is_damaged c.b) Corrupt Uninitialized }
+fn no_current(e: Error) -> Current
+    ensures { result ≡ no_current e }
 {
-    if is_damaged(c.a) | is_damaged(c.b) {
-        Error::Corrupt
-    } else {
-        Error::Uninitialized
+    let head = handles::blank();
+    Current {
+        outcome: Err(e),
+        copy: 0,
+        head,
+        known: false,
+        listed: [0u32; 24],
     }
 }
 
-fn choice(c: Copies) -> Result<Current, Error>
+fn choice(c: Copies) -> Current
     ensures { result ≡ choice_of c }
 {
-    match c.a {
-        Replica::Ours(x) => match c.b {
-            Replica::Ours(y) => {
-                if takes_b(c) {
-                    Ok(taken(1, y, c.a))
-                } else {
-                    Ok(taken(0, x, c.b))
-                }
-            }
-            _ => Ok(taken(0, x, c.b)),
-        },
-        _ => match c.b {
-            Replica::Ours(y) => Ok(taken(1, y, c.a)),
-            _ => Err(refusal(c)),
-        },
+    let ka = c.a;
+    let kb = c.b;
+    let x = c.heads[0];
+    let y = c.heads[1];
+    let a = is_ours(ka);
+    if takes_b(c) {
+        return taken(1, y, x, a);
     }
+    if a {
+        return taken(0, x, y, is_ours(kb));
+    }
+    if is_damaged(ka) | is_damaged(kb) {
+        return no_current(Error::Corrupt);
+    }
+    no_current(Error::Uninitialized)
 }
 
 // The current copy, and what the other one holds.
-pub fn current(volume: &[u8], medium: Medium) -> Result<Current, Error>
+pub fn current(volume: &[u8], medium: Medium) -> Current
     ensures { result ≡ current_of volume.now medium }
 {
-    choice(headers(volume, medium)?)
+    let c = headers(volume, medium);
+    let o = c.outcome;
+    if let Err(e) = o {
+        return no_current(e);
+    }
+    choice(c)
 }
 
 // The current metadata of the store on the volume.
-pub fn mount(volume: &[u8], medium: Medium) -> Result<Store, Error>
+pub fn mount(volume: &[u8], medium: Medium) -> Mounted
     ensures { result ≡ mount_of volume.now medium }
 {
-    let found = current(volume, medium)?;
-    Ok(Store {
-        copy: found.copy,
-        head: found.head,
+    let c = current(volume, medium);
+    let o = c.outcome;
+    if let Err(e) = o {
+        let store = handles::no_store();
+        return Mounted {
+            outcome: Err(e),
+            store,
+        };
+    }
+    let head = c.head;
+    let free = freemap::unfit();
+    let store = Store {
+        copy: c.copy,
+        head,
         writer: None,
-        free: freemap::unfit(),
-    })
+        free,
+    };
+    Mounted {
+        outcome: Ok(()),
+        store,
+    }
 }
 
 // Writes a header to its copy's sector, where a write is left.
@@ -166,7 +216,8 @@ pub fn write_head(volume: &mut [u8], medium: Medium, copy: u64, head: Header) ->
         × (result ≡ (write_of volume.old medium (base_of copy) (encode_of head)).ans) }
 {
     let w = medium::spend(medium);
-    if let Err(_) = w.outcome {
+    let o = w.outcome;
+    if let Err(_) = o {
         return w;
     }
     let a = 512 * (handles::base(copy) as usize);
@@ -181,7 +232,8 @@ pub fn write_unmarked(volume: &mut [u8], medium: Medium, copy: u64, head: Header
         × (result ≡ (write_of volume.old medium (base_of copy) (unmarked_of head)).ans) }
 {
     let w = medium::spend(medium);
-    if let Err(_) = w.outcome {
+    let o = w.outcome;
+    if let Err(_) = o {
         return w;
     }
     let a = 512 * (handles::base(copy) as usize);

@@ -1,6 +1,5 @@
 -- The laws of a sector and of a sector write: all that the layers above use of either. Assumes nothing.
 use Rattle.std.specs.Prelude.{Err, Ok, Result}
-use Rattle.std.specs.Result.{result_unwrap_or}
 use mathlib.Core.Path.{◌≡◌, refl, sym, ap, ◌∙◌}
 use mathlib.Core.List.{List, [], ◌++◌, append-nil}
 use mathlib.Core.Logic.{◌⊎◌, ⊎_elim}
@@ -14,7 +13,7 @@ use Rattle.le.proofs.Parts.{length_part, length_over, part_over, part_before, pa
 use Rattle.medium.specs.declared.Error.{Error}
 use Rattle.medium.specs.declared.Medium.{Medium}
 use Rattle.medium.specs.declared.Written.{Written}
-use Rattle.medium.specs.Refusal.{Answer, ok, refused, on_done, on_value, on_ok, outcome_of}
+use Rattle.medium.specs.Refusal.{Answer, ok, refused, on_done, on_ok, outcome_of}
 use Rattle.medium.specs.Sector.{sectors_of, sector_at, write_at, spend_of, write_of}
 
 pub length_sector : (vol : List ℕ) (k : ℕ) → k < sectors_of vol → length (sector_at vol k) ≡ 512
@@ -85,28 +84,6 @@ on_done_done a f q = rw q
 pub on_done_no : {A : Type 0} {o : Result Unit Error} {e : Error} (a : A) (f : Error → A) → o ≡ Err e → on_done o a f ≡ f e
 unfolding on_done
 on_done_no a f q = rw q
-
--- the same of a step that gives a value
-pub on_value_keeps : {A B : Type 0} (P : B → Type 0) (r : Result A Error) (g : A → B) (f : Error → B) → ((a : A) → r ≡ Ok a → P (g a))
-    → ((e : Error) → r ≡ Err e → P (f e)) → P (on_value r g f)
-unfolding on_value
-on_value_keeps P (Ok a) g f p q = p a refl
-on_value_keeps P (Err e) g f p q = q e refl
-
-pub on_value_ok : {A B : Type 0} {r : Result A Error} {a : A} (g : A → B) (f : Error → B) → r ≡ Ok a → on_value r g f ≡ g a
-unfolding on_value
-on_value_ok g f q = rw q
-
-pub on_value_no : {A B : Type 0} {r : Result A Error} {e : Error} (g : A → B) (f : Error → B) → r ≡ Err e → on_value r g f ≡ f e
-unfolding on_value
-on_value_no g f q = rw q
-
--- a step that gave a value was not refused, and it gave one alone
-pub not_ok : {A B : Type 0} {a : A} {e : Error} → ◌≡◌ {A = Result A Error} (Err e) (Ok a) → B
-not_ok q = let z : ◌≡◌ {A = ℕ} 0 1 = cc in absurd (let f : ⊥ = omega arith in f)
-
-pub ok_one : {A : Type 0} {a b : A} → ◌≡◌ {A = Result A Error} (Ok a) (Ok b) → a ≡ b
-ok_one {A} {a} {b} q = ap (λ (r : Result A Error). result_unwrap_or r a) q
 
 -- an outcome is not both
 pub not_done : {A : Type 0} {e : Error} → ◌≡◌ {A = Result Unit Error} (Err e) (Ok tt) → A

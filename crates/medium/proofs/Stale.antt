@@ -22,14 +22,6 @@ NotStale (Err e) = eqb (number_of e) 11 ≡ false
 pub no_stale : {o : Result Unit Error} {e : Error} → NotStale o → o ≡ Err e → NotStale (Err e)
 no_stale n q = subst NotStale q n
 
--- the same of a step that gives a value
-abbrev pub NotStaleOf : {A : Type 0} → Result A Error → Type 0
-NotStaleOf (Ok a) = Unit
-NotStaleOf (Err e) = NotStale (Err e)
-
-pub no_stale_of : {A : Type 0} {r : Result A Error} {e : Error} → NotStaleOf r → r ≡ Err e → NotStale (Err e)
-no_stale_of n q = subst NotStaleOf q n
-
 -- as 01 has it
 pub told_not_stale : (o : Result Unit Error) → NotStale o → outcome_of o ≡ refused 11 → ⊥
 told_not_stale (Ok tt) n q = let z : ◌≡◌ {A = ℕ} 0 1 = cc in omega arith

@@ -33,11 +33,6 @@ unfoldable pub on_done : {A : Type 0} → Result Unit Error → A → (Error →
 on_done (Ok tt) a f = a
 on_done (Err e) a f = f e
 
--- g of the value where a step gave one, else f of the refusal. It stays shut in proofs
-unfoldable pub on_value : {A B : Type 0} → Result A Error → (A → B) → (Error → B) → B
-on_value (Ok a) g f = g a
-on_value (Err e) g f = f e
-
 -- g of the values where a call is accepted, else f of its number. It stays shut in proofs
 unfoldable pub on_ok : {A B : Type 0} → Answer A → (A → B) → (ℕ → B) → B
 on_ok (ok a) g f = g a

@@ -1,5 +1,5 @@
--- Edits: what one that fits tells, by its case; a sector written whole, and an entry in its place; the numbers that an edit leaves. Assumes nothing.
-use mathlib.Core.Path.{◌≡◌, refl, sym, ◌∙◌}
+-- Edits: what one that fits tells, by its case; a sector written whole, and an entry in its place. Assumes nothing.
+use mathlib.Core.Path.{◌≡◌, sym, ◌∙◌}
 use mathlib.Core.Bool.{Bool}
 use mathlib.Core.List.{List, ◌++◌}
 use Prim.Native.Nat.{ℕ, ◌+◌, ◌-◌, ◌*◌, ◌%◌, ◌^◌, ◌≤◌, ◌<◌}
@@ -7,12 +7,11 @@ use native.Mathlib.Nat.{add-sub_cancel_left}
 use lib.ListN.{length, take, drop}
 use Rattle.le.specs.Part.{over, zeros}
 use Rattle.le.proofs.Parts.{length_zeros, over_back, over_whole}
-use Rattle.handles.specs.declared.Header.{Header}
 use Rattle.directory.specs.Entry.{entry_bytes}
 use Rattle.directory.proofs.Entries.{length_entry}
 use Rattle.plan.specs.declared.Edit.{Edit}
-use Rattle.plan.specs.declared.Edit.TheVariants.{Format, Create, Extend, Remove}
-use Rattle.plan.specs.Edit.{Fits, next_after, cursor_after}
+use Rattle.plan.specs.declared.Edit.TheVariants.{Create, Extend, Remove}
+use Rattle.plan.specs.Edit.{Fits}
 
 pub create_fits : {e : Edit} {slot id chunk : ℕ} (chunks : ℕ) → e ≡ Create slot id chunk → Fits e chunks → (slot < 64) × (id + 1 < 2 ^ 32) × (chunk < chunks)
 create_fits chunks q f = rw q at f
@@ -34,19 +33,3 @@ pub entry_back : (slot id : ℕ) (name s : List ℕ) {e : List ℕ} → length n
 entry_back slot id name s short q =
     let n : length (entry_bytes name id) ≡ 64 * (slot % 8) + 64 - 64 * (slot % 8) = length_entry name id short ∙ sym (add-sub_cancel_left (64 * (slot % 8)) 64) in
     rw q (over_back (64 * (slot % 8)) (64 * (slot % 8) + 64) (entry_bytes name id) s n)
-
--- the numbers that an edit leaves
-pub next_kept : (e : Edit) (h : Header) → ((slot id chunk : ℕ) → e ≡ Create slot id chunk → ⊥) → h.next_id ≡ next_after e h
-unfolding next_after
-next_kept Format h n = refl
-next_kept (Create slot id chunk) h n = absurd (n slot id chunk refl)
-next_kept (Extend slot position next last partial records) h n = refl
-next_kept (Remove slot) h n = refl
-
-pub cursor_kept : (e : Edit) (h : Header) → ((slot id chunk : ℕ) → e ≡ Create slot id chunk → ⊥)
-    → ((slot position next last : ℕ) (partial : Bool) (records : ℕ) → e ≡ Extend slot position next last partial records → ⊥) → h.cursor ≡ cursor_after e h
-unfolding cursor_after
-cursor_kept Format h n x = refl
-cursor_kept (Create slot id chunk) h n x = absurd (n slot id chunk refl)
-cursor_kept (Extend slot position next last partial records) h n x = absurd (x slot position next last partial records refl)
-cursor_kept (Remove slot) h n x = refl

@@ -1,6 +1,6 @@
 -- 01, "Commit" and "Header" (format): a copy written anew. A commit and a format differ in the first image of the header and in what is decided of
 -- each body sector. Writes left falls inside, so this settles the volume after every stop. Assumes nothing.
-use Rattle.std.specs.Prelude.{Err, Ok, Option, None, Some}
+use Rattle.std.specs.Prelude.{Err, Ok}
 use Rattle.std.specs.Prelude.{ℕ, zero, suc, ◌+◌, ◌≡◌, Bool, true, false, not, ◌&&◌, ◌||◌, List, [], ◌∷◌, eqb, ltb, get_or, set}
 use Rattle.le.specs.Choice.{pick}
 use Rattle.le.specs.Part.{zeros}
@@ -24,7 +24,7 @@ use Rattle.plan.specs.declared.BodyWritten.{BodyWritten}
 use Rattle.plan.specs.Edit.{changes_of, edited_of}
 
 -- what is settled before the first write: the store value given (none for a format), the copy to write, its header with the checksums still to be
--- made, the header's first image, the edit with its name, and the checksums that the other header lists, where it is valid and of this store
+-- made, the header's first image, the edit with its name, and the checksums that the other header lists, where it is known to be of this store
 pub record Plan : Type 0 where
   pub store : Store
   pub copy : ℕ
@@ -32,7 +32,8 @@ pub record Plan : Type 0 where
   pub first : List ℕ
   pub edit : Edit
   pub name : List ℕ
-  pub listed : Option (List ℕ)
+  pub known : Bool
+  pub listed : List ℕ
 
 -- the decision for a body sector: left unread; left after its checksum, which matched; written with its checksum; refused
 pub data Move : Type 0 where
@@ -45,14 +46,9 @@ pub data Move : Type 0 where
 unfoldable pub due_bytes : Plan → List ℕ → ℕ → List ℕ
 due_bytes p vol k = edited_of p.edit p.name k (sector_at vol (body_at p.store k))
 
--- of the checksums that a header lists, where they are known, that of sector k is this one
-abbrev pub listed_at : Option (List ℕ) → ℕ → ℕ → Bool
-listed_at None k c = false
-listed_at (Some crcs) k c = eqb (get_or crcs k 0) c
-
 -- the other header lists this checksum for sector k
 unfoldable pub lists : Plan → ℕ → ℕ → Bool
-lists p k c = listed_at p.listed k c
+lists p k c = p.known && eqb (get_or p.listed k 0) c
 
 -- a sector that was read and passed: the checksum decides, not the bytes
 unfoldable pub due_move : Plan → ℕ → List ℕ → Move

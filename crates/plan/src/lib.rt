@@ -1,4 +1,4 @@
-// What a commit is to do: the edits, and the answers of writing a copy anew.
+// What a commit is to do: the edits, which the Rust passes as closures, and the answers of writing a copy anew.
 #![tactic(auto)]
 
 mod map;
@@ -15,8 +15,8 @@ use medium::{Error, Medium};
 use table::Link;
 
 // A new store; a file's entry and its first link; a file's next link, and where `partial` the mark of its last chunk with its records; a file
-// removed, with every link of its slot. The Rust passes closures: an edit is named here, so that definitions and theorems can speak of it.
-#[derive(Clone, Copy, Debug, PartialEq, Eq)]
+// removed, with every link of its slot.
+#[derive(Clone, Copy)]
 pub enum Edit {
     Format,
     Create {
@@ -37,7 +37,7 @@ pub enum Edit {
     },
 }
 
-// Body sectors written, or left: the header so far. A refusal hands the medium back too, so that this is no `Result`.
+// Body sectors written, or left: the header so far.
 #[derive(Clone, Copy)]
 pub struct BodyWritten {
     pub outcome: Result<(), Error>,
@@ -53,18 +53,20 @@ pub struct Committed {
     pub store: Store,
 }
 
-// Whether body sector `k` is among those that change. `|` and `&`: these are cheap tests without a jump.
+// Whether body sector `k` is among those that change.
 pub fn changes(edit: Edit, k: usize) -> bool
     ensures { result ≡ changes_of edit k }
 {
     match edit {
         Edit::Format => true,
-        Edit::Create { slot, chunk, .. } => (k == slot / 8) | (k == 8 + (chunk as usize) / 128),
+        Edit::Create { slot, id: _, chunk } => (k == slot / 8) | (k == 8 + (chunk as usize) / 128),
         Edit::Extend {
+            slot: _,
+            position: _,
             next,
             last,
             partial,
-            ..
+            records: _,
         } => (k == 8 + (next as usize) / 128) | (partial & (k == 8 + (last as usize) / 128)),
         Edit::Remove { slot } => (k == slot / 8) | (8 <= k),
     }
@@ -75,10 +77,12 @@ fn put_file(k: usize, slot: usize, name: &[u8], id: u32, sector: &mut [u8])
     requires { (length sector.old ≡ 512) × (length name.now ≤ 40) }
     ensures { sector.new ≡ entry_put k slot (entry_bytes name.now id) sector.old }
 {
-    if k == slot / 8 {
-        let start = 64 * (slot % 8);
-        directory::put_entry(&mut sector[start..start + 64], name, id);
+    if k != slot / 8 {
+        return;
     }
+    let a = 64 * (slot % 8);
+    let e = a + 64;
+    directory::put_entry(&mut sector[a..e], name, id);
 }
 
 // The entry of a slot cleared, where sector `k` has it.
@@ -86,9 +90,10 @@ fn clear_file(k: usize, slot: usize, sector: &mut [u8])
     requires { length sector.old ≡ 512 }
     ensures { sector.new ≡ entry_put k slot (zeros 64) sector.old }
 {
-    if k == slot / 8 {
-        runs::put_zeros(sector, 64 * (slot % 8), 64);
+    if k != slot / 8 {
+        return;
     }
+    runs::put_zeros(sector, 64 * (slot % 8), 64);
 }
 
 fn plain_link(slot: usize, position: u32) -> Link
@@ -118,9 +123,10 @@ fn put_link(k: usize, chunk: u32, link: Link, sector: &mut [u8])
     requires { (length sector.old ≡ 512) × (link.slot < 64) × (link.position < 32768) × (link.records < 512) }
     ensures { sector.new ≡ link_put k chunk link sector.old }
 {
-    if k == 8 + (chunk as usize) / 128 {
-        table::put_link(sector, chunk, link);
+    if k != 8 + (chunk as usize) / 128 {
+        return;
     }
+    table::put_link(sector, chunk, link);
 }
 
 // The partial mark of a file's last chunk, where it is one.
@@ -140,9 +146,9 @@ fn clear_slot(k: usize, slot: usize, sector: &mut [u8])
 {
     if 8 <= k {
         table::clear_links(sector, slot);
-    } else {
-        clear_file(k, slot, sector);
+        return;
     }
+    clear_file(k, slot, sector);
 }
 
 // Makes the edit in body sector `k`.
@@ -167,13 +173,8 @@ fn apply(edit: Edit, name: &[u8], k: usize, chunks: u32, sector: &mut [u8])
             records,
         } => {
             put_link(k, next, plain_link(slot, position + 1), sector);
-            mark(
-                partial,
-                k,
-                last,
-                partial_link(slot, position, records),
-                sector,
-            );
+            let old = partial_link(slot, position, records);
+            mark(partial, k, last, old, sector);
         }
         Edit::Remove { slot } => {
             clear_slot(k, slot, sector);
@@ -203,8 +204,21 @@ fn next_after(edit: Edit, head: Header) -> u32
     ensures { result ≡ next_after edit head }
 {
     match edit {
-        Edit::Create { id, .. } => id + 1,
-        _ => head.next_id,
+        Edit::Format => head.next_id,
+        Edit::Create {
+            slot: _,
+            id,
+            chunk: _,
+        } => id + 1,
+        Edit::Extend {
+            slot: _,
+            position: _,
+            next: _,
+            last: _,
+            partial: _,
+            records: _,
+        } => head.next_id,
+        Edit::Remove { slot: _ } => head.next_id,
     }
 }
 
@@ -213,9 +227,21 @@ fn cursor_after(edit: Edit, head: Header) -> u32
     ensures { result ≡ cursor_after edit head }
 {
     match edit {
-        Edit::Create { chunk, .. } => (chunk + 1) % head.chunks,
-        Edit::Extend { next, .. } => (next + 1) % head.chunks,
-        _ => head.cursor,
+        Edit::Format => head.cursor,
+        Edit::Create {
+            slot: _,
+            id: _,
+            chunk,
+        } => (chunk + 1) % head.chunks,
+        Edit::Extend {
+            slot: _,
+            position: _,
+            next,
+            last: _,
+            partial: _,
+            records: _,
+        } => (next + 1) % head.chunks,
+        Edit::Remove { slot: _ } => head.cursor,
     }
 }
 
@@ -224,10 +250,11 @@ pub fn head_after(edit: Edit, head: Header) -> Header
     requires { (Fits edit head.chunks) × (1 ≤ head.chunks) × (head.chunks ≤ 2048) × (head.generation + 1 < 2 ^ 64) }
     ensures { result ≡ head_after edit head }
 {
-    Header {
-        generation: head.generation + 1,
-        next_id: next_after(edit, head),
-        cursor: cursor_after(edit, head),
-        ..head
-    }
+    let next_id = next_after(edit, head);
+    let cursor = cursor_after(edit, head);
+    let mut after = head;
+    after.generation = head.generation + 1;
+    after.next_id = next_id;
+    after.cursor = cursor;
+    after
 }

@@ -44,8 +44,10 @@ fn freed(volume: &[u8], store: Store, slot: usize) -> FreeMap
     ensures { result
         ≡ map_of (λ c. marks store.free.words c || (ltb c store.head.chunks && owned_by slot (link_part volume.now store c))) }
 {
-    let mut words = store.free.words;
-    for c in 0..store.head.chunks {
+    let h = store.head;
+    let map = store.free;
+    let mut words = map.words;
+    for c in 0..h.chunks {
         free_link(volume, store, slot, c, &mut words);
     }
     FreeMap { fit: true, words }
@@ -56,19 +58,26 @@ pub fn map_after(volume: &[u8], store: Store, edit: Edit) -> FreeMap
     requires { (64 ≤ sectors_of volume.now) × (store.head.chunks ≤ 2048) × (Fits edit store.head.chunks) × (is_format edit ≡ false) }
     ensures { result ≡ map_after edit volume.now store store.head.chunks }
 {
-    if !store.free.fit {
-        return store.free;
+    let map = store.free;
+    if !map.fit {
+        return map;
     }
-    let words = store.free.words;
+    let words = map.words;
     match edit {
         // never asked: format makes its own map
-        Edit::Format => store.free,
-        Edit::Create { chunk, .. } => taken(words, chunk, false, 0),
+        Edit::Format => map,
+        Edit::Create {
+            slot: _,
+            id: _,
+            chunk,
+        } => taken(words, chunk, false, 0),
         Edit::Extend {
+            slot: _,
+            position: _,
             next,
             last,
             partial,
-            ..
+            records: _,
         } => taken(words, next, partial, last),
         Edit::Remove { slot } => freed(volume, store, slot),
     }

@@ -19,8 +19,8 @@ use Rattle.handles.specs.declared.Store.{Store}
 use Rattle.handles.specs.Handles.{body_of, base_of}
 use Rattle.handles.proofs.Laws.{base_most}
 use Rattle.header.specs.declared.answers.Current.{Current}
-use Rattle.header.specs.Header.{encode_of}
-use Rattle.header.specs.Copies.{is_ours, copy_of, same_store, taken_of, current_of, head_in}
+use Rattle.header.specs.Header.{ours, encode_of}
+use Rattle.header.specs.Copies.{is_ours, copy_of, same_store, taken_of, current_of}
 use Rattle.header.proofs.Accepted.{copy_valid}
 use Rattle.plan.specs.declared.Edit.{Edit}
 use Rattle.plan.specs.Edit.{changes_of, head_after}
@@ -39,7 +39,6 @@ use Rattle.safe.proofs.Frame.{clash}
 use Rattle.safe.proofs.Commit.{plan_good}
 use Rattle.layout.proofs.Facts.{case}
 use Rattle.power.proofs.Spends.{write_some, write_media, AllPut, copy_enough, copy_short}
-use Rattle.header.specs.declared.codec.Replica.TheVariants.{Ours}
 
 and_no : (a b : Bool) → b ≡ false → (a && b) ≡ false
 and_no true b e = e
@@ -52,7 +51,7 @@ module _ (edit : Edit) (name vol : List ℕ) (m : Medium) (st : Store) (inv : In
   abbrev plan : Plan
   plan = plan_of edit name vol m st
 
-  pub current : current_of vol m ≡ taken_of st.copy st.head (head_in (copy_of vol other)) (is_ours (copy_of vol other))
+  pub current : current_of vol m ≡ taken_of st.copy st.head (copy_of vol other).head (is_ours (copy_of vol other).kind)
   current =
       let e : 64 ≤ sectors_of vol = (inv_held inv).enough in
       stands_current vol st.head m (reads m vol r 0 (omega arith)) (reads m vol r 32 (omega arith)) st.copy inv.sound.stands
@@ -74,15 +73,15 @@ module _ (edit : Edit) (name vol : List ℕ) (m : Medium) (st : Store) (inv : In
 
   -- ---- the other copy is none of this store
 
-  module _ (alone : (g : Header) → copy_of vol other ≡ Ours g → same_store st.head g ≡ true → ⊥) where
-    none_same : (t : Bool) → is_ours (copy_of vol other) ≡ t → (s : Bool) → same_store st.head (head_in (copy_of vol other)) ≡ s → (t && s) ≡ false
-    none_same true p true q = absurd (alone (head_in (copy_of vol other)) (copy_valid vol other p) q)
+  module _ (alone : (g : Header) → copy_of vol other ≡ ours g → same_store st.head g ≡ true → ⊥) where
+    none_same : (t : Bool) → is_ours (copy_of vol other).kind ≡ t → (s : Bool) → same_store st.head (copy_of vol other).head ≡ s → (t && s) ≡ false
+    none_same true p true q = absurd (alone (copy_of vol other).head (copy_valid vol other p) q)
     none_same true p false q = refl
     none_same false p s q = refl
 
     not_known : plan.known ≡ false
     unfolding commit_plan taken_of
-    not_known = ap (λ (c : Current). c.known) current ∙ none_same (is_ours (copy_of vol other)) refl (same_store st.head (head_in (copy_of vol other))) refl
+    not_known = ap (λ (c : Current). c.known) current ∙ none_same (is_ours (copy_of vol other).kind) refl (same_store st.head (copy_of vol other).head) refl
 
     not_listed_lem : (k c : ℕ) → lists plan k c ≡ false
     unfolding lists

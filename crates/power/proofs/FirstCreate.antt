@@ -22,6 +22,7 @@ use Rattle.medium.specs.Sector.{Readable}
 use Rattle.handles.specs.declared.Header.{Header}
 use Rattle.handles.specs.declared.Store.{Store}
 use Rattle.handles.specs.Handles.{body_of, base_of}
+use Rattle.header.specs.Header.{ours}
 use Rattle.header.specs.Copies.{copy_of, same_store}
 use Rattle.directory.specs.declared.Seen.{Seen}
 use Rattle.directory.specs.Scan.{free_seen, looking, look_of, on_looked, on_free}
@@ -57,7 +58,6 @@ use Rattle.power.proofs.Checks.{inv_checked}
 use Rattle.power.proofs.Rules.{admits_done, create_by_lem}
 use Rattle.power.proofs.Creates.{steps_done}
 use Rattle.power.proofs.FirstCommit.{commit_enough, commit_short}
-use Rattle.header.specs.declared.codec.Replica.TheVariants.{Ours}
 
 -- accepted, with the one step of its commit, which left no sector unwritten: a new appender at the start of the file with this id, in the first slot
 -- and the first chunk
@@ -119,7 +119,7 @@ module _ (vol : List ℕ) (m : Medium) (st : Store) (inv : Inv vol st) (map : Ma
   -- ---- create
 
   module _ (name : List ℕ) (fine : name_ok name ≡ true) (less : st.head.generation ≡ 2 ^ 64 - 1 → ⊥) (some : st.head.next_id ≡ 2 ^ 32 - 1 → ⊥)
-      (alone : (g : Header) → copy_of vol (base_of (1 - st.copy)) ≡ Ours g → same_store st.head g ≡ true → ⊥) where
+      (alone : (g : Header) → copy_of vol (base_of (1 - st.copy)) ≡ ours g → same_store st.head g ≡ true → ⊥) where
     abbrev edit : Edit
     edit = Create 0 st.head.next_id 0
 

@@ -20,7 +20,7 @@ use Rattle.handles.proofs.Laws.{sane_facts}
 use Rattle.header.specs.declared.answers.Copies.{Copies}
 use Rattle.header.specs.declared.answers.Current.{Current}
 use Rattle.header.specs.Header.{Bytes}
-use Rattle.header.specs.Copies.{is_ours, copy_of, both_of, takes_b, taken_of, choice_of, current_of, mount_of, head_in}
+use Rattle.header.specs.Copies.{is_ours, copy_of, both_of, takes_b, taken_of, choice_of, current_of, mount_of}
 use Rattle.header.proofs.Accepted.{copy_valid, copy_sane, mount_current}
 use Rattle.header.proofs.Edges.{headers_read}
 use Rattle.header.proofs.Range.{no_way}
@@ -113,13 +113,13 @@ choice_done c v =
     Taken r = r.outcome ≡ Ok tt
 
 -- and there are 64 sectors
-valid_room : (vol : List ℕ) (k : ℕ) → is_ours (copy_of vol k) ≡ true → 64 ≤ sectors_of vol
-valid_room vol k e = omega (arith, (sane_facts (head_in (copy_of vol k)) (sectors_of vol) (copy_sane vol k (head_in (copy_of vol k)) (copy_valid vol k e))).room)
+valid_room : (vol : List ℕ) (k : ℕ) → is_ours (copy_of vol k).kind ≡ true → 64 ≤ sectors_of vol
+valid_room vol k e = omega (arith, (sane_facts (copy_of vol k).head (sectors_of vol) (copy_sane vol k (copy_of vol k).head (copy_valid vol k e))).room)
 
-enough : (vol : List ℕ) → (is_ours (copy_of vol 0) || is_ours (copy_of vol 32)) ≡ true → 64 ≤ sectors_of vol
-enough vol = go (is_ours (copy_of vol 0)) refl
+enough : (vol : List ℕ) → (is_ours (copy_of vol 0).kind || is_ours (copy_of vol 32).kind) ≡ true → 64 ≤ sectors_of vol
+enough vol = go (is_ours (copy_of vol 0).kind) refl
   where
-    go : (t : Bool) → is_ours (copy_of vol 0) ≡ t → (t || is_ours (copy_of vol 32)) ≡ true → 64 ≤ sectors_of vol
+    go : (t : Bool) → is_ours (copy_of vol 0).kind ≡ t → (t || is_ours (copy_of vol 32).kind) ≡ true → 64 ≤ sectors_of vol
     go true e v = valid_room vol 0 e
     go false e v = valid_room vol 32 v
 

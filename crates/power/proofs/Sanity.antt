@@ -21,6 +21,7 @@ use Rattle.medium.specs.Refusal.{ok, refused}
 use Rattle.medium.specs.Sector.{Readable}
 use Rattle.handles.specs.declared.Header.{Header}
 use Rattle.handles.specs.Handles.{body_of, base_of}
+use Rattle.header.specs.Header.{ours}
 use Rattle.header.specs.Copies.{copy_of, same_store}
 use Rattle.plan.specs.Copy.{created, recorded, Skipped, Step, EachSkipped, Distinct}
 use Rattle.format.specs.Format.{chunks_of, format_of}
@@ -47,7 +48,6 @@ use Rattle.power.proofs.FirstCreate.{Opened, create_made, create_stopped}
 use Rattle.power.proofs.Starting.{format_alone, format_generation, format_chunks, zero_bytes, zero_newest, zero_done, zero_accepted, zero_clean}
 use Rattle.power.proofs.Running.{Ready, append_run, sync_run, delete_stopped}
 use Rattle.power.proofs.History.{call_keeps, started_keeps, booked_shown, no_batch_lost}
-use Rattle.header.specs.declared.codec.Replica.TheVariants.{Ours}
 
 mount_book : (m : Medium) (w : World) (b : Book) → written (mount m) (fed_by w (mount m)) b ≡ b
 unfolding written fed_by ran entered_all before_steps after_steps
@@ -97,7 +97,7 @@ module _ (n size seed : ℕ) (m : Medium) (ap₀ : Appender) (enough : 64 ≤ n 
   pub start_less : start.store.head.generation ≡ 2 ^ 64 - 1 → ⊥
   start_less e = omega (arith, start_generation)
 
-  start_alone : (g : Header) → copy_of start.vol (base_of (1 - start.store.copy)) ≡ Ours g → same_store start.store.head g ≡ true → ⊥
+  start_alone : (g : Header) → copy_of start.vol (base_of (1 - start.store.copy)) ≡ ours g → same_store start.store.head g ≡ true → ⊥
   unfolding format_call
   start_alone = format_alone size seed (zeros n) m formatted made
 

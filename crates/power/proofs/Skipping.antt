@@ -24,6 +24,7 @@ use Rattle.handles.specs.declared.Store.{Store}
 use Rattle.handles.specs.Body.{body_at}
 use Rattle.handles.specs.Handles.{body_of, base_of}
 use Rattle.header.specs.declared.answers.Current.{Current}
+use Rattle.header.specs.Header.{ours}
 use Rattle.header.specs.Copies.{is_ours, copy_of, same_store, taken_of, current_of}
 use Rattle.directory.specs.Entry.{entry_bytes}
 use Rattle.directory.proofs.Entries.{length_entry}
@@ -44,8 +45,6 @@ use Rattle.layout.proofs.Facts.{case}
 use Rattle.power.specs.History.{Honest}
 use Rattle.power.proofs.Spends.{all_listed, copy_two}
 use Rattle.power.proofs.FirstCommit.{current, commit_is}
-use Rattle.header.specs.declared.codec.Replica.{Replica}
-use Rattle.header.specs.declared.codec.Replica.TheVariants.{Ours}
 
 -- ---- a file made in the first slot and the first chunk of an empty body, and removed
 
@@ -116,11 +115,11 @@ module _ (vol₀ : List ℕ) (m₀ : Medium) (st₀ : Store) (inv₀ : Inv vol�
       ap (edited_of (Remove 0) [] k) at ∙ undone name id short k
 
   -- its header is the format's
-  other : copy_of o.vol (base_of (1 - st.copy)) ≡ Ours st₀.head
+  other : copy_of o.vol (base_of (1 - st.copy)) ≡ ours st₀.head
   other = rw back (beside st₀.copy (1 - st₀.copy) two made.frame ∙ inv₀.sound.stands.found)
 
   found : current_of o.vol m ≡ taken_of st.copy st.head st₀.head true
-  found = current (Remove 0) [] o.vol m st inv r ∙ ap (λ (d : Replica). taken_of st.copy st.head d.head (is_ours d.kind)) other
+  found = current (Remove 0) [] o.vol m st inv r ∙ ap (λ (d : Decoded). taken_of st.copy st.head d.head (is_ours d.kind)) other
 
   same_store_lem : same_store st.head st₀.head ≡ true
   unfolding same_store head_after

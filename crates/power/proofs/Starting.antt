@@ -19,7 +19,8 @@ use Rattle.medium.specs.Refusal.{ok, outcome_of}
 use Rattle.handles.specs.declared.Header.{Header}
 use Rattle.handles.specs.declared.Store.{Store}
 use Rattle.handles.specs.Handles.{body_of, base_of}
-use Rattle.header.specs.declared.codec.Replica.TheVariants.{Absent, Ours}
+use Rattle.header.specs.declared.codec.Replica.TheVariants.{Absent}
+use Rattle.header.specs.Header.{ours, bare}
 use Rattle.header.specs.Copies.{copy_of, both_of, headers_of, same_store, takes_b}
 use Rattle.header.proofs.Accepted.{headers_both}
 use Rattle.header.proofs.Edges.{headers_read}
@@ -82,12 +83,12 @@ module _ (size seed : ℕ) (vol : List ℕ) (m : Medium) (done : (format_of size
       rw (c, format_is size seed vol m facts.headers facts.size_least facts.size_most facts.some facts.less) (copy_frame plan vol m fits)
 
   -- the other copy, where it is valid, has another id
-  pub format_alone : FormatMade size vol m out → (g : Header) → copy_of out.vol (base_of (1 - out.ans.store.copy)) ≡ Ours g → same_store out.ans.store.head g ≡ true → ⊥
+  pub format_alone : FormatMade size vol m out → (g : Header) → copy_of out.vol (base_of (1 - out.ans.store.copy)) ≡ ours g → same_store out.ans.store.head g ≡ true → ⊥
   unfolding same_store
   format_alone made g e same =
       let st : Store = out.ans.store in
       let c : st.copy < 2 = rw (ap (λ (s : Store). s.copy) facts.store) (copy_lt (headers_of vol m)) in
-      let before : copy_of vol (base_of (1 - st.copy)) ≡ Ours g = sym (beside (1 - st.copy) st.copy (omega arith) frame) ∙ e in
+      let before : copy_of vol (base_of (1 - st.copy)) ≡ ours g = sym (beside (1 - st.copy) st.copy (omega arith) frame) ∙ e in
       made.fresh (1 - st.copy) g before (sym (eqb-true st.head.id g.id (and_true (eqb st.head.id g.id) _ same).0))
 
   pub format_generation : out.ans.store.head.generation ≡ newest_of (headers_of vol m) + 1
@@ -135,11 +136,11 @@ module _ (n size seed : ℕ) (m : Medium) (enough : 64 ≤ n / 512) (r : Readabl
   unfolding sector_at
   sector_zero j h = part_zeros (512 * j) 512 n (omega arith)
 
-  copy_absent : (k : ℕ) → k < n / 512 → copy_of vol k ≡ Absent
+  copy_absent : (k : ℕ) → k < n / 512 → copy_of vol k ≡ bare Absent
   unfolding copy_of
   copy_absent k h = rw (sector_zero k h) (zeros_absent (sectors_of vol))
 
-  headers_none : headers_of vol m ≡ both_of Absent Absent
+  headers_none : headers_of vol m ≡ both_of (bare Absent) (bare Absent)
   headers_none =
       let a = copy_absent 0 (omega arith) in
       let b = copy_absent 32 (omega arith) in

@@ -51,9 +51,9 @@ AfterFormat =
 
 -- 02's words for such a volume: at least one header copy is valid and none foreign. A mount that reads both headers is accepted there
 pub record OneValid (vol : List ℕ) : Type 0 where
-  pub valid : (is_ours (copy_of vol 0) || is_ours (copy_of vol 32)) ≡ true
-  pub known_a : is_foreign (copy_of vol 0) ≡ false
-  pub known_b : is_foreign (copy_of vol 32) ≡ false
+  pub valid : (is_ours (copy_of vol 0).kind || is_ours (copy_of vol 32).kind) ≡ true
+  pub known_a : is_foreign (copy_of vol 0).kind ≡ false
+  pub known_b : is_foreign (copy_of vol 32).kind ≡ false
 
 abbrev pub ValidMounts : Type 0
 ValidMounts = (vol : List ℕ) (u : Medium) → HeadersRead u → OneValid vol → (mount_call vol u).answer ≡ ok tt

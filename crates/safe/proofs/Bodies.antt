@@ -17,9 +17,9 @@ use Rattle.medium.specs.Frame.{Kept}
 use Rattle.handles.specs.declared.Header.{Header}
 use Rattle.handles.specs.Handles.{base_of}
 use Rattle.handles.proofs.Laws.{sane_facts}
-use Rattle.header.specs.declared.codec.Replica.TheVariants.{Absent, Ours}
-use Rattle.header.specs.Header.{decode_of}
-use Rattle.header.specs.Copies.{is_ours, copy_of, same_store, head_in}
+use Rattle.header.specs.declared.codec.Replica.TheVariants.{Absent}
+use Rattle.header.specs.Header.{ours, bare, decode_of}
+use Rattle.header.specs.Copies.{is_ours, copy_of, same_store}
 use Rattle.header.proofs.Accepted.{copy_valid, copy_sane}
 use Rattle.header.proofs.Range.{no_way}
 use Rattle.plan.specs.Copy.{Plan, is_format, copy_out}
@@ -42,16 +42,16 @@ format_tied p vol f n = record { start = λ q. no_way (sym q ∙ f); own = λ q.
 -- a commit from the copy that stands, with what its other header lists
 pub sound_tied : (p : Plan) (vol : List ℕ) → Sound vol p.store.copy p.store.head → p.store.copy + p.copy ≡ 1
     → p.head.crcs ≡ p.store.head.crcs → p.head.chunks ≡ p.store.head.chunks
-    → p.known ≡ (is_ours (copy_of vol (target p)) && same_store p.store.head (head_in (copy_of vol (target p))))
-    → p.listed ≡ (head_in (copy_of vol (target p))).crcs → Tied p vol
+    → p.known ≡ (is_ours (copy_of vol (target p)).kind && same_store p.store.head (copy_of vol (target p)).head)
+    → p.listed ≡ (copy_of vol (target p)).head.crcs → Tied p vol
 sound_tied p vol s two crcs chunks known listed =
     let e : 1 - p.store.copy ≡ p.copy = omega arith in
     record {
       start = λ _. crcs;
       own = λ _ k l. s.own k (rw chunks at l);
       other = λ q k l.
-          let g : Header = (head_in (copy_of vol (target p))) in
-          let t = and_true (is_ours (copy_of vol (target p))) (same_store p.store.head g) (sym known ∙ q) in
+          let g : Header = (copy_of vol (target p)).head in
+          let t = and_true (is_ours (copy_of vol (target p)).kind) (same_store p.store.head g) (sym known ∙ q) in
           let o = rw e at (s.other g) in
           o (copy_valid vol (target p) t.0) t.1 k (rw (chunks ∙ same_chunks p.store.head g t.1) at l) ∙ ap (λ (x : List ℕ). get_or x k 0) (sym listed);
     }
@@ -63,11 +63,11 @@ lists_beside : {vol v : List ℕ} (c b : ℕ) (h : Header) → h.chunks ≤ 2048
 lists_beside c b h most two kept own k l = rw (body_beside c b two kept k (omega arith)) (own k l)
 
 -- a valid copy has at most so many chunks
-pub copy_most : (vol : List ℕ) (k : ℕ) (h : Header) → copy_of vol k ≡ Ours h → h.chunks ≤ 2048
+pub copy_most : (vol : List ℕ) (k : ℕ) (h : Header) → copy_of vol k ≡ ours h → h.chunks ≤ 2048
 copy_most vol k h e = (sane_facts h (sectors_of vol) (copy_sane vol k h e)).chunks_most
 
 module _ (p : Plan) (vol : List ℕ) (m : Medium) (good : Good p vol) where
-  pub stopped_sound : {c : ℕ} {h : Header} {e : Error} → decode_of p.first (sectors_of vol) ≡ Absent → Sound vol c h → c + p.copy ≡ 1
+  pub stopped_sound : {c : ℕ} {h : Header} {e : Error} → decode_of p.first (sectors_of vol) ≡ bare Absent → Sound vol c h → c + p.copy ≡ 1
       → (copy_out p vol m).ans.outcome ≡ Err e → Sound (copy_out p vol m).vol c h
   stopped_sound {c} {h} none s two q =
       let b : 1 - c ≡ p.copy = omega arith in
@@ -82,7 +82,7 @@ module _ (p : Plan) (vol : List ℕ) (m : Medium) (good : Good p vol) where
 
   -- the copy beside the new one is of another store, or its header lists its body
   pub finished_sound : Newest p vol → Tied p vol
-      → ((g : Header) → copy_of vol (base_of (1 - p.copy)) ≡ Ours g → same_store p.head g ≡ true → Lists vol (1 - p.copy) g)
+      → ((g : Header) → copy_of vol (base_of (1 - p.copy)) ≡ ours g → same_store p.head g ≡ true → Lists vol (1 - p.copy) g)
       → (copy_out p vol m).ans.outcome ≡ Ok tt → Sound (copy_out p vol m).vol p.copy (copy_out p vol m).ans.store.head
   unfolding same_store
   finished_sound new tied old q =

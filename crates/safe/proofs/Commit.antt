@@ -23,9 +23,9 @@ use Rattle.handles.specs.declared.Store.{Store}
 use Rattle.handles.specs.Handles.{base_of, store_ok}
 use Rattle.handles.proofs.Laws.{Held, store_facts}
 use Rattle.header.specs.declared.answers.Current.{Current}
-use Rattle.header.specs.declared.codec.Replica.TheVariants.{Absent, Ours}
-use Rattle.header.specs.Header.{InRange}
-use Rattle.header.specs.Copies.{is_ours, copy_of, taken_of, current_of, head_in}
+use Rattle.header.specs.declared.codec.Replica.TheVariants.{Absent}
+use Rattle.header.specs.Header.{ours, bare, InRange}
+use Rattle.header.specs.Copies.{is_ours, copy_of, taken_of, current_of}
 use Rattle.plan.specs.declared.Edit.{Edit}
 use Rattle.plan.specs.declared.Edit.TheVariants.{Format, Create, Extend, Remove}
 use Rattle.plan.specs.Edit.{next_after, cursor_after, head_after, Fits}
@@ -98,20 +98,20 @@ module _ (edit : Edit) (name vol : List ℕ) (m : Medium) (st : Store) where
     pub commit_beside : length st.head.crcs ≡ 24 → length name ≤ 40 → {e : Error} → (commit_of edit name vol m st).ans.outcome ≡ Err e
         → Kept (base_of (1 - st.copy)) 25 vol (commit_of edit name vol m st).vol
         × ((copy_of (commit_of edit name vol m st).vol (base_of (1 - st.copy)) ≡ copy_of vol (base_of (1 - st.copy)))
-        ⊎ (copy_of (commit_of edit name vol m st).vol (base_of (1 - st.copy)) ≡ Absent))
+        ⊎ (copy_of (commit_of edit name vol m st).vol (base_of (1 - st.copy)) ≡ bare Absent))
     unfolding commit_plan
     commit_beside count short {e} =
         let p : Plan = plan_of edit name vol m st in
         let good : Good p vol = plan_good count short in
         let b : ℕ = base_of (1 - st.copy) in
-        ways (λ (o : Out). o.ans.outcome ≡ Err e → Kept b 25 vol o.vol × ((copy_of o.vol b ≡ copy_of vol b) ⊎ (copy_of o.vol b ≡ Absent)))
+        ways (λ (o : Out). o.ans.outcome ≡ Err e → Kept b 25 vol o.vol × ((copy_of o.vol b ≡ copy_of vol b) ⊎ (copy_of o.vol b ≡ bare Absent)))
         (λ x _. (kept_none b 25 vol, inl refl))
         (λ d g q. (copy_frame p vol m good, stopped_target p vol m good (commit_first (current_of vol m) edit name st (sectors_of vol)) q))
 
     module _ (stands : Stands vol st.copy st.head) where
       -- the copy beside the one that is written is the store's
-      own_head : (g : Header) → copy_of vol (base_of (1 - (1 - st.copy))) ≡ Ours g → g ≡ st.head
-      own_head g e = ap head_in (sym e ∙ ap (λ (c : ℕ). copy_of vol (base_of c)) back ∙ stands.found)
+      own_head : (g : Header) → copy_of vol (base_of (1 - (1 - st.copy))) ≡ ours g → g ≡ st.head
+      own_head g e = ap (λ (x : Decoded). x.head) (sym e ∙ ap (λ (c : ℕ). copy_of vol (base_of c)) back ∙ stands.found)
 
       module _ (range : InRange st.head) (fits : Fits edit st.head.chunks) where
         after_range : (st.head.generation ≡ 2 ^ 64 - 1 → ⊥) → InRange (head_after edit st.head)
@@ -165,7 +165,7 @@ module _ (edit : Edit) (name vol : List ℕ) (m : Medium) (st : Store) (inv : In
   fitting = plan_good edit name vol m st inv.ok inv.range.count
 
   module _ (d : (current_of vol m).outcome ≡ Ok tt) where
-    found : current_of vol m ≡ taken_of st.copy st.head (head_in (copy_of vol (base_of (1 - st.copy)))) (is_ours (copy_of vol (base_of (1 - st.copy))))
+    found : current_of vol m ≡ taken_of st.copy st.head (copy_of vol (base_of (1 - st.copy))).head (is_ours (copy_of vol (base_of (1 - st.copy))).kind)
     found = current_choice vol m d ∙ stands_choice vol st.head st.copy inv.sound.stands
 
     pub plan_tied : Tied (plan_of edit name vol m st) vol

@@ -23,13 +23,13 @@ use Rattle.handles.specs.declared.Store.{Store}
 use Rattle.handles.specs.Handles.{base_of}
 use Rattle.header.specs.declared.answers.Copies.{Copies}
 use Rattle.header.specs.declared.answers.Current.{Current}
-use Rattle.header.specs.Copies.{is_ours, is_foreign, is_damaged, copy_of, both_of, headers_of, takes_b, taken_of, no_current, choice_of, current_of, mount_of, head_in}
+use Rattle.header.specs.Header.{ours}
+use Rattle.header.specs.Copies.{is_ours, is_foreign, is_damaged, copy_of, both_of, headers_of, takes_b, taken_of, no_current, choice_of, current_of, mount_of}
 use Rattle.header.proofs.Edges.{headers_read}
 use Rattle.header.proofs.Accepted.{headers_both, copy_valid}
 use Rattle.commit.specs.Commit.{same_head, is_current}
 use Rattle.safe.specs.Mounts.{Stands}
 use Rattle.safe.proofs.Frame.{clash}
-use Rattle.header.specs.declared.codec.Replica.TheVariants.{Ours}
 
 -- ---- what stands is what mount takes
 
@@ -37,30 +37,30 @@ module _ (vol : List ℕ) (h : Header) where
   -- B is not taken beside an A that stands
   pub not_b : Stands vol 0 h → takes_b (both_of (copy_of vol 0) (copy_of vol 32)) ≡ false
   unfolding takes_b base_of pick
-  not_b s = rw s.found (go (is_ours (copy_of vol 32)) refl)
+  not_b s = rw s.found (go (is_ours (copy_of vol 32).kind) refl)
     where
-      go : (t : Bool) → is_ours (copy_of vol 32) ≡ t → (t && ltb h.generation (head_in (copy_of vol 32)).generation) ≡ false
-      go true q = le-ltb h.generation (head_in (copy_of vol 32)).generation (omega (arith, s.older (head_in (copy_of vol 32)) (copy_valid vol 32 q)))
+      go : (t : Bool) → is_ours (copy_of vol 32).kind ≡ t → (t && ltb h.generation (copy_of vol 32).head.generation) ≡ false
+      go true q = le-ltb h.generation (copy_of vol 32).head.generation (omega (arith, s.older (copy_of vol 32).head (copy_valid vol 32 q)))
       go false q = refl
 
   pub yes_b : Stands vol 1 h → takes_b (both_of (copy_of vol 0) (copy_of vol 32)) ≡ true
   unfolding takes_b base_of pick
-  yes_b s = rw s.found (go (is_ours (copy_of vol 0)) refl)
+  yes_b s = rw s.found (go (is_ours (copy_of vol 0).kind) refl)
     where
-      go : (t : Bool) → is_ours (copy_of vol 0) ≡ t → (not t || ltb (head_in (copy_of vol 0)).generation h.generation) ≡ true
-      go true q = lt-ltb (head_in (copy_of vol 0)).generation h.generation (omega (arith, s.older (head_in (copy_of vol 0)) (copy_valid vol 0 q)))
+      go : (t : Bool) → is_ours (copy_of vol 0).kind ≡ t → (not t || ltb (copy_of vol 0).head.generation h.generation) ≡ true
+      go true q = lt-ltb (copy_of vol 0).head.generation h.generation (omega (arith, s.older (copy_of vol 0).head (copy_valid vol 0 q)))
       go false q = refl
 
   -- beside it the other copy's checksums, and whether that is valid
   pub stands_choice : (c : ℕ) → Stands vol c h
-      → choice_of (both_of (copy_of vol 0) (copy_of vol 32)) ≡ taken_of c h (head_in (copy_of vol (base_of (1 - c)))) (is_ours (copy_of vol (base_of (1 - c))))
+      → choice_of (both_of (copy_of vol 0) (copy_of vol 32)) ≡ taken_of c h (copy_of vol (base_of (1 - c))).head (is_ours (copy_of vol (base_of (1 - c))).kind)
   unfolding choice_of base_of pick
   stands_choice zero s = rw (not_b s, s.found)
   stands_choice (suc zero) s = rw (yes_b s, s.found)
   stands_choice (suc (suc c)) s = absurd (let f : ⊥ = omega (arith, s.number) in f)
 
   -- neither copy is foreign
-  not_foreign : (c : ℕ) → Stands vol c h → (is_foreign (copy_of vol 0) ≡ false) × (is_foreign (copy_of vol 32) ≡ false)
+  not_foreign : (c : ℕ) → Stands vol c h → (is_foreign (copy_of vol 0).kind ≡ false) × (is_foreign (copy_of vol 32).kind ≡ false)
   unfolding base_of pick
   not_foreign zero s = (rw s.found refl, s.known)
   not_foreign (suc zero) s = (s.known, rw s.found refl)
@@ -70,7 +70,7 @@ module _ (vol : List ℕ) (h : Header) where
     pub stands_headers : (c : ℕ) → Stands vol c h → headers_of vol m ≡ both_of (copy_of vol 0) (copy_of vol 32)
     stands_headers c s = let n = not_foreign c s in headers_read vol m s.enough a b n.0 n.1
 
-    pub stands_current : (c : ℕ) → Stands vol c h → current_of vol m ≡ taken_of c h (head_in (copy_of vol (base_of (1 - c)))) (is_ours (copy_of vol (base_of (1 - c))))
+    pub stands_current : (c : ℕ) → Stands vol c h → current_of vol m ≡ taken_of c h (copy_of vol (base_of (1 - c))).head (is_ours (copy_of vol (base_of (1 - c))).kind)
     unfolding current_of on_done
     stands_current c s = rw (stands_headers c s) (stands_choice c s)
 
@@ -92,29 +92,29 @@ module _ (vol : List ℕ) where
   abbrev both : Copies
   both = both_of (copy_of vol 0) (copy_of vol 32)
 
-  valid_b : takes_b both ≡ true → is_ours (copy_of vol 32) ≡ true
+  valid_b : takes_b both ≡ true → is_ours (copy_of vol 32).kind ≡ true
   unfolding takes_b
-  valid_b t = (and_true (is_ours (copy_of vol 32)) _ t).0
+  valid_b t = (and_true (is_ours (copy_of vol 32).kind) _ t).0
 
-  b_newer : takes_b both ≡ true → (g : Header) → copy_of vol 0 ≡ Ours g → g.generation + 1 ≤ (head_in (copy_of vol 32)).generation
+  b_newer : takes_b both ≡ true → (g : Header) → copy_of vol 0 ≡ ours g → g.generation + 1 ≤ (copy_of vol 32).head.generation
   unfolding takes_b
-  b_newer t g e = omega (arith, ltb-true g.generation (head_in (copy_of vol 32)).generation (and_true (is_ours (copy_of vol 32)) _ (rw e at t)).1)
+  b_newer t g e = omega (arith, ltb-true g.generation (copy_of vol 32).head.generation (and_true (is_ours (copy_of vol 32).kind) _ (rw e at t)).1)
 
-  b_older : takes_b both ≡ false → is_ours (copy_of vol 0) ≡ true → (g : Header) → copy_of vol 32 ≡ Ours g → g.generation + 0 ≤ (head_in (copy_of vol 0)).generation
+  b_older : takes_b both ≡ false → is_ours (copy_of vol 0).kind ≡ true → (g : Header) → copy_of vol 32 ≡ ours g → g.generation + 0 ≤ (copy_of vol 0).head.generation
   unfolding takes_b
-  b_older t o g e = omega (arith, ltb-false (head_in (copy_of vol 0)).generation g.generation (rw (e, o) at t))
+  b_older t o g e = omega (arith, ltb-false (copy_of vol 0).head.generation g.generation (rw (e, o) at t))
 
   abbrev Found : Current → Type 0
   Found r = r.outcome ≡ Ok tt → Stands vol r.copy r.head
 
-  choice_stands : 64 ≤ sectors_of vol → is_foreign (copy_of vol 0) ≡ false → is_foreign (copy_of vol 32) ≡ false → Found (choice_of both)
+  choice_stands : 64 ≤ sectors_of vol → is_foreign (copy_of vol 0).kind ≡ false → is_foreign (copy_of vol 32).kind ≡ false → Found (choice_of both)
   unfolding choice_of taken_of no_current base_of pick
   choice_stands enough fa fb =
       pick_keeps_by Found (takes_b both) _ _
       (λ t _. record { enough = enough; number = lit< tt; found = copy_valid vol 32 (valid_b t); known = fa; older = b_newer t })
-      (λ t. pick_keeps_by Found (is_ours (copy_of vol 0)) _ _
+      (λ t. pick_keeps_by Found (is_ours (copy_of vol 0).kind) _ _
       (λ o _. record { enough = enough; number = lit< tt; found = copy_valid vol 0 o; known = fb; older = b_older t o })
-      (λ _. pick_keeps Found (is_damaged (copy_of vol 0) || is_damaged (copy_of vol 32)) _ _ (clash refl) (clash refl)))
+      (λ _. pick_keeps Found (is_damaged (copy_of vol 0).kind || is_damaged (copy_of vol 32).kind) _ _ (clash refl) (clash refl)))
 
   module _ (m : Medium) where
     pub current_stands : (current_of vol m).outcome ≡ Ok tt → Stands vol (current_of vol m).copy (current_of vol m).head

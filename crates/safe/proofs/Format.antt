@@ -24,8 +24,8 @@ use Rattle.handles.specs.declared.Store.{Store}
 use Rattle.handles.specs.Handles.{body_of, base_of, sane_of, no_store}
 use Rattle.handles.proofs.Laws.{Sane, sane_facts, next_fits}
 use Rattle.header.specs.declared.answers.Copies.{Copies}
-use Rattle.header.specs.Header.{Bytes}
-use Rattle.header.specs.Copies.{is_ours, is_foreign, copy_of, both_of, headers_of, takes_b, same_store, head_in}
+use Rattle.header.specs.Header.{ours, Bytes}
+use Rattle.header.specs.Copies.{is_ours, is_foreign, copy_of, both_of, headers_of, takes_b, same_store}
 use Rattle.header.proofs.Accepted.{Both, headers_both, copy_valid}
 use Rattle.header.proofs.Fill.{length_unmarked}
 use Rattle.header.proofs.Range.{no_way}
@@ -47,7 +47,6 @@ use Rattle.safe.proofs.Ranged.{ranged_stopped, ranged_finished}
 use Rattle.safe.proofs.Sums.{format_distinct, finished_body}
 use Rattle.safe.proofs.Bodies.{format_tied}
 use Rattle.safe.proofs.Invs.{inv_numbered, bytes_numbered, kept_records, stopped_inv, finished_inv}
-use Rattle.header.specs.declared.codec.Replica.TheVariants.{Ours}
 
 -- ---- which copy is written
 
@@ -55,12 +54,12 @@ abbrev both : List ℕ → Copies
 both vol = both_of (copy_of vol 0) (copy_of vol 32)
 
 -- a copy beside the one written is of no larger generation than the newest
-pub copy_older : (vol : List ℕ) (g : Header) → copy_of vol (base_of (1 - copy_for (both vol))) ≡ Ours g → g.generation ≤ newest_of (both vol)
+pub copy_older : (vol : List ℕ) (g : Header) → copy_of vol (base_of (1 - copy_for (both vol))) ≡ ours g → g.generation ≤ newest_of (both vol)
 unfolding copy_for newest_of takes_b base_of pick
-copy_older vol g = go (takes_b (both vol)) (is_ours (copy_of vol 0)) refl refl
+copy_older vol g = go (takes_b (both vol)) (is_ours (copy_of vol 0).kind) refl refl
   where
-    go : (t u : Bool) → takes_b (both vol) ≡ t → is_ours (copy_of vol 0) ≡ u
-        → copy_of vol (base_of (1 - pick t 0 (pick u 1 0))) ≡ Ours g → g.generation ≤ pick t (head_in (copy_of vol 32)).generation (pick u (head_in (copy_of vol 0)).generation 0)
+    go : (t u : Bool) → takes_b (both vol) ≡ t → is_ours (copy_of vol 0).kind ≡ u
+        → copy_of vol (base_of (1 - pick t 0 (pick u 1 0))) ≡ ours g → g.generation ≤ pick t (copy_of vol 32).head.generation (pick u (copy_of vol 0).head.generation 0)
     go true u a b e = rw e (omega arith)
     go false true a b e = rw e (omega arith)
     go false false a b e = no_way (rw (e, b) at (sym a))
@@ -149,24 +148,24 @@ module _ (size seed : ℕ) (vol : List ℕ) (m : Medium) where
     tied = format_tied plan vol refl refl
 
     -- neither copy is foreign
-    beside_known : is_foreign (copy_of vol (base_of (1 - copy_for (both vol)))) ≡ false
+    beside_known : is_foreign (copy_of vol (base_of (1 - copy_for (both vol)))).kind ≡ false
     unfolding base_of
-    beside_known = pick_keeps (λ (k : ℕ). is_foreign (copy_of vol k) ≡ false) (eqb (1 - copy_for (both vol)) 0) 0 32 read.not_a read.not_b
+    beside_known = pick_keeps (λ (k : ℕ). is_foreign (copy_of vol k).kind ≡ false) (eqb (1 - copy_for (both vol)) 0) 0 32 read.not_a read.not_b
 
     -- and neither has the new id
-    fresh : (c : ℕ) (h : Header) → copy_of vol (base_of c) ≡ Ours h → h.id ≡ head.id → ⊥
+    fresh : (c : ℕ) (h : Header) → copy_of vol (base_of c) ≡ ours h → h.id ≡ head.id → ⊥
     unfolding format_head base_of
     fresh c =
         let f = id_fresh (both vol) m seed in
         let t = neither_has (copy_of vol 0) (copy_of vol 32) _ f.1 in
-        pick_keeps (λ (k : ℕ). (h : Header) → copy_of vol k ≡ Ours h → h.id ≡ head.id → ⊥) (eqb c 0) 0 32 t.0 t.1
+        pick_keeps (λ (k : ℕ). (h : Header) → copy_of vol k ≡ ours h → h.id ≡ head.id → ⊥) (eqb c 0) 0 32 t.0 t.1
 
     newest_lt : Numbered vol → newest_of (both vol) < 2 ^ 64
     unfolding newest_of takes_b base_of pick
     newest_lt small =
         pick_keeps_by (λ (g : ℕ). g < 2 ^ 64) (takes_b (both vol)) _ _
-        (λ t. small 1 (head_in (copy_of vol 32)) (copy_valid vol 32 (and_true (is_ours (copy_of vol 32)) _ t).0))
-        (λ _. pick_keeps_by (λ (g : ℕ). g < 2 ^ 64) (is_ours (copy_of vol 0)) _ _ (λ t. small 0 (head_in (copy_of vol 0)) (copy_valid vol 0 t)) (λ _. lit< tt))
+        (λ t. small 1 (copy_of vol 32).head (copy_valid vol 32 (and_true (is_ours (copy_of vol 32).kind) _ t).0))
+        (λ _. pick_keeps_by (λ (g : ℕ). g < 2 ^ 64) (is_ours (copy_of vol 0).kind) _ _ (λ t. small 0 (copy_of vol 0).head (copy_valid vol 0 t)) (λ _. lit< tt))
 
     newest : Numbered vol → Newest plan vol
     unfolding format_plan format_head

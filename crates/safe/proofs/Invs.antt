@@ -24,9 +24,9 @@ use Rattle.handles.specs.declared.Store.{Store}
 use Rattle.handles.specs.Handles.{body_of, base_of, store_ok}
 use Rattle.handles.proofs.Laws.{Held, store_facts, store_ok_lem, base_most}
 use Rattle.handles.specs.Body.{body_at, check_of}
-use Rattle.header.specs.declared.codec.Replica.TheVariants.{Absent, Ours}
+use Rattle.header.specs.declared.codec.Replica.TheVariants.{Absent}
 use Rattle.header.specs.Header.{ours, bare, decode_of, Bytes}
-use Rattle.header.specs.Copies.{copy_of, same_store, mount_of, head_in}
+use Rattle.header.specs.Copies.{copy_of, same_store, mount_of}
 use Rattle.plan.specs.Copy.{Plan, free_after, copy_out}
 use Rattle.safe.specs.Copy.{Good, Tied}
 use Rattle.safe.specs.Mounts.{Newest, Lists}
@@ -112,14 +112,14 @@ kept_records c kept j l = kept.same j (inr (omega (arith, base_most c)))
 
 module _ (p : Plan) (vol : List ℕ) (m : Medium) (good : Good p vol) where
   -- refused: the store beside it holds on
-  pub stopped_inv : {st : Store} {e : Error} → decode_of p.first (sectors_of vol) ≡ Absent → Inv vol st → st.copy + p.copy ≡ 1
+  pub stopped_inv : {st : Store} {e : Error} → decode_of p.first (sectors_of vol) ≡ bare Absent → Inv vol st → st.copy + p.copy ≡ 1
       → (copy_out p vol m).ans.outcome ≡ Err e → Inv (copy_out p vol m).vol st
   stopped_inv none inv two q =
       record { ok = rw (kept_sectors (copy_frame p vol m good)) inv.ok; range = inv.range; sound = stopped_sound p vol m good none inv.sound two q }
 
   -- accepted: the new store holds
   pub finished_inv : map_ok (free_after p vol) p.head.chunks ≡ true → Newest p vol → Tied p vol
-      → ((g : Header) → copy_of vol (base_of (1 - p.copy)) ≡ Ours g → same_store p.head g ≡ true → Lists vol (1 - p.copy) g)
+      → ((g : Header) → copy_of vol (base_of (1 - p.copy)) ≡ ours g → same_store p.head g ≡ true → Lists vol (1 - p.copy) g)
       → (copy_out p vol m).ans.outcome ≡ Ok tt → Inv (copy_out p vol m).vol (copy_out p vol m).ans.store
   finished_inv map new tied old q =
       let done = copy_finished p vol m good q in
@@ -137,7 +137,7 @@ module _ (p : Plan) (vol : List ℕ) (m : Medium) (good : Good p vol) where
 pub inv_numbered : {vol : List ℕ} {st : Store} → Inv vol st → Numbered vol
 inv_numbered {vol} {st} inv c h e =
     ⊎_elim
-    (λ q. let g : h ≡ st.head = ap head_in (sym e ∙ ap (copy_of vol) q ∙ inv.sound.stands.found) in rw g inv.range.generation)
+    (λ q. let g : h ≡ st.head = ap (λ (d : Decoded). d.head) (sym e ∙ ap (copy_of vol) q ∙ inv.sound.stands.found) in rw g inv.range.generation)
     (λ q. omega (arith, inv.sound.stands.older h (ap (copy_of vol) (sym q) ∙ e), inv.range.generation))
     (either c st.copy (inv_held inv).copy)
 

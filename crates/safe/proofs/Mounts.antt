@@ -16,7 +16,7 @@ use Rattle.freemap.specs.Map.{unfit_of}
 use Rattle.handles.specs.declared.Header.{Header}
 use Rattle.handles.specs.Handles.{base_of}
 use Rattle.handles.proofs.Laws.{base_most}
-use Rattle.header.specs.declared.codec.Replica.TheVariants.{Absent, Ours}
+use Rattle.header.specs.declared.codec.Replica.TheVariants.{Absent}
 use Rattle.header.specs.Header.{ours, bare, decode_of}
 use Rattle.header.specs.Copies.{is_ours, copy_of, mount_of}
 use Rattle.header.proofs.Accepted.{mount_current}
@@ -48,12 +48,12 @@ beside {vol} {v} c b e kept = copy_same vol v (base_of c) (kept_sectors kept) (h
 pub copies_beyond : (vol v : List ℕ) → length v ≡ length vol → ((j : ℕ) → j < 64 → sector_at v j ≡ sector_at vol j) → (c : ℕ) → copy_of v (base_of c) ≡ copy_of vol (base_of c)
 copies_beyond vol v size same c = copy_same vol v (base_of c) (rw size) (same (base_of c) (omega (arith, base_most c)))
 
-pub gone : {A : Type 0} {g : Header} → Absent ≡ Ours g → A
-gone q = no_way (ap is_ours q)
+pub gone : {A : Type 0} {g : Header} → bare Absent ≡ ours g → A
+gone q = no_way (ap (λ (d : Decoded). is_ours d.kind) q)
 
 -- what stands stands on while the other copy is written, if that is as it was or absent
 pub stands_beside : {vol v : List ℕ} {c : ℕ} {h : Header} (b : ℕ) → Stands vol c h → c + b ≡ 1 → Kept (base_of b) 25 vol v
-    → (copy_of v (base_of b) ≡ copy_of vol (base_of b)) ⊎ (copy_of v (base_of b) ≡ Absent) → Stands v c h
+    → (copy_of v (base_of b) ≡ copy_of vol (base_of b)) ⊎ (copy_of v (base_of b) ≡ bare Absent) → Stands v c h
 stands_beside {vol} {v} {c} {h} b s e kept o =
     let f : 1 - c ≡ b = omega arith in
     record {
@@ -79,24 +79,24 @@ stands_beyond {c = c} size same s =
 
 module _ (p : Plan) (vol : List ℕ) (m : Medium) (good : Good p vol) where
   -- refused: the copy that was to be written is as it was, or absent where the first image is
-  pub stopped_copy : {e : Error} → decode_of p.first (sectors_of vol) ≡ Absent → (copy_out p vol m).ans.outcome ≡ Err e
-      → ((copy_out p vol m).vol ≡ vol) ⊎ (copy_of (copy_out p vol m).vol (target p) ≡ Absent)
+  pub stopped_copy : {e : Error} → decode_of p.first (sectors_of vol) ≡ bare Absent → (copy_out p vol m).ans.outcome ≡ Err e
+      → ((copy_out p vol m).vol ≡ vol) ⊎ (copy_of (copy_out p vol m).vol (target p) ≡ bare Absent)
   stopped_copy none q =
       ⊎_elim inl
       (λ a. inr (copy_holds vol _ p.first (target p) (kept_sectors (copy_frame p vol m good)) a ∙ none))
       (copy_stopped p vol m good q).1
 
-  pub stopped_target : {e : Error} → decode_of p.first (sectors_of vol) ≡ Absent → (copy_out p vol m).ans.outcome ≡ Err e
-      → (copy_of (copy_out p vol m).vol (target p) ≡ copy_of vol (target p)) ⊎ (copy_of (copy_out p vol m).vol (target p) ≡ Absent)
+  pub stopped_target : {e : Error} → decode_of p.first (sectors_of vol) ≡ bare Absent → (copy_out p vol m).ans.outcome ≡ Err e
+      → (copy_of (copy_out p vol m).vol (target p) ≡ copy_of vol (target p)) ⊎ (copy_of (copy_out p vol m).vol (target p) ≡ bare Absent)
   stopped_target none q = ⊎_elim (λ a. inl (ap (λ (v : List ℕ). copy_of v (target p)) a)) inr (stopped_copy none q)
 
   -- so the copy that stood stands
-  pub stopped_stands : {c : ℕ} {h : Header} {e : Error} → decode_of p.first (sectors_of vol) ≡ Absent → Stands vol c h → c + p.copy ≡ 1
+  pub stopped_stands : {c : ℕ} {h : Header} {e : Error} → decode_of p.first (sectors_of vol) ≡ bare Absent → Stands vol c h → c + p.copy ≡ 1
       → (copy_out p vol m).ans.outcome ≡ Err e → Stands (copy_out p vol m).vol c h
   stopped_stands none s other q = stands_beside p.copy s other (copy_frame p vol m good) (stopped_target none q)
 
   -- and mount gives what it gave before
-  pub stopped_mount : {e : Error} (n u : Medium) → decode_of p.first (sectors_of vol) ≡ Absent → (mount_of vol n).outcome ≡ Ok tt
+  pub stopped_mount : {e : Error} (n u : Medium) → decode_of p.first (sectors_of vol) ≡ bare Absent → (mount_of vol n).outcome ≡ Ok tt
       → (mount_of vol n).store.copy + p.copy ≡ 1 → (copy_out p vol m).ans.outcome ≡ Err e → read_of u 0 ≡ Ok tt → read_of u 32 ≡ Ok tt
       → mount_of (copy_out p vol m).vol u ≡ mount_of vol n
   stopped_mount n u none accepted other q a b =

@@ -13,9 +13,9 @@ use Rattle.medium.specs.Sector.{sectors_of}
 use Rattle.handles.specs.declared.Header.{Header}
 use Rattle.handles.specs.Handles.{base_of}
 use Rattle.handles.proofs.Laws.{base_most, sane_facts}
-use Rattle.header.specs.declared.codec.Replica.TheVariants.{Absent, Ours}
+use Rattle.header.specs.declared.codec.Replica.TheVariants.{Absent}
 use Rattle.header.specs.Header.{ours, bare, Bytes, InRange}
-use Rattle.header.specs.Copies.{copy_of, head_in}
+use Rattle.header.specs.Copies.{copy_of}
 use Rattle.header.proofs.Accepted.{copy_sane, copy_range}
 use Rattle.plan.specs.Copy.{Plan, copy_out}
 use Rattle.safe.specs.Copy.{Good}
@@ -42,7 +42,7 @@ bytes_ranged vol small c h e =
 -- ---- one copy is written
 
 module _ {vol v : List ℕ} (b : ℕ) (two : b < 2) (kept : Kept (base_of b) 25 vol v) where
-  ranged_beside : ((h : Header) → copy_of v (base_of b) ≡ Ours h → InRange h) → Ranged vol → Ranged v
+  ranged_beside : ((h : Header) → copy_of v (base_of b) ≡ ours h → InRange h) → Ranged vol → Ranged v
   ranged_beside new old c h e =
       ⊎_elim
       (λ q. new h (ap (copy_of v) (sym q) ∙ e))
@@ -50,11 +50,11 @@ module _ {vol v : List ℕ} (b : ℕ) (two : b < 2) (kept : Kept (base_of b) 25 
       (either c b two)
 
   -- stopped
-  pub ranged_stopped : (copy_of v (base_of b) ≡ copy_of vol (base_of b)) ⊎ (copy_of v (base_of b) ≡ Absent) → Ranged vol → Ranged v
+  pub ranged_stopped : (copy_of v (base_of b) ≡ copy_of vol (base_of b)) ⊎ (copy_of v (base_of b) ≡ bare Absent) → Ranged vol → Ranged v
   ranged_stopped o old = ranged_beside (λ h e. ⊎_elim (λ a. old b h (sym a ∙ e)) (λ a. gone (sym a ∙ e)) o) old
 
 -- finished
 pub ranged_finished : (p : Plan) (vol : List ℕ) (m : Medium) → Good p vol → Newest p vol → (copy_out p vol m).ans.outcome ≡ Ok tt → Ranged vol → Ranged (copy_out p vol m).vol
 ranged_finished p vol m good new q =
     ranged_beside p.copy new.number (copy_frame p vol m good)
-    (λ h e. subst InRange (ap head_in (sym (finished_stands p vol m good new q).found ∙ e)) (finished_range (copy_finished p vol m good q) new.range))
+    (λ h e. subst InRange (ap (λ (d : Decoded). d.head) (sym (finished_stands p vol m good new q).found ∙ e)) (finished_range (copy_finished p vol m good q) new.range))

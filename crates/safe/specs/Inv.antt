@@ -12,14 +12,13 @@ use Rattle.handles.specs.declared.Store.{Store}
 use Rattle.handles.specs.Body.{body_at}
 use Rattle.handles.specs.Handles.{body_of, base_of, store_ok, no_store}
 use Rattle.header.specs.Copies.{copy_of, current_of}
-use Rattle.header.specs.Header.{with_crcs, InRange}
+use Rattle.header.specs.Header.{with_crcs, ours, InRange}
 use Rattle.plan.specs.declared.Edit.{Edit}
 use Rattle.plan.specs.Copy.{Plan, Out, map_after}
 use Rattle.plan.specs.Edit.{edited_of, head_after}
 use Rattle.commit.specs.Commit.{commit_plan}
 use Rattle.safe.specs.Copy.{PlanDistinct}
 use Rattle.safe.specs.Mounts.{Stands, Sound}
-use Rattle.header.specs.declared.codec.Replica.TheVariants.{Ours}
 
 -- the store value is the one that mount gives: its copy stands with its header and the body that this lists
 pub record Inv (vol : List ℕ) (st : Store) : Type 0 where
@@ -65,11 +64,11 @@ pub record CommitMade (edit : Edit) (name vol : List ℕ) (m : Medium) (st : Sto
 
 -- the header of each valid copy has its widths: on a volume of bytes it has
 abbrev pub Ranged : List ℕ → Type 0
-Ranged vol = (c : ℕ) (h : Header) → copy_of vol (base_of c) ≡ Ours h → InRange h
+Ranged vol = (c : ℕ) (h : Header) → copy_of vol (base_of c) ≡ ours h → InRange h
 
 -- of that only the generation
 abbrev pub Numbered : List ℕ → Type 0
-Numbered vol = (c : ℕ) (h : Header) → copy_of vol (base_of c) ≡ Ours h → h.generation < 2 ^ 64
+Numbered vol = (c : ℕ) (h : Header) → copy_of vol (base_of c) ≡ ours h → h.generation < 2 ^ 64
 
 -- refused, however many writes were made: a store that was there is there. That its copy stands is enough, whatever body its header lists
 pub record FormatStopped (vol : List ℕ) (m : Medium) (o : Out) : Type 0 where
@@ -91,7 +90,7 @@ pub record FormatMade (chunk : ℕ) (vol : List ℕ) (m : Medium) (o : Out) : Ty
   pub next : o.ans.store.head.next_id ≡ 1
   pub cursor : o.ans.store.head.cursor ≡ 0
   pub id : o.ans.store.head.id ≡ 0 → ⊥
-  pub fresh : (c : ℕ) (h : Header) → copy_of vol (base_of c) ≡ Ours h → h.id ≡ o.ans.store.head.id → ⊥
+  pub fresh : (c : ℕ) (h : Header) → copy_of vol (base_of c) ≡ ours h → h.id ≡ o.ans.store.head.id → ⊥
   pub chunk_is : o.ans.store.head.chunk ≡ chunk
   pub chunk_range : (1 ≤ chunk) × (chunk ≤ 512)
   pub chunks_range : (1 ≤ o.ans.store.head.chunks) × (o.ans.store.head.chunks ≤ 2048)

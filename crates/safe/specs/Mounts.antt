@@ -4,27 +4,26 @@ use Rattle.checksum.specs.Crc.{crc32_of}
 use Rattle.medium.specs.Sector.{sectors_of, sector_at}
 use Rattle.handles.specs.declared.Header.{Header}
 use Rattle.handles.specs.Handles.{body_of, base_of, sane_of}
-use Rattle.header.specs.Header.{InRange}
+use Rattle.header.specs.Header.{ours, InRange}
 use Rattle.header.specs.Copies.{is_foreign, copy_of, same_store}
 use Rattle.plan.specs.Copy.{Plan}
-use Rattle.header.specs.declared.codec.Replica.TheVariants.{Ours}
 
 -- the copy stands on the volume with header h, and mount takes it: the other copy is not foreign and, where it is valid, of no larger generation;
 -- of a smaller one where it is A, since A is taken at equal generations
 pub record Stands (vol : List ℕ) (copy : ℕ) (h : Header) : Type 0 where
   pub enough : 64 ≤ sectors_of vol
   pub number : copy < 2
-  pub found : copy_of vol (base_of copy) ≡ Ours h
-  pub known : is_foreign (copy_of vol (base_of (1 - copy))) ≡ false
-  pub older : (g : Header) → copy_of vol (base_of (1 - copy)) ≡ Ours g → g.generation + copy ≤ h.generation
+  pub found : copy_of vol (base_of copy) ≡ ours h
+  pub known : is_foreign (copy_of vol (base_of (1 - copy))).kind ≡ false
+  pub older : (g : Header) → copy_of vol (base_of (1 - copy)) ≡ ours g → g.generation + copy ≤ h.generation
 
 -- the header of a plan is one that mount takes once it is written
 pub record Newest (p : Plan) (vol : List ℕ) : Type 0 where
   pub number : p.copy < 2
   pub sane : sane_of p.head (sectors_of vol) ≡ true
   pub range : InRange p.head
-  pub known : is_foreign (copy_of vol (base_of (1 - p.copy))) ≡ false
-  pub older : (g : Header) → copy_of vol (base_of (1 - p.copy)) ≡ Ours g → g.generation + p.copy ≤ p.head.generation
+  pub known : is_foreign (copy_of vol (base_of (1 - p.copy))).kind ≡ false
+  pub older : (g : Header) → copy_of vol (base_of (1 - p.copy)) ≡ ours g → g.generation + p.copy ≤ p.head.generation
 
 -- ---- with the bodies
 
@@ -36,4 +35,4 @@ Lists vol copy h = (k : ℕ) → k < body_of h.chunks → crc32_of (sector_at vo
 pub record Sound (vol : List ℕ) (copy : ℕ) (h : Header) : Type 0 where
   pub stands : Stands vol copy h
   pub own : Lists vol copy h
-  pub other : (g : Header) → copy_of vol (base_of (1 - copy)) ≡ Ours g → same_store h g ≡ true → Lists vol (1 - copy) g
+  pub other : (g : Header) → copy_of vol (base_of (1 - copy)) ≡ ours g → same_store h g ≡ true → Lists vol (1 - copy) g

@@ -15,6 +15,7 @@ use Rattle.freemap.specs.Map.{unfit_of}
 use Rattle.handles.specs.declared.Header.{Header}
 use Rattle.handles.specs.declared.Store.{Store}
 use Rattle.handles.specs.Handles.{store_ok}
+use Rattle.header.specs.Header.{ours}
 use Rattle.header.specs.Copies.{copy_of}
 use Rattle.format.proofs.Edges.{none_575, one_576}
 use Rattle.header.proofs.Edges.{zeroed_refused, equal_takes_a}
@@ -32,7 +33,6 @@ use Rattle.store.specs.Opening.{open_fine, admitted_of}
 use Rattle.store.proofs.Appends.{append_485, append_486, append_487}
 use Rattle.store.proofs.Lists.{long_enough}
 use Rattle.store.proofs.Admits.{create_is, open_is}
-use Rattle.header.specs.declared.codec.Replica.TheVariants.{Ours}
 
 module _ (vol : List ℕ) (m : Medium) (st : Store) (passes : store_ok st (sectors_of vol) ≡ true) where
   asked_no : (fine : Bool) → fine ≡ false → asked_of vol st fine ≡ Err Name
@@ -70,7 +70,7 @@ module _ (vol : List ℕ) (m : Medium) (st : Store) (passes : store_ok st (secto
       }
 
 module _ (vol : List ℕ) (m : Medium) (enough : 64 ≤ sectors_of vol) (a : read_of m 0 ≡ Ok tt) (b : read_of m 32 ≡ Ok tt) where
-  equal : (x y : Header) → copy_of vol 0 ≡ Ours x → copy_of vol 32 ≡ Ours y → x.generation ≡ y.generation
+  equal : (x y : Header) → copy_of vol 0 ≡ ours x → copy_of vol 32 ≡ ours y → x.generation ≡ y.generation
       → mount_call vol m ≡ record { answer = ok tt; store = filled_of vol m (record { copy = 0; head = x; writer = None; free = unfit_of }); medium = m }
   unfolding mount_call on_done
   equal x y p q e = rw (equal_takes_a vol m enough a b x y p q e)

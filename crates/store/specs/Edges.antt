@@ -11,6 +11,7 @@ use Rattle.freemap.specs.Map.{unfit_of}
 use Rattle.handles.specs.declared.Header.{Header}
 use Rattle.handles.specs.declared.Store.{Store}
 use Rattle.handles.specs.Handles.{store_ok}
+use Rattle.header.specs.Header.{ours}
 use Rattle.header.specs.Copies.{copy_of, headers_of}
 use Rattle.table.specs.Link.{link_bytes}
 use Rattle.plan.specs.Copy.{Step, recorded}
@@ -21,7 +22,6 @@ use Rattle.append.specs.Calls.{may_write, AppCall, append_call, room_call}
 use Rattle.store.specs.Reading.{filled_of, mount_call, find_call, list_call, reader_call}
 use Rattle.store.specs.Writing.{format_call, delete_call, oldest_call}
 use Rattle.store.specs.Opening.{create_call, open_call}
-use Rattle.header.specs.declared.codec.Replica.TheVariants.{Ours}
 
 -- n bytes `a`
 abbrev pub letters : ℕ → List ℕ
@@ -100,5 +100,5 @@ pub record Starred : Type 0 where
   pub zeroed : (n : ℕ) (m : Medium) → 64 ≤ n / 512 → read_of m 0 ≡ Ok tt → read_of m 32 ≡ Ok tt → (mount_call (zeros n) m).answer ≡ refused 5
   -- equal generations: mount A
   pub equal : (vol : List ℕ) (m : Medium) → 64 ≤ sectors_of vol → read_of m 0 ≡ Ok tt → read_of m 32 ≡ Ok tt → (x y : Header)
-      → copy_of vol 0 ≡ Ours x → copy_of vol 32 ≡ Ours y → x.generation ≡ y.generation
+      → copy_of vol 0 ≡ ours x → copy_of vol 32 ≡ ours y → x.generation ≡ y.generation
       → mount_call vol m ≡ record { answer = ok tt; store = filled_of vol m (record { copy = 0; head = x; writer = None; free = unfit_of }); medium = m }

@@ -23,8 +23,8 @@ use Rattle.handles.specs.declared.Store.{Store}
 use Rattle.handles.specs.Body.{body_at, check_of}
 use Rattle.handles.specs.Handles.{body_of, table_of, base_of}
 use Rattle.handles.proofs.Laws.{store_facts}
-use Rattle.header.specs.Header.{with_crcs}
-use Rattle.header.specs.Copies.{is_ours, copy_of, same_store, taken_of, current_of, head_in}
+use Rattle.header.specs.Header.{ours, with_crcs}
+use Rattle.header.specs.Copies.{is_ours, copy_of, same_store, taken_of, current_of}
 use Rattle.plan.specs.declared.Edit.{Edit}
 use Rattle.plan.specs.declared.Edit.TheVariants.{Format, Create, Extend, Remove}
 use Rattle.plan.specs.Edit.{slot_sector, link_sector, changes_of, edited_of, head_after}
@@ -42,12 +42,11 @@ use Rattle.safe.proofs.Unwritten.{commit_copies}
 use Rattle.writes.specs.Writes.{Most}
 use Rattle.writes.proofs.Counts.{tally_wide, tally_either, tally_single}
 use Rattle.writes.proofs.Copies.{Leaves, commit_counted}
-use Rattle.header.specs.declared.codec.Replica.TheVariants.{Ours}
 
 -- ---- the store's own copy, where it is current
 
 module _ (vol : List ℕ) (m : Medium) (st : Store) (d : (current_of vol m).outcome ≡ Ok tt) (c : is_current (current_of vol m) st ≡ true) where
-  current_is : current_of vol m ≡ taken_of st.copy st.head (head_in (copy_of vol (base_of (1 - st.copy)))) (is_ours (copy_of vol (base_of (1 - st.copy))))
+  current_is : current_of vol m ≡ taken_of st.copy st.head (copy_of vol (base_of (1 - st.copy))).head (is_ours (copy_of vol (base_of (1 - st.copy))).kind)
   current_is = current_choice vol m d ∙ stands_choice vol st.head st.copy (own_stands vol m st d c)
 
 -- ---- the copy beside it
@@ -55,7 +54,7 @@ module _ (vol : List ℕ) (m : Medium) (st : Store) (d : (current_of vol m).outc
 -- its header is of the same store, and of the 8 directory sectors all but at most d have the checksum that it lists
 pub record Beside (d : ℕ) (vol : List ℕ) (st : Store) : Type 0 where
   pub head : Header
-  pub found : copy_of vol (base_of (1 - st.copy)) ≡ Ours head
+  pub found : copy_of vol (base_of (1 - st.copy)) ≡ ours head
   pub same : same_store st.head head ≡ true
   pub may : ℕ → Bool
   pub few : tally may 8 ≤ d

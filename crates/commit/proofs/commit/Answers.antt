@@ -10,19 +10,19 @@ pub returns-in-Err : goal.returns-in-Err
 returns-in-Err c =
     let a = c.args in
     made_of c.refused.ensures
-    (unfound a.edit a.name.now a.volume.now a.medium a.store c.current.ensures c.in-Err.is)
+    (unfound a.edit a.name.now a.volume.now a.medium a.store c.current-found.ensures c.in-Err.is)
 
 pub returns-then-not-is_current : goal.returns-then-not-is_current
 returns-then-not-is_current c =
     let a = c.args in
-    made_of c.refused-then-not-is_current.ensures (stale a.edit a.name.now a.volume.now a.medium a.store c.current.ensures
-    c.in-Ok.is c.is_current.ensures c.if-not-is_current.true)
+    made_of c.refused-then-not-is_current.ensures (stale a.edit a.name.now a.volume.now a.medium a.store c.current-found.ensures
+    c.in_default.is c.is_current.ensures c.if-not-is_current.true)
 
-pub returns-then-store-last : goal.returns-then-store-last
-returns-then-store-last c =
+pub returns-then-own : goal.returns-then-own
+returns-then-own c =
     let a = c.args in
-    made_of c.refused-then-store-last.ensures (spent a.edit a.name.now a.volume.now a.medium a.store c.current.ensures
-    c.in-Ok.is c.is_current.ensures c.if-not-is_current.false c.if-store-last.true)
+    made_of c.refused-then-own.ensures (spent a.edit a.name.now a.volume.now a.medium a.store c.current-found.ensures
+    c.in_default.is c.is_current.ensures c.if-not-is_current.false c.if-own.true)
 
 pub rewrite-requires : goal.rewrite-requires
 rewrite-requires c =
@@ -30,11 +30,11 @@ rewrite-requires c =
     let g : c.args.store.head.generation < 2 ^ 64 =
     search rules in
     let n : c.args.store.head.generation ≡ 2 ^ 64 - 1 → ⊥ =
-    c.if-store-last.false in
+    c.if-own.false in
     (p.0, omega arith, p.1, p.2, p.3)
 
 pub returns : goal.returns
 returns c =
     let a = c.args in
-    rewritten a.edit a.name.now a.volume.now a.medium a.store c.current.ensures c.in-Ok.is
-    c.is_current.ensures c.if-not-is_current.false c.if-store-last.false c.rewrite.ensures
+    rewritten a.edit a.name.now a.volume.now a.medium a.store c.current-found.ensures c.in_default.is
+    c.is_current.ensures c.if-not-is_current.false c.if-own.false c.rewrite.ensures

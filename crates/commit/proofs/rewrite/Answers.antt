@@ -28,7 +28,7 @@ zero_sector-z-requires c =
 pub returns-in-Err : goal.returns-in-Err
 unfolding commit_plan
 returns-in-Err c =
-    let plan : Plan = commit_plan c.args.listed c.args.edit c.args.name.now c.args.store in
+    let plan : Plan = commit_plan c.args.found c.args.edit c.args.name.now c.args.store in
     made_of c.refused.ensures (first_refused plan c.args.volume.now c.args.medium c.base.ensures.0
     c.zero_sector-z.ensures c.in-Err.is)
 
@@ -41,17 +41,17 @@ write_body-b-requires c = (
   c.requires.4,
 )
 
-pub returns-in-Err-outcome : goal.returns-in-Err-outcome
+pub returns-in-Err-bo : goal.returns-in-Err-bo
 unfolding commit_plan head_after
-returns-in-Err-outcome c =
-    let plan : Plan = commit_plan c.args.listed c.args.edit c.args.name.now c.args.store in
-    made_of c.refused-in-Err-outcome.ensures (body_refused plan c.args.volume.now c.args.medium c.base.ensures.0
-    c.zero_sector-z.ensures c.in_default.is c.write_body-b.ensures c.in-Err-outcome.is)
+returns-in-Err-bo c =
+    let plan : Plan = commit_plan c.args.found c.args.edit c.args.name.now c.args.store in
+    made_of c.refused-in-Err-bo.ensures (body_refused plan c.args.volume.now c.args.medium c.base.ensures.0
+    c.zero_sector-z.ensures c.in_default.is c.write_body-b.ensures c.in-Err-bo.is)
 
 pub write_head-w-requires : goal.write_head-w-requires
 unfolding commit_plan head_after
 write_head-w-requires c =
-    let plan : Plan = commit_plan c.args.listed c.args.edit c.args.name.now c.args.store in
+    let plan : Plan = commit_plan c.args.found c.args.edit c.args.name.now c.args.store in
     let Ranges : Type 0 = (64 ≤ sectors_of c.write_body-b.new.volume) × (c.write_body-b.result.head.chunks ≤ 2048) in
     let ranges : Ranges = let f = store_facts c.args.store _ c.requires.0 in
     let e : 64 ≤ sectors_of c.zero_sector-z.new.volume = omega (arith, f.enough, c.zero_sector-z.auto.volume) in
@@ -59,17 +59,17 @@ write_head-w-requires c =
     (omega (arith, e, c.write_body-b.auto.volume), omega (arith, f.head.chunks_most, q)) in
     ranges
 
-pub shape_of-volume-in-Err-outcome-2 : goal.shape_of-volume-in-Err-outcome-2
-shape_of-volume-in-Err-outcome-2 c =
+pub shape_of-volume-in-Err-wo : goal.shape_of-volume-in-Err-wo
+shape_of-volume-in-Err-wo c =
     c.write_head-w.auto.volume ∙ c.write_body-b.auto.volume ∙ c.zero_sector-z.auto.volume
 
-pub returns-in-Err-outcome-2 : goal.returns-in-Err-outcome-2
+pub returns-in-Err-wo : goal.returns-in-Err-wo
 unfolding commit_plan head_after
-returns-in-Err-outcome-2 c =
-    let plan : Plan = commit_plan c.args.listed c.args.edit c.args.name.now c.args.store in
-    made_of c.refused-in-Err-outcome-2.ensures (last_refused plan c.args.volume.now c.args.medium c.base.ensures.0
-    c.zero_sector-z.ensures c.in_default.is c.write_body-b.ensures c.in_default-outcome.is
-    c.write_head-w.ensures c.in-Err-outcome-2.is)
+returns-in-Err-wo c =
+    let plan : Plan = commit_plan c.args.found c.args.edit c.args.name.now c.args.store in
+    made_of c.refused-in-Err-wo.ensures (last_refused plan c.args.volume.now c.args.medium c.base.ensures.0
+    c.zero_sector-z.ensures c.in_default.is c.write_body-b.ensures c.in_default-bo.is
+    c.write_head-w.ensures c.in-Err-wo.is)
 
 pub shape_of-volume : goal.shape_of-volume
 shape_of-volume c =
@@ -78,7 +78,7 @@ shape_of-volume c =
 pub returns : goal.returns
 unfolding commit_plan head_after
 returns c =
-    let plan : Plan = commit_plan c.args.listed c.args.edit c.args.name.now c.args.store in
-    (made plan c.args.volume.now c.args.medium c.base.ensures.0 c.zero_sector-z.ensures
-    c.in_default.is c.write_body-b.ensures c.in_default-outcome.is c.write_head-w.ensures
-    c.map_after-free.ensures c.in_default-outcome-2.is)
+    let plan : Plan = commit_plan c.args.found c.args.edit c.args.name.now c.args.store in
+    made_of c.finished.ensures (made plan c.args.volume.now c.args.medium c.base.ensures.0 c.zero_sector-z.ensures
+    c.in_default.is c.write_body-b.ensures c.in_default-bo.is c.write_head-w.ensures
+    c.map_after-free.ensures c.in_default-wo.is)

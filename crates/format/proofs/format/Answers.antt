@@ -8,17 +8,17 @@ returns-then-not-sized c = let a = c.args in wrong_size a.size a.seed a.volume.n
 pub returns-in-Err : goal.returns-in-Err
 returns-in-Err c =
     let a = c.args in
-    unread a.size a.seed a.volume.now a.medium (rw c.if-not-sized.false refl) c.headers.ensures
+    unread a.size a.seed a.volume.now a.medium (rw c.if-not-sized.false refl) c.headers-c.ensures
     c.in-Err.is c.refused-in-Err.ensures
 
 pub format_over-requires : goal.format_over-requires
 format_over-requires c =
     let a = c.args in
-    enough a.size a.seed a.volume.now a.medium (rw c.if-not-sized.false refl) c.headers.ensures
-    c.in-Ok.is
+    enough a.size a.seed a.volume.now a.medium (rw c.if-not-sized.false refl) c.headers-c.ensures
+    c.in_default.is
 
-pub returns-in-Ok : goal.returns-in-Ok
-returns-in-Ok c =
+pub returns : goal.returns
+returns c =
     let a = c.args in
-    whole a.size a.seed a.volume.now a.medium (rw c.if-not-sized.false refl) c.headers.ensures
-    c.in-Ok.is c.format_over.ensures
+    whole a.size a.seed a.volume.now a.medium (rw c.if-not-sized.false refl) c.headers-c.ensures
+    c.in_default.is c.format_over.ensures

@@ -7,11 +7,11 @@ returns-then-chunks-eq0 c =
     no_chunks a.c a.size a.seed a.volume.now a.medium c.sectors.ensures c.chunks_for-chunks.ensures.0
     c.if-chunks-eq0.true c.refused.ensures
 
-pub returns-then-newest-last : goal.returns-then-newest-last
-returns-then-newest-last c =
+pub returns-then-newest-eq18446744073709551615 : goal.returns-then-newest-eq18446744073709551615
+returns-then-newest-eq18446744073709551615 c =
     let a = c.args in
     spent a.c a.size a.seed a.volume.now a.medium c.sectors.ensures c.chunks_for-chunks.ensures.0
-    c.if-chunks-eq0.false c.newest.ensures c.if-newest-last.true c.refused-then-newest-last.ensures
+    c.if-chunks-eq0.false c.newest.ensures c.if-newest-eq18446744073709551615.true c.refused-then-newest-eq18446744073709551615.ensures
 
 pub make-requires : goal.make-requires
 make-requires c =
@@ -24,5 +24,5 @@ pub returns : goal.returns
 returns c =
     let a = c.args in
     over a.c a.size a.seed a.volume.now a.medium c.sectors.ensures c.chunks_for-chunks.ensures.0
-    c.if-chunks-eq0.false c.newest.ensures c.if-newest-last.false c.format_head-head.ensures
+    c.if-chunks-eq0.false c.newest.ensures c.if-newest-eq18446744073709551615.false c.format_head-head.ensures
     c.copy_for.ensures c.make.ensures

@@ -12,30 +12,30 @@ pub zero_body-b-requires : goal.zero_body-b-requires
 zero_body-b-requires c =
     (omega (arith, c.write_unmarked-z.auto.volume, c.requires.0), c.requires.1, c.requires.2)
 
-pub returns-in-Err-outcome : goal.returns-in-Err-outcome
-returns-in-Err-outcome c =
+pub returns-in-Err-zeroed : goal.returns-in-Err-zeroed
+returns-in-Err-zeroed c =
     let a = c.args in
     body_refused a.copy a.head a.volume.now a.medium c.write_unmarked-z.ensures.0 c.write_unmarked-z.ensures.1 c.requires.2
-    c.in_default.is c.zero_body-b.ensures.0 c.zero_body-b.ensures.1 c.in-Err-outcome.is
-    c.refused-in-Err-outcome.ensures
+    c.in_default.is c.zero_body-b.ensures.0 c.zero_body-b.ensures.1 c.in-Err-zeroed.is
+    c.refused-in-Err-zeroed.ensures
 
 pub write_head-w-requires : goal.write_head-w-requires
 write_head-w-requires c =
     (omega (arith, c.write_unmarked-z.auto.volume, c.zero_body-b.auto.volume, c.requires.0), c.requires.1)
 
-pub returns-in-Err-outcome-2 : goal.returns-in-Err-outcome-2
-returns-in-Err-outcome-2 c =
+pub returns-in-Err-last : goal.returns-in-Err-last
+returns-in-Err-last c =
     let a = c.args in
     last_refused a.copy a.head a.volume.now a.medium c.write_unmarked-z.ensures.0 c.write_unmarked-z.ensures.1 c.requires.2
-    c.in_default.is c.zero_body-b.ensures.0 c.zero_body-b.ensures.1 c.in_default-outcome.is
-    c.write_head-w.ensures.0 c.write_head-w.ensures.1 c.in-Err-outcome-2.is c.refused-in-Err-outcome-2.ensures
+    c.in_default.is c.zero_body-b.ensures.0 c.zero_body-b.ensures.1 c.in_default-zeroed.is
+    c.write_head-w.ensures.0 c.write_head-w.ensures.1 c.in-Err-last.is c.refused-in-Err-last.ensures
 
-pub full-requires : goal.full-requires
-full-requires c = omega (arith, c.requires.1)
+pub full-free-requires : goal.full-free-requires
+full-free-requires c = omega (arith, c.requires.1)
 
 pub returns : goal.returns
 returns c =
     let a = c.args in
     made a.copy a.head a.volume.now a.medium c.write_unmarked-z.ensures.0 c.write_unmarked-z.ensures.1 c.requires.2
-    c.in_default.is c.zero_body-b.ensures.0 c.zero_body-b.ensures.1 c.in_default-outcome.is
-    c.write_head-w.ensures.0 c.write_head-w.ensures.1 c.full.ensures c.in_default-outcome-2.is
+    c.in_default.is c.zero_body-b.ensures.0 c.zero_body-b.ensures.1 c.in_default-zeroed.is
+    c.write_head-w.ensures.0 c.write_head-w.ensures.1 c.full-free.ensures c.in_default-last.is

@@ -1,6 +1,15 @@
-use mathlib.Core.Path.{◌∙◌}
-use Rattle.format.proofs.Numbers.{newest_max}
+use Rattle.le.specs.Choice.{pick}
+use Rattle.format.specs.Format.{newest_of}
 use Rattle.format.proofs.newest.Goals as goal
 
+pub returns-then-takes_b : goal.returns-then-takes_b
+unfolding newest_of pick
+returns-then-takes_b c = rw (← c.takes_b.ensures, c.if-takes_b.true)
+
+pub returns-then-is_ours : goal.returns-then-is_ours
+unfolding newest_of pick
+returns-then-is_ours c = rw (← c.takes_b.ensures, c.if-takes_b.false, ← c.is_ours.ensures, c.if-is_ours.true)
+
 pub returns : goal.returns
-returns c = c.max.ensures ∙ rw (c.generation.ensures, c.generation-2.ensures) (newest_max c.args.c)
+unfolding newest_of pick
+returns c = rw (← c.takes_b.ensures, c.if-takes_b.false, ← c.is_ours.ensures, c.if-is_ours.false)

@@ -12,16 +12,16 @@ returns-then-not-has_id-2 c =
     rw (
       ← c.has_id.ensures,
       c.if-not-has_id.false,
-      ← c.has_id-else-not-has_id.ensures,
+      ← c.has_id-2.ensures,
       c.if-not-has_id-2.true,
     )
 
-pub returns-else-not-has_id-2 : goal.returns-else-not-has_id-2
+pub returns : goal.returns
 unfolding spare_of pick
-returns-else-not-has_id-2 c =
+returns c =
     rw (
       ← c.has_id.ensures,
       c.if-not-has_id.false,
-      ← c.has_id-else-not-has_id.ensures,
+      ← c.has_id-2.ensures,
       c.if-not-has_id-2.false,
     )

@@ -6,13 +6,13 @@ use Rattle.format.proofs.zero_body.Goals as goal
 pub loop-k-init : goal.loop-k-init
 loop-k-init c =
     let a = c.args in
-    (omega arith, refl, zero_start a.copy a.head c.requires.2 a.volume.now a.medium c.body-k-end.ensures)
+    (omega arith, refl, zero_start a.copy a.head c.requires.2 a.volume.now a.medium c.body-body.ensures)
 
 pub returns-in-Err : goal.returns-in-Err
 returns-in-Err c =
     let a = c.args in
     let l = c.loop-k in
-    zero_stop a.copy a.head c.requires.2 l.volume l.m c.body-k-end.ensures
+    zero_stop a.copy a.head c.requires.2 l.volume l.m c.body-body.ensures
     c.loop-k-test.true c.base-first.ensures.0 c.zero_sector-w.ensures.0 c.zero_sector-w.ensures.1
     l.invariant.2 c.in-Err.is
 
@@ -22,7 +22,7 @@ loop-k-preserved c =
     let l = c.loop-k in (
       omega arith,
       c.zero_sector-w.auto.volume ∙ l.invariant.1,
-      zero_turn a.copy a.head c.requires.2 l.volume l.m c.body-k-end.ensures
+      zero_turn a.copy a.head c.requires.2 l.volume l.m c.body-body.ensures
           c.loop-k-test.true c.base-first.ensures.0 c.zero_sector-w.ensures.0 c.zero_sector-w.ensures.1
           l.invariant.2 c.in_default.is,
     )

@@ -1,17 +1,26 @@
-use mathlib.Core.Path.{◌≡◌, sym, ap, ◌∙◌}
-use mathlib.Core.List.{List, ◌++◌}
 use Prim.Native.Nat.{ℕ}
+use mathlib.Core.Path.{◌≡◌, refl, sym, ap, ◌∙◌}
+use mathlib.Core.List.{List}
 use native.Mathlib.Omega.{arith}
-use lib.ListN.{drop, replicate, take, length, length-take}
+use borrow.Author.Fill.{fill_more}
+use lib.ListN.{set, replicate, length-set}
 use Rattle.le.specs.Part.{zeros}
 use Rattle.checksum.proofs.Vector.{zeros_value}
 use Rattle.format.proofs.Crcs.{filled}
 use Rattle.format.proofs.zero_crcs.Goals as goal
 
+pub loop-k-init : goal.loop-k-init
+loop-k-init c = (omega arith, refl, refl)
+
+pub loop-k-preserved : goal.loop-k-preserved
+loop-k-preserved c =
+    let l = c.loop-k in
+    (omega arith, ap (λ (x : List ℕ). set x l.k _) l.invariant.1 ∙ fill_more l.k _ (replicate 24 0) (omega arith), simp length-set l.invariant.2)
+
 pub returns : goal.returns
 unfolding zeros
 returns c =
-    let n : ℕ = c.args.n in
-    let size : length (take n (replicate 24 0)) ≡ n = length-take n (replicate 24 0) ∙ omega arith in
-    let front : c.fill.new.self ≡ replicate n 0xb2aa_7578 = c.fill.ensures.after (λ y q. q) ∙ ap (λ (k : ℕ). replicate k 0xb2aa_7578) size in
-    filled n c.requires (sym zeros_value) (ap (λ (l : List ℕ). l ++ drop n (replicate 24 0)) front)
+    let l = c.loop-k in
+    let n = c.args.n in
+    let e : l.k ≡ n = omega arith in
+    filled n c.requires (sym zeros_value) (rw e at l.invariant.1)

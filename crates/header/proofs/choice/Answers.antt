@@ -1,18 +1,44 @@
-use Rattle.header.proofs.Tells.{not_ours}
-use Rattle.header.proofs.Choices.{newer_b, newer_a, lone_a, lone_b, neither}
+use Rattle.le.specs.Choice.{pick}
+use Rattle.header.specs.Copies.{choice_of}
 use Rattle.header.proofs.choice.Goals as goal
 
 pub returns-then-takes_b : goal.returns-then-takes_b
-returns-then-takes_b c = newer_b c.args.c c.in-Ours-b.is c.takes_b.ensures c.if-takes_b.true c.taken.ensures
+unfolding choice_of pick
+returns-then-takes_b c = rw (← c.takes_b.ensures, c.if-takes_b.true, ← c.is_ours-a.ensures) c.taken.ensures
 
-pub returns-else-takes_b : goal.returns-else-takes_b
-returns-else-takes_b c = newer_a c.args.c c.in-Ours.is c.takes_b.ensures c.if-takes_b.false c.taken-else-takes_b.ensures
+pub returns-then-a : goal.returns-then-a
+unfolding choice_of pick
+returns-then-a c =
+    rw (
+      ← c.takes_b.ensures,
+      c.if-takes_b.false,
+      ← c.is_ours-a.ensures,
+      c.if-a.true,
+      ← c.is_ours.ensures,
+    ) c.taken-then-a.ensures
 
-pub returns-in_default-b : goal.returns-in_default-b
-returns-in_default-b c = lone_a c.args.c c.in-Ours.is (not_ours c.args.c.b c.in_default-b.not-Ours) c.taken-in_default-b.ensures
+pub returns-then-is_damaged : goal.returns-then-is_damaged
+unfolding choice_of pick
+returns-then-is_damaged c =
+    rw (
+      ← c.takes_b.ensures,
+      c.if-takes_b.false,
+      ← c.is_ours-a.ensures,
+      c.if-a.false,
+      ← c.is_damaged.ensures,
+      ← c.is_damaged-2.ensures,
+      c.if-is_damaged.true,
+    ) c.no_current.ensures
 
-pub returns-in-Ours-b-2 : goal.returns-in-Ours-b-2
-returns-in-Ours-b-2 c = lone_b c.args.c c.in-Ours-b-2.is (not_ours c.args.c.a c.in_default.not-Ours) c.taken-in-Ours-b-2.ensures
-
-pub returns-in_default-b-2 : goal.returns-in_default-b-2
-returns-in_default-b-2 c = neither c.args.c (not_ours c.args.c.a c.in_default.not-Ours) (not_ours c.args.c.b c.in_default-b-2.not-Ours) c.refusal.ensures
+pub returns : goal.returns
+unfolding choice_of pick
+returns c =
+    rw (
+      ← c.takes_b.ensures,
+      c.if-takes_b.false,
+      ← c.is_ours-a.ensures,
+      c.if-a.false,
+      ← c.is_damaged.ensures,
+      ← c.is_damaged-2.ensures,
+      c.if-is_damaged.false,
+    ) c.no_current-2.ensures

@@ -1,30 +1,66 @@
-use mathlib.Core.Path.{◌≡◌, ◌∙◌}
-use borrow.Author.Rules.{rules}
 use borrow.Author.Tests.{lt-ltb, le-ltb}
-use Rattle.std.proofs.Common.{Err}
 use Rattle.le.specs.Choice.{pick}
 use Rattle.le.proofs.Turns.{told}
-use Rattle.medium.specs.Refusal.{on_value}
+use Rattle.medium.specs.Refusal.{on_done}
 use Rattle.header.specs.Copies.{headers_of}
+use Rattle.header.proofs.Ways.{Seen, foreign_a, unread_b, foreign_b, both}
 use Rattle.header.proofs.headers.Goals as goal
 
 pub returns-then-sectors-lt64 : goal.returns-then-sectors-lt64
 unfolding headers_of pick
-returns-then-sectors-lt64 c = rw (← c.sectors.ensures, lt-ltb _ _ c.if-sectors-lt64.true)
+returns-then-sectors-lt64 c = rw (← c.sectors.ensures, lt-ltb _ _ c.if-sectors-lt64.true) c.no_copies.ensures
 
-pub returns-in_err-a : goal.returns-in_err-a
-unfolding headers_of pick on_value
-returns-in_err-a c =
-    let e : c.from_residual.result ≡ Err c.in_err-a.field-0.0 = search rules in
-    e ∙ rw (← c.sectors.ensures, le-ltb _ _ c.if-sectors-lt64.false, told c.copy_at.ensures c.in_err-a.was)
+pub returns-in-Err : goal.returns-in-Err
+unfolding headers_of pick on_done
+returns-in-Err c =
+    rw (
+      ← c.sectors.ensures,
+      le-ltb _ _ c.if-sectors-lt64.false,
+      ← c.readable-ra.ensures,
+      c.in-Err.is,
+    ) c.no_copies-in-Err.ensures
 
-pub returns-in_err-b : goal.returns-in_err-b
-unfolding headers_of pick on_value
-returns-in_err-b c =
-    let e : c.from_residual-in_err-b.result ≡ Err c.in_err-b.field-0.0 = search rules in
-    e ∙ rw (← c.sectors.ensures, le-ltb _ _ c.if-sectors-lt64.false, told c.copy_at.ensures c.in_ok-a.was, told c.copy_at-2.ensures c.in_err-b.was)
+pub returns-then-is_foreign : goal.returns-then-is_foreign
+returns-then-is_foreign c =
+    let seen : Seen c.args.volume.now c.args.medium c.copy_at-a.result c.is_foreign.result = record {
+      enough = rw c.sectors.ensures at (le-ltb _ _ c.if-sectors-lt64.false);
+      reads = told c.readable-ra.ensures c.in_default.is;
+      copy = c.copy_at-a.ensures;
+      foreign = c.is_foreign.ensures;
+    } in
+    foreign_a seen c.if-is_foreign.true c.no_copies-then-is_foreign.ensures
+
+pub returns-in-Err-rb : goal.returns-in-Err-rb
+returns-in-Err-rb c =
+    let seen : Seen c.args.volume.now c.args.medium c.copy_at-a.result c.is_foreign.result = record {
+      enough = rw c.sectors.ensures at (le-ltb _ _ c.if-sectors-lt64.false);
+      reads = told c.readable-ra.ensures c.in_default.is;
+      copy = c.copy_at-a.ensures;
+      foreign = c.is_foreign.ensures;
+    } in
+    unread_b seen c.if-is_foreign.false c.readable-rb.ensures c.in-Err-rb.is
+    c.no_copies-in-Err-rb.ensures
+
+pub returns-then-is_foreign-2 : goal.returns-then-is_foreign-2
+returns-then-is_foreign-2 c =
+    let seen : Seen c.args.volume.now c.args.medium c.copy_at-a.result c.is_foreign.result = record {
+      enough = rw c.sectors.ensures at (le-ltb _ _ c.if-sectors-lt64.false);
+      reads = told c.readable-ra.ensures c.in_default.is;
+      copy = c.copy_at-a.ensures;
+      foreign = c.is_foreign.ensures;
+    } in
+    foreign_b seen c.if-is_foreign.false c.readable-rb.ensures
+    c.in_default-rb.is c.copy_at-b.ensures c.is_foreign-2.ensures c.if-is_foreign-2.true
+    c.no_copies-then-is_foreign-2.ensures
 
 pub returns : goal.returns
-unfolding headers_of pick on_value
 returns c =
-    rw (← c.sectors.ensures, le-ltb _ _ c.if-sectors-lt64.false, told c.copy_at.ensures c.in_ok-a.was, told c.copy_at-2.ensures c.in_ok-b.was)
+    let seen : Seen c.args.volume.now c.args.medium c.copy_at-a.result c.is_foreign.result = record {
+      enough = rw c.sectors.ensures at (le-ltb _ _ c.if-sectors-lt64.false);
+      reads = told c.readable-ra.ensures c.in_default.is;
+      copy = c.copy_at-a.ensures;
+      foreign = c.is_foreign.ensures;
+    } in
+    both seen c.if-is_foreign.false c.readable-rb.ensures
+    c.in_default-rb.is c.copy_at-b.ensures c.is_foreign-2.ensures
+    c.if-is_foreign-2.false

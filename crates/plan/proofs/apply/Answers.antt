@@ -26,7 +26,7 @@ put_link-requires-in-Extend c =
 pub mark-requires : goal.mark-requires
 mark-requires c =
     let f = (extend_fits c.args.chunks c.in-Extend.is c.requires.2) in
-    rw c.partial_link.ensures (
+    rw c.partial_link-old.ensures (
       omega (
         arith,
         c.put_link-in-Extend.auto,
@@ -61,7 +61,7 @@ returns-in-Extend c =
       c.in-Extend.is,
       ← c.plain_link-in-Extend.ensures,
       ← c.put_link-in-Extend.ensures,
-      ← c.partial_link.ensures,
+      ← c.partial_link-old.ensures,
     ) c.mark.ensures
 
 pub returns-in-Remove : goal.returns-in-Remove

@@ -7,6 +7,6 @@ pub returns-then-k-ge8 : goal.returns-then-k-ge8
 unfolding slot_cleared pick
 returns-then-k-ge8 c = rw (le-leb _ _ c.if-k-ge8.true) c.clear_links.ensures
 
-pub returns-else-k-ge8 : goal.returns-else-k-ge8
+pub returns : goal.returns
 unfolding slot_cleared pick
-returns-else-k-ge8 c = rw (lt-leb _ _ c.if-k-ge8.false) c.clear_file.ensures
+returns c = rw (lt-leb _ _ c.if-k-ge8.false) c.clear_file.ensures

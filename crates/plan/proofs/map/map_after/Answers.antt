@@ -6,8 +6,8 @@ use Rattle.plan.proofs.Laws.{create_fits, extend_fits, remove_fits}
 use Rattle.plan.proofs.Maps.{unfit_after, created_map, extended_map, removed_map}
 use Rattle.plan.proofs.map.map_after.Goals as goal
 
-pub returns-then-not-store : goal.returns-then-not-store
-returns-then-not-store c = unfit_after c.args.volume.now c.args.store _ _ c.requires.3 c.if-not-store.true
+pub returns-then-not-map : goal.returns-then-not-map
+returns-then-not-map c = unfit_after c.args.volume.now c.args.store _ _ c.requires.3 c.if-not-map.true
 
 pub taken-requires : goal.taken-requires
 taken-requires c =
@@ -31,14 +31,14 @@ returns-in-Format c =
 pub returns-in-Create : goal.returns-in-Create
 returns-in-Create c =
     let a = c.args in
-    created_map a.volume.now a.store _ a.edit c.if-not-store.false c.in-Create.is c.taken.ensures
+    created_map a.volume.now a.store _ a.edit c.if-not-map.false c.in-Create.is c.taken.ensures
 
 pub returns-in-Extend : goal.returns-in-Extend
 returns-in-Extend c =
     let a = c.args in
-    extended_map a.volume.now a.store _ a.edit c.if-not-store.false c.in-Extend.is c.taken-in-Extend.ensures
+    extended_map a.volume.now a.store _ a.edit c.if-not-map.false c.in-Extend.is c.taken-in-Extend.ensures
 
 pub returns-in-Remove : goal.returns-in-Remove
 returns-in-Remove c =
     let a = c.args in
-    removed_map a.volume.now a.store _ a.edit c.if-not-store.false c.in-Remove.is c.freed.ensures
+    removed_map a.volume.now a.store _ a.edit c.if-not-map.false c.in-Remove.is c.freed.ensures

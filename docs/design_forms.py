@@ -13,7 +13,6 @@ TYPE = re.compile(r"^((?:#\[[^\n]*\]\n)*)((?:pub(?:\(crate\))? )?(struct|enum|tr
 PARTS = ("Types", "Public functions", "Private functions", "Definitions", "Theorems")
 
 
-
 class Side:
     """A tree of sources: its items by part, and the types of each crate."""
 

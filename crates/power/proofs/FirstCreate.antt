@@ -1,6 +1,6 @@
 -- The first create after a format: where enough writes are left it is accepted, with one step that leaves no sector unwritten; with fewer it is refused
 -- with 4, and makes no step. Assumes nothing.
-use Rattle.std.specs.Prelude.{Ok, Result, Err}
+use Rattle.std.specs.Prelude.{Ok, Result, Err, None, Some}
 use Prim.Native.Nat.{ℕ, ◌+◌, ◌-◌, ◌%◌, ◌^◌, ◌≤◌, ◌<◌, zero-le}
 use mathlib.Core.Path.{◌≡◌, refl, sym, ap, subst, ◌∙◌}
 use mathlib.Core.Bool.{Bool, true, false}

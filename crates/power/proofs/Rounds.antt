@@ -1,6 +1,6 @@
 -- A round of create that finds the name new, in the book's words: with room for a file more it makes the file, where its commit is done; without, the
 -- oldest file of the rollover's directory is to go. And the free chunk, where there is one and where there is none. Assumes nothing.
-use Rattle.std.specs.Prelude.{Ok}
+use Rattle.std.specs.Prelude.{Ok, Option, None, Some}
 use Prim.Native.Nat.{ℕ, ◌-◌, ◌^◌, ◌<◌}
 use mathlib.Core.Path.{◌≡◌, refl, ap, ◌∙◌}
 use mathlib.Core.Logic.{◌⊎◌, inl, inr}

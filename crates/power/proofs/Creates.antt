@@ -17,6 +17,7 @@ use Rattle.medium.specs.Refusal.{on_done, outcome_of}
 use Rattle.medium.proofs.Laws.{on_done_keeps}
 use Rattle.handles.specs.declared.Store.{Store}
 use Rattle.directory.specs.declared.Seen.{Seen}
+use Rattle.directory.proofs.Decides.{on_free_keeps}
 use Rattle.directory.specs.Scan.{on_looked}
 use Rattle.table.specs.Table.{on_pick}
 use Rattle.table.specs.Free.{free_of}

@@ -78,7 +78,6 @@ module _ (vol : List ℕ) (m : Medium) (st : Store) (G : ℕ → List Segment) (
   ways P f n = rw found.1 (go found.0 found.2)
     where
       go : (old : StdOption Old) → Olds vol st dir spared 64 old → P (oldest_gone vol m st (Ok old))
-      unfolding oldest_gone
       go None o = n o
       go (Some old) o = f old o
 

@@ -131,11 +131,6 @@ module _ (vol : List ℕ) (m : Medium) (st : Store) (rd : Reader) {limit : ℕ} 
     unfolding hole_of on_result pick
     hole_end t = rw (← ends, ← asked, q, ← l, t)
 
-    pub hole_found : {a b : ℕ} {r : Reader} → (last && eqb to limit) ≡ false → a ≡ number_at rd.position st.head.chunk rd.index
-        → b ≡ number_at rd.position st.head.chunk to → r ≡ moved_to rd rd.position to → tells (Ok (found.Hole a b)) r ≡ hole_of vol m st rd
-    unfolding hole_of on_result pick
-    hole_found t u v w = rw (← ends, ← asked, q, ← l, t, u, v, w)
-
 -- ---- the record at the index
 
 -- its sector is one of the volume

@@ -12,7 +12,7 @@ use medium::Error;
 impl Reader {
     // The sector of record `number` is blank. The record is one of the reader's chunk.
     #[tactic(auto, unfolding(crate::specs::Blank::blank_at))]
-    fn is_blank(self, volume: &[u8], store: Store, number: u32) -> bool
+    fn blank_at(self, volume: &[u8], store: Store, number: u32) -> bool
         requires { (store_ok store (sectors_of volume.now) ≡ true) × (reader_ok self store ≡ true) }
         ensures { result ≡ blank_at volume.now store self number }
     {
@@ -27,7 +27,7 @@ impl Reader {
     {
         let mut blank = 0;
         for number in from..to {
-            blank += u32::from(self.is_blank(volume, store, number));
+            blank += u32::from(self.blank_at(volume, store, number));
         }
         blank
     }

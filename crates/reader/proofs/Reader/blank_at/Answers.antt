@@ -2,7 +2,7 @@ use native.Mathlib.Omega.{arith}
 use Rattle.handles.proofs.Laws.{store_facts}
 use Rattle.reader.proofs.Facts.{reader_facts}
 use Rattle.reader.proofs.Blanks.{blank_inside}
-use Rattle.reader.proofs.Reader.is_blank.Goals as goal
+use Rattle.reader.proofs.Reader.blank_at.Goals as goal
 
 pub nonzero_rem-number : goal.nonzero_rem-number
 nonzero_rem-number c =

@@ -15,6 +15,7 @@ use Rattle.le.proofs.Bools.{and_true, or_false}
 use Rattle.mix.specs.SplitMix.{folded, stage, split_mix}
 use Rattle.medium.specs.declared.Medium.{Medium}
 use Rattle.handles.specs.declared.Header.{Header}
+use Rattle.header.specs.declared.codec.Decoded.{Decoded}
 use Rattle.header.specs.declared.answers.Copies.{Copies}
 use Rattle.header.specs.Header.{ours}
 use Rattle.header.specs.Copies.{is_ours, head_a, head_b, both_of}

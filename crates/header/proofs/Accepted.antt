@@ -16,6 +16,8 @@ use Rattle.freemap.proofs.Rule.{ok_unfit}
 use Rattle.handles.specs.declared.Header.{Header}
 use Rattle.handles.specs.Handles.{base_of, sane_of, store_ok}
 use Rattle.handles.proofs.Laws.{store_ok_lem}
+use Rattle.header.specs.declared.answers.Mounted.{Mounted}
+use Rattle.header.specs.declared.codec.Decoded.{Decoded}
 use Rattle.header.specs.declared.answers.Copies.{Copies}
 use Rattle.header.specs.declared.answers.Current.{Current}
 use Rattle.header.specs.Header.{ours, Bytes, InRange}

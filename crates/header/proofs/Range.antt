@@ -19,6 +19,7 @@ use Rattle.seal.specs.Seal.{is_sealed}
 use Rattle.handles.specs.declared.Header.{Header}
 use Rattle.handles.specs.Handles.{body_of, sane_of}
 use Rattle.handles.proofs.Laws.{sane_facts}
+use Rattle.header.specs.declared.codec.Decoded.{Decoded}
 use Rattle.header.specs.declared.codec.Replica.TheVariants.{Foreign, Damaged, Absent}
 use Rattle.header.specs.Header.{magic, fixed_ok, numbers_at, crcs_of, head_of, ours, bare, decode_of, Bytes, InRange}
 use Rattle.header.specs.Copies.{is_ours}

@@ -7,6 +7,7 @@ use Rattle.medium.specs.declared.Medium.{Medium}
 use Rattle.medium.specs.Sector.{read_of}
 use Rattle.medium.proofs.Laws.{on_done_keeps}
 use Rattle.medium.proofs.Stale.{NotStale, no_stale, read_not_stale}
+use Rattle.header.specs.declared.answers.Mounted.{Mounted}
 use Rattle.header.specs.declared.answers.Copies.{Copies}
 use Rattle.header.specs.declared.answers.Current.{Current}
 use Rattle.header.specs.Copies.{headers_of, taken_of, no_current, choice_of, current_of, mount_of}

@@ -17,6 +17,7 @@ use Rattle.medium.specs.Sector.{sectors_of, read_of}
 use Rattle.handles.specs.declared.Header.{Header}
 use Rattle.handles.specs.Handles.{body_of, sane_of}
 use Rattle.handles.proofs.Laws.{sane_facts}
+use Rattle.header.specs.declared.codec.Decoded.{Decoded}
 use Rattle.header.specs.declared.answers.Copies.{Copies}
 use Rattle.header.specs.declared.codec.Replica.TheVariants.{Ours, Foreign, Damaged, Absent}
 use Rattle.header.specs.Header.{magic, fixed_ok, crcs_of, head_of, with_crcs, ours, bare, decode_of}

@@ -14,6 +14,8 @@ use Rattle.medium.specs.Sector.{sectors_of, sector_at, read_of}
 use Rattle.freemap.specs.Map.{unfit_of}
 use Rattle.handles.specs.declared.Header.{Header}
 use Rattle.handles.specs.Handles.{blank_of, no_store}
+use Rattle.header.specs.declared.codec.Decoded.{Decoded}
+use Rattle.header.specs.declared.answers.Mounted.{Mounted}
 use Rattle.header.specs.declared.codec.Replica.{Replica}
 use Rattle.header.specs.declared.codec.Replica.TheVariants.{Ours, Foreign, Damaged, Absent}
 use Rattle.header.specs.declared.answers.Copies.{Copies}

@@ -11,6 +11,7 @@ use Rattle.runs.specs.Run.{starts_with, all_zero}
 use Rattle.seal.specs.Seal.{sealed, is_sealed}
 use Rattle.handles.specs.declared.Header.{Header}
 use Rattle.handles.specs.Handles.{table_of, body_of, sane_of, blank_of}
+use Rattle.header.specs.declared.codec.Decoded.{Decoded}
 use Rattle.header.specs.declared.codec.Replica.{Replica}
 use Rattle.header.specs.declared.codec.Replica.TheVariants.{Ours, Foreign, Damaged, Absent}
 

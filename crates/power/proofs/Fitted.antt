@@ -20,6 +20,7 @@ use Rattle.handles.specs.declared.Writer.{Writer}
 use Rattle.handles.specs.Body.{body_at}
 use Rattle.handles.specs.Handles.{blank_of, no_store}
 use Rattle.handles.proofs.Laws.{store_facts, base_most}
+use Rattle.header.specs.declared.answers.Mounted.{Mounted}
 use Rattle.header.specs.Copies.{current_of, mount_of}
 use Rattle.header.specs.Header.{InRange}
 use Rattle.table.proofs.Tells.{Mapped}

@@ -16,6 +16,7 @@ use Rattle.handles.specs.Handles.{no_store, is_open, open_file, open_id}
 use Rattle.directory.specs.Scan.{find_of}
 use Rattle.directory.proofs.Ranges.{find_name}
 use Rattle.directory.proofs.Decides.{on_found_keeps}
+use Rattle.header.specs.declared.answers.Mounted.{Mounted}
 use Rattle.header.specs.Copies.{current_of, mount_of}
 use Rattle.plan.specs.Copy.{Skipped, Step, deleted, Out, steps_of}
 use Rattle.format.specs.Format.{format_of}

@@ -17,6 +17,7 @@ use Rattle.handles.specs.declared.Store.{Store}
 use Rattle.handles.specs.Body.{body_at}
 use Rattle.handles.specs.Handles.{table_of, body_of, base_of}
 use Rattle.handles.proofs.Laws.{sane_facts}
+use Rattle.header.specs.declared.answers.Mounted.{Mounted}
 use Rattle.header.specs.declared.answers.Copies.{Copies}
 use Rattle.header.specs.declared.answers.Current.{Current}
 use Rattle.header.specs.Header.{Bytes}

@@ -23,6 +23,7 @@ use Rattle.handles.specs.declared.Header.{Header}
 use Rattle.handles.specs.declared.Store.{Store}
 use Rattle.handles.specs.Body.{body_at}
 use Rattle.handles.specs.Handles.{body_of, base_of}
+use Rattle.header.specs.declared.codec.Decoded.{Decoded}
 use Rattle.header.specs.declared.answers.Current.{Current}
 use Rattle.header.specs.Header.{ours}
 use Rattle.header.specs.Copies.{is_ours, copy_of, same_store, taken_of, current_of}

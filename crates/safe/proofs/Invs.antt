@@ -24,6 +24,7 @@ use Rattle.handles.specs.declared.Store.{Store}
 use Rattle.handles.specs.Handles.{body_of, base_of, store_ok}
 use Rattle.handles.proofs.Laws.{Held, store_facts, store_ok_lem, base_most}
 use Rattle.handles.specs.Body.{body_at, check_of}
+use Rattle.header.specs.declared.codec.Decoded.{Decoded}
 use Rattle.header.specs.declared.codec.Replica.TheVariants.{Absent}
 use Rattle.header.specs.Header.{ours, bare, decode_of, Bytes}
 use Rattle.header.specs.Copies.{copy_of, same_store, mount_of}

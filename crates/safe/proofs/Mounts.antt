@@ -16,6 +16,7 @@ use Rattle.freemap.specs.Map.{unfit_of}
 use Rattle.handles.specs.declared.Header.{Header}
 use Rattle.handles.specs.Handles.{base_of}
 use Rattle.handles.proofs.Laws.{base_most}
+use Rattle.header.specs.declared.codec.Decoded.{Decoded}
 use Rattle.header.specs.declared.codec.Replica.TheVariants.{Absent}
 use Rattle.header.specs.Header.{ours, bare, decode_of}
 use Rattle.header.specs.Copies.{is_ours, copy_of, mount_of}

@@ -13,6 +13,7 @@ use Rattle.medium.specs.Sector.{sectors_of}
 use Rattle.handles.specs.declared.Header.{Header}
 use Rattle.handles.specs.Handles.{base_of}
 use Rattle.handles.proofs.Laws.{base_most, sane_facts}
+use Rattle.header.specs.declared.codec.Decoded.{Decoded}
 use Rattle.header.specs.declared.codec.Replica.TheVariants.{Absent}
 use Rattle.header.specs.Header.{ours, bare, Bytes, InRange}
 use Rattle.header.specs.Copies.{copy_of}

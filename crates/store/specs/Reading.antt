@@ -9,6 +9,7 @@ use Rattle.medium.specs.declared.Error.TheVariants as no
 use Rattle.medium.specs.declared.Medium.{Medium}
 use Rattle.medium.specs.Refusal.{Answer, ok, refused, number_of, on_done, outcome_of}
 use Rattle.handles.specs.declared.Store.{Store}
+use Rattle.header.specs.declared.answers.Mounted.{Mounted}
 use Rattle.header.specs.Copies.{mount_of}
 use Rattle.directory.specs.declared.Found.{Found}
 use Rattle.directory.specs.Scan.{find_of, find_id_of, on_found, found_at}

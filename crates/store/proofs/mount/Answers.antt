@@ -1,6 +1,7 @@
 use mathlib.Core.Path.{sym, ap, ◌∙◌}
 use Rattle.medium.specs.Refusal.{on_done}
 use Rattle.handles.proofs.Laws.{store_facts}
+use Rattle.header.specs.declared.answers.Mounted.{Mounted}
 use Rattle.header.proofs.Accepted.{mount_ok}
 use Rattle.store.specs.Reading.{mount_call}
 use Rattle.store.proofs.mount.Goals as goal

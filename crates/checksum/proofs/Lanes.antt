@@ -8,7 +8,7 @@ use native.Mathlib.Omega.{arith}
 use lib.Bits.{bit_xor, xor_zero_r}
 use borrow.Author.Count.{below_more}
 use lib.ListN.{length, get_or, set, take, drop, replicate, length-drop, take-append-drop, drop_of_length-le}
-use lib.Seq.{take_all, take-suc, get_or-drop, drop-drop, drop-cons, get_or-set_same, get_or-set_other}
+use lib.Seq.{take_all, take-suc, take-add, get_or-drop, drop-drop, drop-cons, get_or-set_same, get_or-set_other}
 use Rattle.checksum.specs.Crc.{bit_steps, byte_step, crc_from}
 use Rattle.checksum.specs.Lanes.{lane_bits, joined}
 use Rattle.std.specs.Int.Bits.{xor_assoc}
@@ -30,6 +30,14 @@ byte_after c o i at s r l ea h es er =
 -- the first n bytes, and then what is left
 pub part_first : (c n : ℕ) (l : List ℕ) → crc_from (crc_from c (take n l)) (drop n l) ≡ crc_from c l
 part_first c n l = sym (from_append c (take n l) (drop n l)) ∙ ap (crc_from c) (take-append-drop n l)
+
+-- a part of n bytes after the first ones, up to e
+pub part_after : (c s r at n e : ℕ) (l : List ℕ) → at + n ≡ e → s ≡ crc_from c (take at l) → r ≡ crc_from s (take n (drop at l)) → r ≡ crc_from c (take e l)
+part_after c s r at n e l ee es er =
+    er
+    ∙ ap (λ (x : ℕ). crc_from x (take n (drop at l))) es
+    ∙ sym (from_append c (take at l) (take n (drop at l)))
+    ∙ ap (crc_from c) (sym (take-add at n l) ∙ ap (λ (k : ℕ). take k l) ee)
 
 -- ---- the lanes of a block
 

@@ -3,3 +3,4 @@ pub mod Zeros
 pub mod Laws
 pub mod Edges
 pub mod Dots
+pub mod Passes

@@ -1,10 +1,7 @@
+use Rattle.std.proofs.Common.{[], ◌∷◌}
 use Rattle.bridge.specs.Numbers.{reader_words}
 use Rattle.bridge.proofs.numbers.reader_words.Goals as goal
 
-pub returns-in-Last : goal.returns-in-Last
+pub returns : goal.returns
 unfolding reader_words
-returns-in-Last c = rw c.in-Last.is
-
-pub returns-in-Records : goal.returns-in-Records
-unfolding reader_words
-returns-in-Records c = rw c.in-Records.is
+returns c = let r = c.args.r in rw (c.end_numbers-known.ensures (r.position ∷ r.index ∷ []))

@@ -1,24 +1,12 @@
 -- The row of a store value: the map's words stand after its other numbers. Assumes nothing.
-use Rattle.std.specs.Prelude.{None, Option, Some}
-use mathlib.Core.Path.{◌≡◌, refl, sym, ap, ◌∙◌}
-use mathlib.Core.List.{List, [], ◌∷◌, ◌++◌}
-use Prim.Native.Nat.{ℕ, ◌+◌}
-use native.Mathlib.Nat.{zero-add}
-use native.Mathlib.Omega.{arith}
-use lib.ListN.{length, length-append, get_or}
-use Rattle.le.specs.Part.{part, over}
-use Rattle.le.proofs.Parts.{length_part, over_whole, over_over}
+use Rattle.std.proofs.Common.{◌≡◌, ℕ, List, [], ◌≤◌, ◌++◌, length, take, drop, refl, sym, ap, ◌∙◌, arith, append-nil, length-append, length-drop}
+use lib.ListN.{drop_of_length-le}
+use lib.Seq.{take_all, take-append-le}
+use borrow.Rule.Slice.PartMut.{put_mid}
 use Rattle.handles.specs.declared.Store.{Store}
 use Rattle.handles.specs.declared.Writer.{Writer}
-use Rattle.bridge.specs.Numbers.{writer_words, row_words}
-
-pub words_in : (w l : List ℕ) → length w ≡ 43 → length l ≡ 32 → over 0 (part 11 32 w) l ≡ part 11 32 w
-words_in w l h k = over_whole (part 11 32 w) l (length_part 11 32 w (omega arith) ∙ sym k)
-
--- the writer's words, one by one
-pub words_of : (w : Option Writer) (l : List ℕ) → writer_words w l ≡ get_or (writer_words w []) 0 0 ∷ get_or (writer_words w []) 1 0 ∷ get_or (writer_words w []) 2 0 ∷ l
-words_of None l = refl
-words_of (Some w) l = refl
+use Rattle.std.specs.Prelude.{None, Option, Some}
+use Rattle.bridge.specs.Numbers.{row_words, store_words}
 
 row_length : (s : Store) (o : Option Writer) → s.writer ≡ o → length (row_words s []) ≡ 11
 unfolding row_words
@@ -30,13 +18,15 @@ unfolding row_words
 row_join s ws None e = rw (e)
 row_join s ws (Some w) e = rw (e)
 
--- the two parts written over a row are all of it
-pub row_all : (s : Store) (ws l : List ℕ) → length ws ≡ 32 → length l ≡ 43 → over 11 ws (over 0 (row_words s []) l) ≡ row_words s ws
-row_all s ws l h k =
-    let r : List ℕ = row_words s [] in
-    let n : length r ≡ 11 = row_length s s.writer refl in
-    let e : 0 + length r ≡ 11 = zero-add (length r) ∙ n in
-    ap (λ (o : ℕ). over o ws (over 0 r l)) (sym e)
-    ∙ over_over 0 r ws l (omega arith)
-    ∙ over_whole (r ++ ws) l (length-append r ws ∙ omega arith)
-    ∙ row_join s ws s.writer refl
+-- a row with its first 11 numbers in place, and the others written over the rest
+two_parts : (r z ws : List ℕ) → length r ≡ 11 → length z ≡ 32 → put_mid 11 32 (r ++ z) ws ≡ r ++ ws
+two_parts r z ws n k =
+    let first : take 11 (r ++ z) ≡ r = take-append-le 11 r z (omega (arith, n)) ∙ take_all 11 r (omega (arith, n)) in
+    let few : length (drop 11 (r ++ z)) ≤ 32 = omega (arith, length-drop 11 (r ++ z), length-append r z, n, k) in
+    let rest : drop 32 (drop 11 (r ++ z)) ≡ [] = drop_of_length-le (drop 11 (r ++ z)) few in
+    rw (first, rest, append-nil)
+
+-- the two parts are all of it
+pub row_all : (s : Store) (z : List ℕ) {r ws : List ℕ} → r ≡ row_words s [] → ws ≡ s.free.words → length z ≡ 32 → put_mid 11 32 (r ++ z) ws ≡ store_words s
+unfolding store_words
+row_all s z e f k = rw (e, f) (two_parts (row_words s []) z s.free.words (row_length s s.writer refl) k ∙ row_join s s.free.words s.writer refl)

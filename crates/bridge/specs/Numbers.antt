@@ -1,9 +1,10 @@
 -- The numbers in which answers, handles and the medium record cross to another language. Assumes nothing.
-use Rattle.std.specs.Prelude.{None, Option, Some, ℕ, ◌%◌, Bool, true, false, not, List, [], ◌∷◌, eqb, get_or}
+use Rattle.std.specs.Prelude.{None, Option, Some, ℕ, ◌%◌, Bool, true, false, not, List, [], ◌∷◌, eqb, get_or, Result, Ok, Err}
 use Rattle.le.specs.Choice.{pick}
 use Rattle.le.specs.Part.{part}
 use Rattle.medium.specs.declared.Medium.{Medium}
-use Rattle.medium.specs.Refusal.{Answer, ok, refused}
+use Rattle.medium.specs.declared.Error.{Error}
+use Rattle.medium.specs.Refusal.{Answer, ok, refused, number_of}
 use Rattle.freemap.specs.declared.FreeMap.{FreeMap}
 use Rattle.handles.specs.declared.Header.{Header}
 use Rattle.handles.specs.Handles.{opened_by}
@@ -16,6 +17,11 @@ use Rattle.reader.specs.Calls.{Item, payload, hole, end}
 abbrev pub code_of : {A : Type 0} → Answer A → ℕ
 code_of (ok a) = 0
 code_of (refused n) = n
+
+-- the same of what the code answers
+abbrev pub refusal_of : {A : Type 0} → Result A Error → ℕ
+refusal_of (Ok a) = 0
+refusal_of (Err e) = number_of e
 
 -- the low 32 bits
 abbrev pub narrow_of : ℕ → ℕ

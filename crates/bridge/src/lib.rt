@@ -24,12 +24,8 @@ pub fn port_mount(
 ) -> u32
     ensures { (result, store.new, crcs.new, medium.new) ≡ mount_at volume.now medium.old }
 {
-    let m = *medium;
-    let r = store::mount(volume, numbers::medium_in(m));
-    numbers::put_store(r.store, store, crcs);
-    *medium = numbers::medium_words(r.medium);
-    let o = r.outcome;
-    numbers::code(o)
+    let r = store::mount(volume, numbers::medium_in(*medium));
+    numbers::put_told(r, store, crcs, medium)
 }
 
 // Answer: how many chunks are free (S-3).
@@ -43,14 +39,14 @@ pub fn port_free_count(
     ensures { (result, answer.new, medium.new)
         ≡ free_count_at volume.now medium.old store.now crcs.now }
 {
-    let m = *medium;
-    let w = *store;
-    let c = *crcs;
-    let r = store::free_count(volume, numbers::medium_in(m), numbers::store_in(w, c));
+    let r = store::free_count(
+        volume,
+        numbers::medium_in(*medium),
+        numbers::store_in(*store, *crcs),
+    );
     *medium = numbers::medium_words(r.medium);
-    let n = r.count;
-    *answer = numbers::count_words(n);
-    numbers::count_code(n)
+    *answer = numbers::count_words(r.count);
+    numbers::count_code(r.count)
 }
 
 // Answer: the slot and the file id.
@@ -65,14 +61,15 @@ pub fn port_find(
     ensures { (result, answer.new, medium.new)
         ≡ find_at volume.now medium.old store.now crcs.now name.now }
 {
-    let m = *medium;
-    let w = *store;
-    let c = *crcs;
-    let r = store::find(volume, numbers::medium_in(m), numbers::store_in(w, c), name);
+    let r = store::find(
+        volume,
+        numbers::medium_in(*medium),
+        numbers::store_in(*store, *crcs),
+        name,
+    );
     *medium = numbers::medium_words(r.medium);
-    let f = r.found;
-    *answer = numbers::found_words(f);
-    numbers::found_code(f)
+    *answer = numbers::found_words(r.found);
+    numbers::found_code(r.found)
 }
 
 // Answer: the number of rows, also where it is refused.
@@ -90,21 +87,17 @@ pub fn port_list(
         ≡ list_at volume.now medium.old store.now crcs.now dir.now
         counts.old rows.old }
 {
-    let m = *medium;
-    let w = *store;
-    let c = *crcs;
     let r = store::list(
         volume,
-        numbers::medium_in(m),
-        numbers::store_in(w, c),
+        numbers::medium_in(*medium),
+        numbers::store_in(*store, *crcs),
         dir,
         counts,
         rows,
     );
     *medium = numbers::medium_words(r.medium);
     *answer = [r.count as u64, 0, 0];
-    let o = r.outcome;
-    numbers::code(o)
+    numbers::code(r.outcome)
 }
 
 // The reader is all zeros where it is refused.
@@ -119,14 +112,15 @@ pub fn port_reader(
     ensures { (result, reader.new, medium.new)
         ≡ reader_at volume.now medium.old store.now crcs.now name.now }
 {
-    let m = *medium;
-    let w = *store;
-    let c = *crcs;
-    let r = store::reader(volume, numbers::medium_in(m), numbers::store_in(w, c), name);
+    let r = store::reader(
+        volume,
+        numbers::medium_in(*medium),
+        numbers::store_in(*store, *crcs),
+        name,
+    );
     *medium = numbers::medium_words(r.medium);
     *reader = numbers::reader_words(r.reader);
-    let o = r.outcome;
-    numbers::code(o)
+    numbers::code(r.outcome)
 }
 
 // Answer: 0 the end; 1 and the payload's length; 2 and a hole's first record, the one past it and how many of its sectors are blank.
@@ -142,17 +136,17 @@ pub fn port_next(
     ensures { (result, answer.new, reader.new, out.new, medium.new)
         ≡ next_at volume.now medium.old store.now crcs.now reader.old out.old }
 {
-    let m = *medium;
-    let w = *store;
-    let c = *crcs;
-    let d = *reader;
-    let rd = numbers::reader_in(d);
-    let r = rd.next(volume, numbers::medium_in(m), numbers::store_in(w, c), out);
+    let rd = numbers::reader_in(*reader);
+    let r = rd.next(
+        volume,
+        numbers::medium_in(*medium),
+        numbers::store_in(*store, *crcs),
+        out,
+    );
     *medium = numbers::medium_words(r.medium);
     *reader = numbers::reader_words(r.reader);
-    let n = r.next;
-    *answer = numbers::next_words(n);
-    numbers::next_code(n)
+    *answer = numbers::next_words(r.next);
+    numbers::next_code(r.next)
 }
 
 pub fn port_seek(
@@ -166,21 +160,16 @@ pub fn port_seek(
     ensures { (result, reader.new, medium.new)
         ≡ seek_at volume.now medium.old store.now crcs.now reader.old «record» }
 {
-    let m = *medium;
-    let w = *store;
-    let c = *crcs;
-    let d = *reader;
-    let rd = numbers::reader_in(d);
+    let rd = numbers::reader_in(*reader);
     let r = rd.seek(
         volume,
-        numbers::medium_in(m),
-        numbers::store_in(w, c),
+        numbers::medium_in(*medium),
+        numbers::store_in(*store, *crcs),
         record,
     );
     *medium = numbers::medium_words(r.medium);
     *reader = numbers::reader_words(r.reader);
-    let o = r.outcome;
-    numbers::code(o)
+    numbers::code(r.outcome)
 }
 
 // Answer: the number of the record that comes next.
@@ -192,11 +181,8 @@ pub fn port_record(
 ) -> u32
     ensures { (result, answer.new) ≡ record_at store.now crcs.now reader.now }
 {
-    let w = *store;
-    let c = *crcs;
-    let d = *reader;
-    let rd = numbers::reader_in(d);
-    let n = rd.record(numbers::store_in(w, c));
+    let rd = numbers::reader_in(*reader);
+    let n = rd.record(numbers::store_in(*store, *crcs));
     *answer = numbers::numbered_words(n);
     numbers::numbered_code(n)
 }

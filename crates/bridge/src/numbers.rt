@@ -1,17 +1,17 @@
 // Handles, the medium record and answers as rows of numbers, and back.
-ghost use Rattle.std.specs.Prelude.{◌≡◌, [], ◌+◌, ◌≤◌, length};
-ghost use Rattle.le.specs.Part.{over};
-ghost use Rattle.medium.specs.Refusal.{outcome_of};
-ghost use Rattle.store.specs.Reading.{count_answer, found_answer};
+ghost use Rattle.std.specs.Prelude.{◌≡◌, ℕ, List, [], ◌∷◌};
+ghost use Rattle.store.specs.Reading.{store_answer, count_answer, found_answer};
 ghost use Rattle.reader.specs.Calls.{next_answer, numbered_answer};
-ghost use Rattle.bridge.specs.Numbers.{code_of, narrow_of, medium_of, medium_words, writer_of, writer_words, map_in, store_of, flag_of, row_words, store_words};
-ghost use Rattle.bridge.specs.Numbers.{end_at, reader_of, reader_words, found_words, item_words, number_words};
+ghost use Rattle.bridge.specs.Numbers.{code_of, refusal_of, narrow_of, medium_of, medium_words, writer_of, map_in, store_of, flag_of, writer_words, row_words, store_words};
+ghost use Rattle.bridge.specs.Numbers.{end_at, reader_of, end_words, reader_words, found_words, item_words, number_words};
+ghost use Rattle.bridge.specs.Calls.{mount_words};
 
 use directory::Found;
 use freemap::FreeMap;
 use handles::{Header, Store, Writer};
 use medium::{Error, Medium};
 use reader::{Next, Reader};
+use store::StoreAnswer;
 
 // The low 32 bits.
 pub fn narrow(x: u64) -> u32
@@ -41,20 +41,12 @@ fn writer_in(kind: u64, token: u64, id: u64) -> Option<Writer>
     ensures { result ≡ writer_of kind token id }
 {
     if kind == 0 {
-        return None;
-    }
-    Some(Writer {
-        token: narrow(token),
-        id: narrow(id),
-    })
-}
-
-fn put_words(dst: &mut [u64], at: usize, src: &[u64])
-    requires { at + length src.now ≤ length dst.old }
-    ensures { dst.new ≡ over at src.now dst.old }
-{
-    for i in 0..src.len() {
-        dst[at + i] = src[i];
+        None
+    } else {
+        Some(Writer {
+            token: narrow(token),
+            id: narrow(id),
+        })
     }
 }
 
@@ -62,7 +54,7 @@ fn map_in(w: [u64; 43]) -> FreeMap
     ensures { result ≡ map_in w }
 {
     let mut words = [0u64; 32];
-    put_words(&mut words, 0, &w[11..43]);
+    words.copy_from_slice(&w[11..]);
     FreeMap {
         fit: w[10] != 0,
         words,
@@ -81,32 +73,27 @@ pub fn store_in(w: [u64; 43], crcs: [u32; 24]) -> Store
         chunk: narrow(w[6]),
         crcs,
     };
-    let writer = writer_in(w[7], w[8], w[9]);
-    let free = map_in(w);
     Store {
         copy: w[0],
         head,
-        writer,
-        free,
+        writer: writer_in(w[7], w[8], w[9]),
+        free: map_in(w),
     }
 }
 
 pub fn flag(b: bool) -> u64
     ensures { result ≡ flag_of b }
 {
-    if b {
-        return 1;
-    }
-    0
+    if b { 1 } else { 0 }
 }
 
-// Whether there is a writer, its token and its file's id: zeros where there is none.
-fn writer_words(writer: Option<Writer>) -> [u64; 3]
-    ensures { result ≡ writer_words writer [] }
+// Whether an appender is open, its token and its file's id.
+fn writer_numbers(writer: Option<Writer>) -> (u64, u64, u64)
+    ensures { (l : List ℕ) → writer_words writer l ≡ result.0 ∷ result.1 ∷ result.2 ∷ l }
 {
     match writer {
-        None => [0, 0, 0],
-        Some(open) => [1, open.token as u64, open.id as u64],
+        None => (0, 0, 0),
+        Some(open) => (1, open.token as u64, open.id as u64),
     }
 }
 
@@ -114,7 +101,7 @@ fn writer_words(writer: Option<Writer>) -> [u64; 3]
 fn row(s: Store) -> [u64; 11]
     ensures { result ≡ row_words s [] }
 {
-    let [kind, token, id] = writer_words(s.writer);
+    let (open, token, id) = writer_numbers(s.writer);
     [
         s.copy,
         s.head.id,
@@ -123,7 +110,7 @@ fn row(s: Store) -> [u64; 11]
         s.head.cursor as u64,
         s.head.chunks as u64,
         s.head.chunk as u64,
-        kind,
+        open,
         token,
         id,
         flag(s.free.fit),
@@ -133,12 +120,9 @@ fn row(s: Store) -> [u64; 11]
 pub fn store_words(s: Store) -> [u64; 43]
     ensures { result ≡ store_words s }
 {
-    let first = row(s);
-    let map = s.free;
-    let words = map.words;
     let mut w = [0u64; 43];
-    put_words(&mut w, 0, &first);
-    put_words(&mut w, 11, &words);
+    w[..11].copy_from_slice(&row(s));
+    w[11..].copy_from_slice(&s.free.words);
     w
 }
 
@@ -146,20 +130,32 @@ pub fn store_words(s: Store) -> [u64; 43]
 pub fn put_store(s: Store, store: &mut [u64; 43], crcs: &mut [u32; 24])
     ensures { (store.new ≡ store_words s) × (crcs.new ≡ s.head.crcs) }
 {
-    let h = s.head;
-    let c = h.crcs;
-    *crcs = c;
+    crcs.copy_from_slice(&s.head.crcs);
     *store = store_words(s);
 }
 
 // 0, or the number of a refusal.
-pub fn code(o: Result<(), Error>) -> u32
-    ensures { result ≡ code_of (outcome_of o) }
+pub fn code<T: Drop>(r: Result<T, Error>) -> u32
+    ensures { result ≡ refusal_of r }
 {
-    match o {
-        Ok(()) => 0,
+    match r {
+        Ok(_) => 0,
         Err(e) => medium::number(e),
     }
+}
+
+// What a call answers of a store over what was lent for it, and the call's number.
+pub fn put_told(
+    r: StoreAnswer,
+    store: &mut [u64; 43],
+    crcs: &mut [u32; 24],
+    medium: &mut [u64; 4],
+) -> u32
+    ensures { (result, store.new, crcs.new, medium.new) ≡ mount_words (store_answer r) }
+{
+    put_store(r.store, store, crcs);
+    *medium = medium_words(r.medium);
+    code(r.outcome)
 }
 
 // 0, or the number of a refusal of `free_count`.
@@ -205,15 +201,15 @@ fn end_in(kind: u64, records: u64) -> Option<u32>
     ensures { result ≡ end_at kind records }
 {
     if kind == 0 {
-        return None;
+        None
+    } else {
+        Some(narrow(records))
     }
-    Some(narrow(records))
 }
 
 pub fn reader_in(w: [u64; 10]) -> Reader
     ensures { result ≡ reader_of w }
 {
-    let end = end_in(w[6], w[7]);
     Reader {
         store: w[0],
         generation: w[1],
@@ -221,41 +217,38 @@ pub fn reader_in(w: [u64; 10]) -> Reader
         id: narrow(w[3]),
         chunks: narrow(w[4]),
         chunk: narrow(w[5]),
-        end,
+        end: end_in(w[6], w[7]),
         position: narrow(w[8]),
         index: narrow(w[9]),
+    }
+}
+
+// Whether the chunk is other than the last of its file, and the records before its end.
+fn end_numbers(end: Option<u32>) -> (u64, u64)
+    ensures { (l : List ℕ) → end_words end l ≡ result.0 ∷ result.1 ∷ l }
+{
+    match end {
+        None => (0, 0),
+        Some(n) => (1, n as u64),
     }
 }
 
 pub fn reader_words(r: Reader) -> [u64; 10]
     ensures { result ≡ reader_words r }
 {
-    match r.end {
-        None => [
-            r.store,
-            r.generation,
-            r.slot as u64,
-            r.id as u64,
-            r.chunks as u64,
-            r.chunk as u64,
-            0,
-            0,
-            r.position as u64,
-            r.index as u64,
-        ],
-        Some(n) => [
-            r.store,
-            r.generation,
-            r.slot as u64,
-            r.id as u64,
-            r.chunks as u64,
-            r.chunk as u64,
-            1,
-            n as u64,
-            r.position as u64,
-            r.index as u64,
-        ],
-    }
+    let (known, records) = end_numbers(r.end);
+    [
+        r.store,
+        r.generation,
+        r.slot as u64,
+        r.id as u64,
+        r.chunks as u64,
+        r.chunk as u64,
+        known,
+        records,
+        r.position as u64,
+        r.index as u64,
+    ]
 }
 
 // 0, or the number of a refusal of `next`.

@@ -38,23 +38,21 @@ pub extern "C" fn port_set_point(
     )
         ≡ set_at volume.old medium.old store.old crcs.old point.now name.now }
 {
-    let m = *medium;
-    let w = *store;
-    let c = *crcs;
     let r = points::set_point(
         volume,
-        numbers::medium_in(m),
-        numbers::store_in(w, c),
+        numbers::medium_in(*medium),
+        numbers::store_in(*store, *crcs),
         point,
         name,
     );
     numbers::put_store(r.store, store, crcs);
     *medium = numbers::medium_words(r.medium);
-    appenders::put_appender(r.appender, appender, buffer, over);
-    let opened = numbers::flag(r.opened);
-    *answer = [r.number as u64, opened, 0];
-    let o = r.outcome;
-    numbers::code(o)
+    let own = r.appender.unwrap_or(append::no_appender());
+    appenders::put_appender(own, appender, buffer, over);
+    let number = r.outcome.unwrap_or(0);
+    let opened = numbers::flag(r.appender.is_some());
+    *answer = [number as u64, opened, 0];
+    numbers::code(r.outcome)
 }
 
 // Refused, the reader is all zeros, and so is the number.
@@ -71,19 +69,15 @@ pub extern "C" fn port_read_point(
     ensures { (result, reader.new, limit.new, medium.new)
         ≡ point_at volume.now medium.old store.now crcs.now point.now }
 {
-    let m = *medium;
-    let w = *store;
-    let c = *crcs;
     let r = points::read_point(
         volume,
-        numbers::medium_in(m),
-        numbers::store_in(w, c),
+        numbers::medium_in(*medium),
+        numbers::store_in(*store, *crcs),
         point,
     );
     *medium = numbers::medium_words(r.medium);
-    uptos::put_upto(r.upto, reader, limit);
-    let o = r.outcome;
-    numbers::code(o)
+    uptos::put_upto(uptos::or_none(r.upto), reader, limit);
+    numbers::code(r.upto)
 }
 
 // Answer: as of next.
@@ -102,16 +96,15 @@ pub extern "C" fn port_upto_next(
         ≡ below_at volume.now medium.old store.now crcs.now reader.old
         limit.old out.old }
 {
-    let m = *medium;
-    let w = *store;
-    let c = *crcs;
-    let d = *reader;
-    let l = *limit;
-    let u = uptos::upto_in(d, l);
-    let r = u.next(volume, numbers::medium_in(m), numbers::store_in(w, c), out);
+    let u = uptos::upto_in(*reader, *limit);
+    let r = u.next(
+        volume,
+        numbers::medium_in(*medium),
+        numbers::store_in(*store, *crcs),
+        out,
+    );
     *medium = numbers::medium_words(r.medium);
     uptos::put_upto(r.upto, reader, limit);
-    let n = r.next;
-    *answer = numbers::next_words(n);
-    numbers::next_code(n)
+    *answer = numbers::next_words(r.next);
+    numbers::next_code(r.next)
 }

@@ -1,1 +1,2 @@
 pub mod Gone
+pub mod Volumes

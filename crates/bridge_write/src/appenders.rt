@@ -1,12 +1,13 @@
 // The appender, and what delete_oldest and room answer, as rows of numbers.
 ghost use Rattle.std.specs.Prelude.{◌≡◌, ◌≤◌, length};
 ghost use Rattle.le.specs.Part.{part, over};
-ghost use Rattle.append.specs.Calls.{room_answer};
+ghost use Rattle.append.specs.Calls.{app_answer, room_answer};
 ghost use Rattle.store.specs.Writing.{gone_answer};
 ghost use Rattle.bridge.specs.Numbers.{code_of, number_words};
-ghost use Rattle.bridge_write.specs.Writing.{tail_at, appender_of, tail_kind, tail_count, appender_words, went_name, went_words};
+ghost use Rattle.bridge_write.specs.Writing.{tail_at, appender_of, tail_kind, tail_count, appender_words, went_name, went_words, open_words};
 
-use append::{Appender, Dir, Room, Tail};
+use append::{Appender, Dir, Handed, Room, Tail};
+use bridge::numbers;
 use bridge::numbers::{flag, narrow};
 use medium::Error;
 use remove::Gone;
@@ -14,66 +15,48 @@ use remove::Gone;
 fn tail_in(kind: u64, count: u64) -> Tail
     ensures { result ≡ tail_at kind count }
 {
-    if kind == 0 {
-        return Tail::At(narrow(count));
+    match kind {
+        0 => Tail::At(narrow(count)),
+        1 => Tail::Reopened(narrow(count)),
+        _ => Tail::Closed,
     }
-    if kind == 1 {
-        return Tail::Reopened(narrow(count));
-    }
-    Tail::Closed
 }
 
 pub fn appender_in(w: [u64; 10], buffer: [u8; 486], dir: [u8; 40]) -> Appender
     ensures { result ≡ appender_of w buffer dir }
 {
-    let tail = tail_in(w[5], w[6]);
-    let dir = Dir {
-        bytes: dir,
-        length: w[9] as usize,
-    };
     Appender {
         token: narrow(w[0]),
         slot: w[1] as usize,
         id: narrow(w[2]),
         chunk: narrow(w[3]),
         position: narrow(w[4]),
-        tail,
+        tail: tail_in(w[5], w[6]),
         fill: w[7] as usize,
         buffer,
         rolls: w[8] != 0,
-        dir,
+        dir: Dir {
+            bytes: dir,
+            length: w[9] as usize,
+        },
     }
 }
 
-// 0 at, 1 reopened, 2 closed.
-fn tail_kind(tail: Tail) -> u64
-    ensures { result ≡ tail_kind tail }
+// 0 at, 1 reopened, 2 closed; and its count.
+fn tail_numbers(tail: Tail) -> (u64, u64)
+    ensures { (result.0 ≡ tail_kind tail) × (result.1 ≡ tail_count tail) }
 {
     match tail {
-        Tail::At(_) => 0,
-        Tail::Reopened(_) => 1,
-        Tail::Closed => 2,
-    }
-}
-
-fn tail_count(tail: Tail) -> u64
-    ensures { result ≡ tail_count tail }
-{
-    match tail {
-        Tail::At(n) => n as u64,
-        Tail::Reopened(n) => n as u64,
-        Tail::Closed => 0,
+        Tail::At(n) => (0, n as u64),
+        Tail::Reopened(n) => (1, n as u64),
+        Tail::Closed => (2, 0),
     }
 }
 
 pub fn appender_words(a: Appender) -> [u64; 10]
     ensures { result ≡ appender_words a }
 {
-    let tail = a.tail;
-    let dir = a.dir;
-    let kind = tail_kind(tail);
-    let count = tail_count(tail);
-    let rolls = flag(a.rolls);
+    let (kind, count) = tail_numbers(a.tail);
     [
         a.token as u64,
         a.slot as u64,
@@ -83,8 +66,8 @@ pub fn appender_words(a: Appender) -> [u64; 10]
         kind,
         count,
         a.fill as u64,
-        rolls,
-        dir.length as u64,
+        flag(a.rolls),
+        a.dir.length as u64,
     ]
 }
 
@@ -97,12 +80,27 @@ pub fn put_appender(
 )
     ensures { (appender.new ≡ appender_words a) × (buffer.new ≡ a.buffer) × (dir.new ≡ a.dir.bytes) }
 {
-    let over = a.dir;
-    let b = a.buffer;
-    let d = over.bytes;
-    *buffer = b;
-    *dir = d;
+    buffer.copy_from_slice(&a.buffer);
+    dir.copy_from_slice(&a.dir.bytes);
     *appender = appender_words(a);
+}
+
+// What a call of an appender answers over what was lent for it, and the call's number.
+pub fn put_handed(
+    r: Handed,
+    store: &mut [u64; 43],
+    crcs: &mut [u32; 24],
+    appender: &mut [u64; 10],
+    buffer: &mut [u8; 486],
+    dir: &mut [u8; 40],
+    medium: &mut [u64; 4],
+) -> u32
+    ensures { (result, store.new, crcs.new, appender.new, buffer.new, dir.new, medium.new) ≡ open_words (app_answer r) }
+{
+    numbers::put_store(r.store, store, crcs);
+    put_appender(r.appender, appender, buffer, dir);
+    *medium = numbers::medium_words(r.medium);
+    numbers::code(r.outcome)
 }
 
 // The length of the name that went; 0 where none did.

@@ -23,12 +23,8 @@ pub fn port_format(
     ensures { (volume.new, result, store.new, crcs.new, medium.new)
         ≡ format_at volume.old medium.old «size» seed }
 {
-    let m = *medium;
-    let r = store::format(volume, numbers::medium_in(m), size, seed);
-    numbers::put_store(r.store, store, crcs);
-    *medium = numbers::medium_words(r.medium);
-    let o = r.outcome;
-    numbers::code(o)
+    let r = store::format(volume, numbers::medium_in(*medium), size, seed);
+    numbers::put_told(r, store, crcs, medium)
 }
 
 pub fn port_delete(
@@ -41,14 +37,13 @@ pub fn port_delete(
     ensures { (volume.new, result, store.new, crcs.new, medium.new)
         ≡ delete_at volume.old medium.old store.old crcs.old name.now }
 {
-    let m = *medium;
-    let w = *store;
-    let c = *crcs;
-    let r = store::delete(volume, numbers::medium_in(m), numbers::store_in(w, c), name);
-    numbers::put_store(r.store, store, crcs);
-    *medium = numbers::medium_words(r.medium);
-    let o = r.outcome;
-    numbers::code(o)
+    let r = store::delete(
+        volume,
+        numbers::medium_in(*medium),
+        numbers::store_in(*store, *crcs),
+        name,
+    );
+    numbers::put_told(r, store, crcs, medium)
 }
 
 // Answer: 1 and the length of the name that went, its bytes in `gone`; or 0.
@@ -64,15 +59,16 @@ pub fn port_delete_oldest(
     ensures { (volume.new, result, answer.new, gone.new, store.new, crcs.new, medium.new)
         ≡ oldest_at volume.old medium.old store.old crcs.old dir.now gone.old }
 {
-    let m = *medium;
-    let w = *store;
-    let c = *crcs;
-    let g = *gone;
-    let r = store::delete_oldest(volume, numbers::medium_in(m), numbers::store_in(w, c), dir);
+    let r = store::delete_oldest(
+        volume,
+        numbers::medium_in(*medium),
+        numbers::store_in(*store, *crcs),
+        dir,
+    );
     numbers::put_store(r.store, store, crcs);
     *medium = numbers::medium_words(r.medium);
     *answer = appenders::gone_words(r);
-    *gone = appenders::gone_name(r, g);
+    *gone = appenders::gone_name(r, *gone);
     appenders::gone_code(r)
 }
 
@@ -90,24 +86,14 @@ pub fn port_append(
         ≡ append_at volume.old medium.old store.old crcs.old appender.old
         buffer.old dir.old bytes.now }
 {
-    let m = *medium;
-    let w = *store;
-    let c = *crcs;
-    let v = *appender;
-    let b = *buffer;
-    let d = *dir;
-    let ap = appenders::appender_in(v, b, d);
+    let ap = appenders::appender_in(*appender, *buffer, *dir);
     let r = ap.append(
         volume,
-        numbers::medium_in(m),
-        numbers::store_in(w, c),
+        numbers::medium_in(*medium),
+        numbers::store_in(*store, *crcs),
         bytes,
     );
-    numbers::put_store(r.store, store, crcs);
-    *medium = numbers::medium_words(r.medium);
-    appenders::put_appender(r.appender, appender, buffer, dir);
-    let o = r.outcome;
-    numbers::code(o)
+    appenders::put_handed(r, store, crcs, appender, buffer, dir, medium)
 }
 
 pub fn port_sync(
@@ -123,19 +109,13 @@ pub fn port_sync(
         ≡ sync_at volume.old medium.old store.old crcs.old appender.old
         buffer.old dir.old }
 {
-    let m = *medium;
-    let w = *store;
-    let c = *crcs;
-    let v = *appender;
-    let b = *buffer;
-    let d = *dir;
-    let ap = appenders::appender_in(v, b, d);
-    let r = ap.sync(volume, numbers::medium_in(m), numbers::store_in(w, c));
-    numbers::put_store(r.store, store, crcs);
-    *medium = numbers::medium_words(r.medium);
-    appenders::put_appender(r.appender, appender, buffer, dir);
-    let o = r.outcome;
-    numbers::code(o)
+    let ap = appenders::appender_in(*appender, *buffer, *dir);
+    let r = ap.sync(
+        volume,
+        numbers::medium_in(*medium),
+        numbers::store_in(*store, *crcs),
+    );
+    appenders::put_handed(r, store, crcs, appender, buffer, dir, medium)
 }
 
 // Answer: the bytes until a record is written.
@@ -148,10 +128,7 @@ pub fn port_room(
     ensures { (result, answer.new) ≡ room_at appender.now
         buffer.now dir.now }
 {
-    let v = *appender;
-    let b = *buffer;
-    let d = *dir;
-    let ap = appenders::appender_in(v, b, d);
+    let ap = appenders::appender_in(*appender, *buffer, *dir);
     let n = ap.room();
     *answer = appenders::room_words(n);
     appenders::room_code(n)

@@ -21,22 +21,15 @@ pub fn port_create(
     ensures { (volume.new, result, store.new, crcs.new, appender.new, buffer.new, over.new, medium.new)
         ≡ create_at volume.old medium.old store.old crcs.old name.now rolls dir.now }
 {
-    let m = *medium;
-    let w = *store;
-    let c = *crcs;
     let r = store::create(
         volume,
-        numbers::medium_in(m),
-        numbers::store_in(w, c),
+        numbers::medium_in(*medium),
+        numbers::store_in(*store, *crcs),
         name,
         rolls != 0,
         dir,
     );
-    numbers::put_store(r.store, store, crcs);
-    *medium = numbers::medium_words(r.medium);
-    appenders::put_appender(r.appender, appender, buffer, over);
-    let o = r.outcome;
-    numbers::code(o)
+    appenders::put_handed(r, store, crcs, appender, buffer, over, medium)
 }
 
 pub fn port_open_append(
@@ -54,20 +47,13 @@ pub fn port_open_append(
     ensures { (result, store.new, crcs.new, appender.new, buffer.new, over.new, medium.new)
         ≡ open_at volume.now medium.old store.old crcs.old name.now rolls dir.now }
 {
-    let m = *medium;
-    let w = *store;
-    let c = *crcs;
     let r = store::open_append(
         volume,
-        numbers::medium_in(m),
-        numbers::store_in(w, c),
+        numbers::medium_in(*medium),
+        numbers::store_in(*store, *crcs),
         name,
         rolls != 0,
         dir,
     );
-    numbers::put_store(r.store, store, crcs);
-    *medium = numbers::medium_words(r.medium);
-    appenders::put_appender(r.appender, appender, buffer, over);
-    let o = r.outcome;
-    numbers::code(o)
+    appenders::put_handed(r, store, crcs, appender, buffer, over, medium)
 }

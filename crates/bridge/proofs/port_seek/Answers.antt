@@ -1,3 +1,5 @@
+use Rattle.std.proofs.Common.{◌∙◌}
+use Rattle.bridge.proofs.Codes.{code_is}
 use Rattle.bridge.specs.Calls.{seek_at}
 use Rattle.bridge.proofs.port_seek.Goals as goal
 
@@ -9,7 +11,7 @@ returns c =
       ← c.medium_in.ensures,
       ← c.store_in.ensures,
       ← c.seek-r.ensures,
-      c.code.ensures,
+      c.code.ensures ∙ code_is c.seek-r.result.outcome,
       c.reader_words.ensures,
       c.medium_words.ensures,
     )

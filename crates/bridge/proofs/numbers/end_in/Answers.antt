@@ -7,6 +7,6 @@ pub returns-then-kind-eq0 : goal.returns-then-kind-eq0
 unfolding end_at pick
 returns-then-kind-eq0 c = simp (eq-eqb _ _ c.if-kind-eq0.true)
 
-pub returns : goal.returns
+pub returns-else-kind-eq0 : goal.returns-else-kind-eq0
 unfolding end_at pick
-returns c = rw (ne_eqb _ _ c.if-kind-eq0.false, c.narrow.ensures)
+returns-else-kind-eq0 c = rw (ne_eqb _ _ c.if-kind-eq0.false, c.narrow.ensures)

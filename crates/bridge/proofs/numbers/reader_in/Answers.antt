@@ -5,7 +5,7 @@ pub returns : goal.returns
 unfolding reader_of
 returns c =
     rw (
-      c.end_in-end.ensures,
+      c.end_in.ensures,
       c.narrow.ensures,
       c.narrow-2.ensures,
       c.narrow-3.ensures,

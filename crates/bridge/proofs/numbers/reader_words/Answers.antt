@@ -1,10 +1,7 @@
+use Rattle.std.proofs.Common.{[], ◌∷◌}
 use Rattle.bridge.specs.Numbers.{reader_words}
 use Rattle.bridge.proofs.numbers.reader_words.Goals as goal
 
-pub returns-in-None : goal.returns-in-None
+pub returns : goal.returns
 unfolding reader_words
-returns-in-None c = rw c.in-None.is
-
-pub returns-in-Some : goal.returns-in-Some
-unfolding reader_words
-returns-in-Some c = rw c.in-Some.is
+returns c = let r = c.args.r in rw (c.end_numbers-known.ensures (r.position ∷ r.index ∷ []))

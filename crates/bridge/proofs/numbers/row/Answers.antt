@@ -1,10 +1,7 @@
-use mathlib.Core.List.{[], ◌∷◌}
 use Rattle.bridge.specs.Numbers.{row_words, flag_of}
-use Rattle.bridge.proofs.Rows.{words_of}
+use Rattle.std.proofs.Common.{[], ◌∷◌}
 use Rattle.bridge.proofs.numbers.row.Goals as goal
 
 pub returns : goal.returns
 unfolding row_words
-returns c =
-    let s = c.args.s in
-    rw (c.writer_words.ensures, c.flag.ensures, words_of s.writer (flag_of s.free.fit ∷ []))
+returns c = rw (c.flag.ensures, c.writer_numbers-open.ensures (flag_of c.args.s.free.fit ∷ []))

@@ -9,6 +9,6 @@ returns c =
       c.narrow-2.ensures,
       c.narrow-3.ensures,
       c.narrow-4.ensures,
-      c.writer_in-writer.ensures,
-      c.map_in-free.ensures,
+      c.writer_in.ensures,
+      c.map_in.ensures,
     )

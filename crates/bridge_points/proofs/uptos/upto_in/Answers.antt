@@ -3,4 +3,4 @@ use Rattle.bridge_points.proofs.uptos.upto_in.Goals as goal
 
 pub returns : goal.returns
 unfolding upto_of
-returns c = rw (c.reader_in-rd.ensures, c.narrow.ensures)
+returns c = rw (c.reader_in.ensures, c.narrow.ensures)

@@ -4,4 +4,5 @@ use Rattle.bridge_write.proofs.appenders.appender_words.Goals as goal
 pub returns : goal.returns
 unfolding appender_words
 returns c =
-    rw (c.tail_kind-kind.ensures, c.tail_count-count.ensures, c.flag-rolls.ensures)
+    let t = c.tail_numbers-kind.ensures in
+    rw (t.0, t.1, c.flag.ensures)

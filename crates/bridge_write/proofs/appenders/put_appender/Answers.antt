@@ -1,5 +1,4 @@
-use mathlib.Core.Path.{refl}
 use Rattle.bridge_write.proofs.appenders.put_appender.Goals as goal
 
 pub returns : goal.returns
-returns c = (c.appender_words.ensures, refl, refl)
+returns c = (c.appender_words.ensures, c.copy_from_slice.ensures.after, c.copy_from_slice-2.ensures.after)

@@ -1,16 +1,17 @@
+use Rattle.std.proofs.Common.{arith}
 use borrow.Author.Tests.{eq-eqb, ne_eqb}
 use Rattle.le.specs.Choice.{pick}
 use Rattle.bridge_write.specs.Writing.{tail_at}
 use Rattle.bridge_write.proofs.appenders.tail_in.Goals as goal
 
-pub returns-then-kind-eq0 : goal.returns-then-kind-eq0
+pub returns-in-0 : goal.returns-in-0
 unfolding tail_at pick
-returns-then-kind-eq0 c = rw (eq-eqb _ _ c.if-kind-eq0.true, c.narrow.ensures)
+returns-in-0 c = rw (eq-eqb c.args.kind 0 (omega arith), c.narrow.ensures)
 
-pub returns-then-kind-eq1 : goal.returns-then-kind-eq1
+pub returns-in-1 : goal.returns-in-1
 unfolding tail_at pick
-returns-then-kind-eq1 c = rw (ne_eqb _ _ c.if-kind-eq0.false, eq-eqb _ _ c.if-kind-eq1.true, c.narrow-then-kind-eq1.ensures)
+returns-in-1 c = rw (ne_eqb c.args.kind 0 (λ e. omega arith), eq-eqb c.args.kind 1 (omega arith), c.narrow-in-1.ensures)
 
-pub returns : goal.returns
+pub returns-in_default : goal.returns-in_default
 unfolding tail_at pick
-returns c = rw (ne_eqb _ _ c.if-kind-eq0.false, ne_eqb _ _ c.if-kind-eq1.false)
+returns-in_default c = rw (ne_eqb c.args.kind 0 (λ e. omega arith), ne_eqb c.args.kind 1 (λ e. omega arith))

@@ -13,7 +13,8 @@ pub use free::{free_chunk, free_count, map_at};
 use handles::Store;
 use medium::{Error, Medium};
 
-// What a chunk's link says: its file's slot, its place in the file, and the records of a chunk that the file left before it was full.
+// What a chunk's link says: its file's slot, its place in the file, and the records of a chunk that the file left before it was full. The mark and
+// the records stay two fields: one Option could not say records without the mark, which `put_link` writes too.
 #[derive(Clone, Copy)]
 pub struct Link {
     pub slot: usize,
@@ -87,7 +88,7 @@ fn link_of(owner: u16, place: u16, inside: bool, size: u32) -> Result<LinkAt, Er
     let low = owner % 128;
     let records = (owner / 128) as u32;
     let partial = 32768 <= place;
-    let fits = 1 <= low && low <= 64 && (records < size) && (partial || records == 0);
+    let fits = 1 <= low && low <= 64 && records < size && (partial || records == 0);
     if inside && fits {
         Ok(LinkAt::Linked(Link {
             slot: (low - 1) as usize,
@@ -128,7 +129,8 @@ pub fn owned(volume: &[u8], store: Store, chunk: u32, slot: usize) -> bool
     ((owner % 128) as usize) == slot + 1
 }
 
-// Links in the table's sectors.
+// Links in the table's sectors. Each walk over them is a loop of its own: a walk that takes its step as a closure would also need what the step keeps
+// (a count within the chunks passed, a pick before the next) as an argument of its contract.
 fn links(chunks: u32) -> u32
     requires { chunks ≤ 2048 }
     ensures { (result ≡ links_of chunks) × (result ≤ 2048) }
@@ -204,7 +206,7 @@ fn chain_step(i: u32, l: Link, s: ChainState) -> ChainState
 {
     let first = first_step(i, l, s.first);
     let count = s.count + 1;
-    if s.count == 0 || (s.top < l.position) {
+    if s.count == 0 || s.top < l.position {
         ChainState {
             count,
             first,

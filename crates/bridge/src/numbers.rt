@@ -2,8 +2,8 @@
 ghost use Rattle.std.specs.Prelude.{◌≡◌, ℕ, List, [], ◌∷◌};
 ghost use Rattle.store.specs.Reading.{store_answer, count_answer, found_answer};
 ghost use Rattle.reader.specs.Calls.{next_answer, numbered_answer};
-ghost use Rattle.bridge.specs.Numbers.{code_of, refusal_of, narrow_of, medium_of, medium_words, writer_of, map_in, store_of, flag_of, writer_words, row_words, store_words};
-ghost use Rattle.bridge.specs.Numbers.{end_at, reader_of, end_words, reader_words, found_words, item_words, number_words};
+ghost use Rattle.bridge.specs.Numbers.{code_of, refusal_of, narrow_of, medium_of, medium_words, writer_of, map_in, store_of, flag_of};
+ghost use Rattle.bridge.specs.Numbers.{writer_words, row_words, store_words, end_at, reader_of, end_words, reader_words, found_words, item_words, number_words};
 ghost use Rattle.bridge.specs.Calls.{mount_words};
 
 use directory::Found;

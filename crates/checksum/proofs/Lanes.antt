@@ -83,11 +83,6 @@ lanes_end c i (x ∷ xs) l hx hl ei each =
 
 -- ---- the loop over the lanes: c stands for those before j
 
-pub join_start : (xs : List ℕ) (n : ℕ) → 0 < length xs → length xs ≤ n + 1 → joined (get_or xs 0 0 ∷ take n (drop 1 xs)) ≡ joined xs
-join_start xs n h k =
-    let long : length (drop 1 xs) ≤ n = simp length-drop (omega arith) in
-    ap joined (ap (λ (l : List ℕ). get_or xs 0 0 ∷ l) (take_all n (drop 1 xs) long) ∙ sym (drop-cons xs 0 0 h))
-
 pub join_turn : (xs : List ℕ) (j c m : ℕ) → j < length xs → m ≡ bit_steps lane_bits c → joined (bit_xor m (get_or xs j 0) ∷ drop (j + 1) xs) ≡ joined (c ∷ drop j xs)
 unfolding joined
 join_turn xs j c m h em =

@@ -19,6 +19,7 @@ use Rattle.medium.proofs.Laws.{not_done}
 use Rattle.handles.specs.declared.Store.{Store}
 use Rattle.handles.specs.Handles.{store_ok}
 use Rattle.record.specs.Record.{on_result, number_at}
+use Rattle.reader.proofs.Earlier.{through}
 use Rattle.reader.specs.declared.Reader.{Reader}
 use Rattle.reader.specs.declared.Arrived.{Arrived}
 use Rattle.reader.specs.declared.Found.TheVariants as found
@@ -127,12 +128,6 @@ read_all vol m st rd out = choose (ltb (length out) 486) (usable_of vol st rd) _
 
 abbrev as_upto : Upto → NextCall → UptoCall
 as_upto u c = record { answer = c.answer; upto = same_limit u c.reader; out = c.out; medium = c.medium }
-
-through : {A B : Type 0} (f : A → B) (b : Bool) (o : Result Unit Error) (x y : A) (g : Error → A) → f (pick b x (on_done o y g)) ≡ pick b (f x) (on_done o (f y) (λ e. f (g e)))
-unfolding pick on_done
-through f true o x y g = refl
-through f false (Ok tt) x y g = refl
-through f false (Err e) x y g = refl
 
 pub read_upto : (vol : List ℕ) (m : Medium) (st : Store) (u : Upto) (out l : List ℕ) (r : Read) → read_answer r l ≡ read_call (Some u.limit) vol m st u.reader out
     → upto_answer (record { next = r.next; upto = same_limit u r.reader; medium = r.medium }) l ≡ below_call vol m st u out

@@ -30,7 +30,7 @@ forgets vol st rd (Ok (found.Hole from to)) = refl
 forgets vol st rd (Ok found.End) = refl
 
 -- both calls choose alike
-through : {A B : Type 0} (f : A → B) (b : Bool) (o : Result Unit Error) (x y : A) (g : Error → A) → f (pick b x (on_done o y g)) ≡ pick b (f x) (on_done o (f y) (λ e. f (g e)))
+pub through : {A B : Type 0} (f : A → B) (b : Bool) (o : Result Unit Error) (x y : A) (g : Error → A) → f (pick b x (on_done o y g)) ≡ pick b (f x) (on_done o (f y) (λ e. f (g e)))
 unfolding pick on_done
 through f true o x y g = refl
 through f false (Ok tt) x y g = refl

@@ -41,9 +41,6 @@ pub record Counting (vol : List ℕ) (m : Medium) (st : Store) (id chunk positio
   pub most : left ≤ st.head.chunk
   pub same : records_from vol m st id chunk position left ≡ records_from vol m st id chunk position st.head.chunk
 
-pub counting_start : (vol : List ℕ) (m : Medium) (st : Store) (id chunk position : ℕ) → Counting vol m st id chunk position st.head.chunk
-counting_start vol m st id chunk position = record { most = le_refl st.head.chunk; same = refl }
-
 module _ {vol : List ℕ} {m : Medium} {st : Store} {id chunk position left : ℕ} (at : Counting vol m st id chunk position left) where
   module _ {index : ℕ} {j : Result (Option ℕ) Error} (some : 0 < left) (i : index ≡ left - 1) (read : j ≡ record_at vol m st id chunk position index) where
     turn : on_judged j Err (λ (n : ℕ). Ok (suc index)) (records_from vol m st id chunk position index) ≡ records_from vol m st id chunk position st.head.chunk
@@ -85,19 +82,6 @@ count_most vol m st id chunk position e = subst (Few st.head.chunk) e (few vol m
 -- ---- the tail
 
 module _ (size n : ℕ) where
-  pub tail_none : n ≡ 0 → At 0 ≡ tail_for size n
-  unfolding tail_for
-  tail_none h = sym (pick_true _ _ (eq-eqb n 0 h))
-
-  module _ (some : n ≡ 0 → ⊥) where
-    pub tail_full : n ≡ size → At size ≡ tail_for size n
-    unfolding tail_for
-    tail_full h = sym (pick_false _ _ (ne_eqb n 0 some) ∙ pick_true _ _ (eq-eqb n size h))
-
-    pub tail_begun : (n ≡ size → ⊥) → Reopened n ≡ tail_for size n
-    unfolding tail_for
-    tail_begun h = sym (pick_false _ _ (ne_eqb n 0 some) ∙ pick_false _ _ (ne_eqb n size h))
-
   -- it is one that refusal 3 takes, and it is open
   pub tail_passes : n ≤ size → tail_ok (tail_for size n) size ≡ true
   unfolding tail_for tail_ok

@@ -155,16 +155,6 @@ pub chain_below : (k : ℕ) (l : Link) (s : ChainState) (i : ℕ) → s.count �
 unfolding chain_more
 chain_below k l s i h = omega arith
 
--- a chunk of the chain that is higher than those before it, and one that is not
-module _ (i : ℕ) (l : Link) (s : ChainState) {f : Option Place} (first : f ≡ first_step i l s.first) where
-  pub chain_higher : higher l s ≡ true → record { count = s.count + 1; first = f; top = l.position; last = i } ≡ chain_more i l s
-  unfolding chain_more pick
-  chain_higher t = rw (t, first)
-
-  pub chain_lower : higher l s ≡ false → record { count = s.count + 1; first = f; top = s.top; last = s.last } ≡ chain_more i l s
-  unfolding chain_more pick
-  chain_lower t = rw (t, first)
-
 module _ (vol : List ℕ) (m : Medium) (st : Store) (slot : ℕ) where
   -- the last chunk and the largest position belong to one link of the slot
   pub record Tail (last top : ℕ) : Type 0 where

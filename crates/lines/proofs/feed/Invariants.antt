@@ -10,7 +10,9 @@ invariant-loop-at g l =
       few : l.fed.fill ≤ 601;
       line : length l.line ≡ length l.fn.line;
       out : length l.out ≡ length l.fn.out;
-      fed : Fed (g.W.Write.contents l.fn.output) (g.W.Write.contents l.output) (feed_of (held l.volume l.fed.session (take l.fed.fill l.line)) (drop l.at l.bytes)) (feed_of (held l.fn.volume l.fn.session (take l.fn.fill l.fn.line)) l.bytes);
+      fed : Fed (g.W.Write.contents l.fn.output) (g.W.Write.contents l.output)
+          (feed_of (held l.volume l.fed.session (take l.fed.fill l.line)) (drop l.at l.bytes))
+          (feed_of (held l.fn.volume l.fn.session (take l.fn.fill l.fn.line)) l.bytes);
       made : Made (held l.fn.volume l.fn.session (take l.fn.fill l.fn.line)) (held l.volume l.fed.session (take l.fed.fill l.line)) l.bytes l.at;
     }
 

@@ -10,4 +10,6 @@ use Rattle.names.proofs.name_ok.Goals as goal
 pub returns : goal.returns
 returns c =
     let bytes = c.args.bytes.now in
-    by_parts bytes (omega arith) (all_from_yields_List segment_ok _ _ c.all.result c.all.ensures.ran (YieldsList-from_slice_split _ is_slash bytes c.split.ensures.rest c.split.ensures.done c.split.ensures.closure (λ x b q k. search (rules, tests))) (λ x b q k. search (rules, tests)))
+    by_parts bytes (omega arith) (all_from_yields_List segment_ok _ _ c.all.result c.all.ensures.ran
+    (YieldsList-from_slice_split _ is_slash bytes c.split.ensures.rest c.split.ensures.done c.split.ensures.closure (λ x b q k. search (rules, tests)))
+    (λ x b q k. search (rules, tests)))

@@ -1,6 +1,6 @@
 use mathlib.Core.Path.{◌∙◌}
 use native.Mathlib.Omega.{arith}
-use Rattle.checksum.proofs.Lanes.{join_start, join_turn, join_end}
+use Rattle.checksum.proofs.Lanes.{join_turn, join_end}
 use Rattle.checksum.proofs.running.join.Goals as goal
 
 pub loop-lane-preserved : goal.loop-lane-preserved

@@ -1,6 +1,9 @@
+use native.Mathlib.Omega.{arith}
 use mathlib.Core.Path.{◌∙◌}
-use Rattle.le.proofs.Fields.{get_from}
+use Rattle.le.proofs.Fields.{get_join}
 use Rattle.le.proofs.get_u32.Goals as goal
 
 pub returns : goal.returns
-returns c = c.from_le_bytes.ensures ∙ get_from 3 _ _ _ c.requires c.field.ensures
+returns c =
+    get_join 2 2 c.args.offset c.args.bytes.now _ _ (omega arith) (c.from-low.ensures ∙ c.get_u16.ensures)
+    (c.from-high.ensures ∙ c.get_u16-2.ensures)

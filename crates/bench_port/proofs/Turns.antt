@@ -2,7 +2,7 @@
 use Rattle.std.specs.Prelude.{Err, Ok, Result}
 use Rattle.medium.specs.declared.Error.{Error}
 use Prim.Native.Nat.{ℕ, zero, suc, ◌+◌, ◌-◌, ◌≤◌, ◌<◌}
-use mathlib.Core.Path.{◌≡◌, refl, ap, ◌∙◌}
+use mathlib.Core.Path.{◌≡◌, refl, ap, subst, ◌∙◌}
 use mathlib.Core.List.{List}
 use native.Mathlib.Omega.{arith}
 use lib.ListN.{length}
@@ -47,3 +47,15 @@ again times bytes vol₀ m₀ s₀ a₀ vol m s a n left r g some size h q =
       size = size ∙ g.size;
       same = rw q (appends_turn (left - 1) n bytes vol m s a r h ∙ ap (λ (l : ℕ). appends_of l n bytes vol m s a) e ∙ g.same);
     }
+
+pub going_start : (times : ℕ) (bytes vol : List ℕ) (m : Medium) (s : Store) (a : Appender) → Going times bytes vol m s a vol m s a 0 (times - 0)
+going_start times bytes vol m s a =
+    let e : times - 0 ≡ times = omega arith in
+    record { few = omega (arith, e); size = refl; same = ap (λ (l : ℕ). appends_of l 0 bytes vol m s a) e }
+
+-- one turn fewer is left behind turn i
+pub going_on : {times : ℕ} (i : ℕ) → i < times → {bytes vol₀ : List ℕ} {m₀ : Medium} {s₀ : Store} {a₀ : Appender} {vol : List ℕ} {m : Medium} {s : Store} {a : Appender} {n : ℕ}
+    → Going times bytes vol₀ m₀ s₀ a₀ vol m s a n (times - i - 1) → Going times bytes vol₀ m₀ s₀ a₀ vol m s a n (times - (i + 1))
+going_on {times} i h {bytes} {vol₀} {m₀} {s₀} {a₀} {vol} {m} {s} {a} {n} g =
+    let e : times - i - 1 ≡ times - (i + 1) = omega arith in
+    subst (Going times bytes vol₀ m₀ s₀ a₀ vol m s a n) e g

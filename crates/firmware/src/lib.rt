@@ -37,9 +37,7 @@ pub extern "C" fn store_mount(volume: &[u8], left: u32, unreadable: u64, entropy
     ensures { result ≡ mount_host volume.now (medium_of left unreadable entropy) }
 {
     let m = store::mount(volume, medium_of(left, unreadable, entropy));
-    let s = m.store;
-    let o = m.outcome;
-    code(o, s.chunks())
+    code(m.outcome, m.store.chunks())
 }
 
 // A new, empty store with chunks of `size` sectors, and how many there are.
@@ -55,9 +53,7 @@ pub extern "C" fn store_format(
     ensures { (result, volume.new) ≡ format_host volume.old (medium_of left unreadable entropy) size seed }
 {
     let f = store::format(volume, medium_of(left, unreadable, entropy), size, seed);
-    let s = f.store;
-    let o = f.outcome;
-    code(o, s.chunks())
+    code(f.outcome, f.store.chunks())
 }
 
 // Deletes a file.
@@ -75,13 +71,11 @@ pub extern "C" fn store_delete(
         return medium::number(Error::Name);
     }
     let m = store::mount(&volume[..], medium_of(left, unreadable, entropy));
-    let o = m.outcome;
-    if let Err(e) = o {
+    if let Err(e) = m.outcome {
         return medium::number(e);
     }
     let d = store::delete(volume, m.medium, m.store, name);
-    let p = d.outcome;
-    code(p, 0)
+    code(d.outcome, 0)
 }
 
 // The files in a directory as 48-byte rows, and how many there are. The rows made before a refusal stay.
@@ -104,8 +98,7 @@ pub extern "C" fn store_list(
         return medium::number(Error::Name);
     }
     let found = store::mount(volume, medium_of(left, unreadable, entropy));
-    let o = found.outcome;
-    if let Err(e) = o {
+    if let Err(e) = found.outcome {
         return medium::number(e);
     }
     let mut counts = [0u16; 64];
@@ -117,6 +110,5 @@ pub extern "C" fn store_list(
         &mut counts,
         rows,
     );
-    let p = l.outcome;
-    code(p, l.count as u32)
+    code(l.outcome, l.count as u32)
 }

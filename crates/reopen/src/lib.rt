@@ -84,7 +84,9 @@ fn open_file(
     match count_records(volume, medium, store, id, parts.last, position) {
         Ok(count) => {
             let tail = tail_for(store.head.chunk, count);
-            files::opened(medium, store, slot, id, parts.last, position, tail, rollover)
+            files::opened(
+                medium, store, slot, id, parts.last, position, tail, rollover,
+            )
         }
         Err(e) => files::refused(e, medium, store),
     }

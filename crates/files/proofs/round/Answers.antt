@@ -43,8 +43,8 @@ returns-in-Err c =
     ended_with c.ended.ensures (settled_by (refl, c.refused.ensures)
     (round_unread a.name.now a.rollover a.volume.now a.medium a.store c.look.ensures c.in-Err.is))
 
-pub returns-in-Refused : goal.returns-in-Refused
-returns-in-Refused c =
+pub returns-in-Err-p : goal.returns-in-Err-p
+returns-in-Err-p c =
     let a = c.args in
     ended_with c.ended-in-Err-p.ensures (settled_by (refl, c.refused-in-Err-p.ensures) (round_untold a.name.now a.rollover a.volume.now a.medium
     a.store c.look.ensures c.in-Ok.is c.if-seen.false c.in-Some.is c.free_chunk-p.ensures c.in-Err-p.is))

@@ -25,7 +25,7 @@ use Rattle.files.specs.declared.Rollover.{Rollover}
 use Rattle.files.specs.Opened.{refused_at, next_token, with_token, written_by, opened_out}
 use Rattle.append.specs.Calls.{may_write}
 use Rattle.files.proofs.Opens.{over_ok, opened_ok, opened_may}
-use Rattle.reopen.specs.Reopen.{records_from, tail_for, on_records, file_out, reopen_of}
+use Rattle.reopen.specs.Reopen.{records_from, tail_for, file_out, reopen_of}
 use Rattle.reopen.proofs.Counts.{count_most, tail_passes, tail_open}
 use Rattle.reopen.proofs.Ways.{last_placed}
 

@@ -23,7 +23,7 @@ use Rattle.append.specs.declared.Handed.{Handed}
 use Rattle.append.specs.declared.Tail.{Tail}
 use Rattle.files.specs.declared.Rollover.{Rollover}
 use Rattle.files.specs.Opened.{refused_at, opened_out}
-use Rattle.reopen.specs.Reopen.{records_from, tail_for, on_records, file_out, reopen_of}
+use Rattle.reopen.specs.Reopen.{records_from, tail_for, file_out, reopen_of}
 
 -- an answer does not tell the volume: these calls only read it
 answer_alike : (vol : List ℕ) (m : Medium) (st : Store) (slot id chunk position : ℕ) (tail : Tail) (rollover : Rollover)

@@ -77,7 +77,7 @@ module _ (vol : List ℕ) (m : Medium) (st : Store) where
   none_unread : (e : Error) → Unread m (no_reader_answer m e)
   none_unread e = record { medium = refl; reader = λ n q. refl }
 
-  started_unread : (f : Found) → Unread m (started_at vol m st f)
+  started_unread : (f : Result Found Error) → Unread m (started_at vol m st f)
   started_unread f =
       on_found_keeps (Unread m) f _ _ (λ e q. none_unread e)
       (λ slot id q.

@@ -10,7 +10,7 @@ use Rattle.medium.specs.declared.Medium.{Medium}
 use Rattle.medium.specs.Refusal.{on_done}
 use Rattle.handles.specs.declared.Store.{Store}
 use Rattle.directory.specs.declared.Found.{Found}
-use Rattle.directory.specs.Scan.{find_of, find_id_of, on_found, found_at}
+use Rattle.directory.specs.Scan.{find_of, find_id_of, on_found}
 use Rattle.table.specs.declared.ChainParts.{ChainParts}
 use Rattle.table.specs.Table.{chain_of, on_chain}
 use Rattle.reader.specs.declared.Reader.{Reader}
@@ -26,12 +26,12 @@ module _ (vol : List ℕ) (m : Medium) (st : Store) {f : Result Found Error} whe
   unfolding on_found
   not_found h k = rw (k, h)
 
-  module _ {slot id : ℕ} (h : f ≡ found_at slot id) {y : Chained} (c : y ≡ chain_of vol m st slot) where
+  module _ {x : Found} (h : f ≡ Ok x) {y : Result ChainParts Error} (c : y ≡ chain_of vol m st x.slot) where
     pub no_chain_lem : {e : Error} {r : ReaderAnswer} → y ≡ Err e → r ≡ no_reader_answer m e → r ≡ started_at vol m st f
     unfolding on_found on_chain
     no_chain_lem e k = rw (k, h, ← c, e)
 
-    pub whole_chain : {p : ChainParts} {rd : Reader} → y ≡ Ok p → rd ≡ start_of st slot id p
+    pub whole_chain : {p : ChainParts} {rd : Reader} → y ≡ Ok p → rd ≡ start_of st x.slot x.id p
         → record { outcome = Ok tt; reader = rd; medium = m } ≡ started_at vol m st f
     unfolding on_found on_chain
     whole_chain e k = rw (k, h, ← c, e)

@@ -24,14 +24,14 @@ returns-in-Err c =
     no_chain_lem a.rollover a.volume.now a.medium a.store a.slot a.id c.chain.ensures c.in-Err.is
     c.refused.ensures
 
-pub returns-in-Err-1 : goal.returns-in-Err-1
-returns-in-Err-1 c =
+pub returns-in-Err-count_records : goal.returns-in-Err-count_records
+returns-in-Err-count_records c =
     let a = c.args in
     no_count a.rollover a.volume.now a.medium a.store a.slot a.id c.chain.ensures c.in-Ok.is
-    c.count_records.ensures c.in-Err-1.is c.refused-in-Err-1.ensures
+    c.count_records.ensures c.in-Err-count_records.is c.refused-in-Err-count_records.ensures
 
-pub returns-in-Ok : goal.returns-in-Ok
-returns-in-Ok c =
+pub returns-in-Ok-count_records : goal.returns-in-Ok-count_records
+returns-in-Ok-count_records c =
     let a = c.args in
     file_opened a.rollover a.volume.now a.medium a.store a.slot a.id c.chain.ensures c.in-Ok.is
-    c.count_records.ensures c.in-Ok-1.is c.tail_for-tail.ensures c.opened.ensures
+    c.count_records.ensures c.in-Ok-count_records.is c.tail_for-tail.ensures c.opened.ensures

@@ -6,14 +6,14 @@ returns-in-Err c =
     let a = c.args in
     not_found a.volume.now a.medium a.store c.in-Err.is c.no_reader.ensures
 
-pub returns-in-Err-p : goal.returns-in-Err-p
-returns-in-Err-p c =
+pub returns-in-Err-chain : goal.returns-in-Err-chain
+returns-in-Err-chain c =
     let a = c.args in
-    no_chain_lem a.volume.now a.medium a.store c.in-Ok.is c.chain-c.ensures
-    c.in-Err-p.is c.no_reader-in-Err-p.ensures
+    no_chain_lem a.volume.now a.medium a.store c.in-Ok.is c.chain.ensures
+    c.in-Err-chain.is c.no_reader-in-Err-chain.ensures
 
-pub returns-in-Ok : goal.returns-in-Ok
-returns-in-Ok c =
+pub returns-in-Ok-chain : goal.returns-in-Ok-chain
+returns-in-Ok-chain c =
     let a = c.args in
-    whole_chain a.volume.now a.medium a.store c.in-Ok.is c.chain-c.ensures
-    c.in-Whole.is c.start-reader.ensures
+    whole_chain a.volume.now a.medium a.store c.in-Ok.is c.chain.ensures
+    c.in-Ok-chain.is c.start.ensures

@@ -72,7 +72,7 @@ module _ {P : Skipped → Type 0} {L : List ℕ → Store → Type 0} (rules : L
     file_hands : (over : Rollover) (vol : List ℕ) (m : Medium) (st : Store) (slot id : ℕ) → Kept vol st → Hands vol (file_out over vol m st slot id)
     unfolding file_out
     file_hands over vol m st slot id k =
-        on_chain_keeps (Hands vol) (chain_of vol m st slot) _ _ (λ e _. refused_hands vol m st e k)
+        on_chain_keeps (Hands vol) (chain_of vol m st slot) _ _ (λ e. refused_hands vol m st e k)
         (λ p _. on_result_keeps (Hands vol) (records_from vol m st id p.last (p.count - 1) st.head.chunk) _ _ (λ e _. refused_hands vol m st e k)
         (λ n _. opened_hands vol m st slot id p.last (p.count - 1) (tail_for st.head.chunk n) over k.0))
 

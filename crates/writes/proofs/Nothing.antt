@@ -13,6 +13,7 @@ use Rattle.handles.specs.declared.Store.{Store}
 use Rattle.handles.specs.Handles.{store_ok}
 use Rattle.table.proofs.Decides.{on_chain_keeps}
 use Rattle.directory.proofs.Decides.{on_found_keeps}
+use Rattle.record.proofs.Laws.{on_result_keeps}
 use Rattle.reader.specs.declared.Reader.{Reader}
 use Rattle.reader.specs.Calls.{NextCall, next_call, SeekCall, seek_call}
 use Rattle.append.specs.declared.Handed.{Handed}
@@ -64,7 +65,8 @@ module _ (vol : List ℕ) (m : Medium) (st : Store) where
 
   pub seek_medium : (rd : Reader) (number : ℕ) → (seek_call vol m st rd number).medium ≡ m
   unfolding seek_call
-  seek_medium rd number = on_done_keeps (λ (c : SeekCall). c.medium ≡ m) _ _ _ (λ _. refl) (λ _ _. refl)
+  seek_medium rd number =
+      on_done_keeps (λ (c : SeekCall). c.medium ≡ m) _ _ _ (λ _. on_result_keeps (λ (c : SeekCall). c.medium ≡ m) _ _ _ (λ _ _. refl) (λ _ _. refl)) (λ _ _. refl)
 
   -- ---- open_append
 

@@ -1,7 +1,6 @@
 -- A file on a volume where every sector reads: the reader at each of its places, and what one turn of a reader finds there. Assumes nothing.
-use Rattle.std.specs.Prelude.{Ok, Option, Some, None, Result}
-use Rattle.medium.specs.declared.Error.{Error}
-use mathlib.Core.Path.{◌≡◌, refl, ap, sym, ◌∙◌}
+use Rattle.std.specs.Prelude.{Ok, Option, Some, None}
+use mathlib.Core.Path.{◌≡◌, ap, sym, ◌∙◌}
 use mathlib.Core.Logic.{◌≢◌}
 use mathlib.Core.Bool.{true, false}
 use mathlib.Core.List.{List, []}

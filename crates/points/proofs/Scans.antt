@@ -44,7 +44,7 @@ use Rattle.points.specs.Told.{sought_of, sight_of, sight_visit, visit_of, walked
 sight_mark : (k : Option Mark) (rd : Reader) → sight_visit (sight_of k) rd ≡ after_mark k rd
 unfolding sight_of sight_visit after_mark
 sight_mark None rd = refl
-sight_mark (Some (record { id = id; number = number })) rd = refl
+sight_mark (Some said) rd = refl
 
 -- a reader that gave an answer passes, so what it gave is no longer than a record's payload
 next_passes : (vol : List ℕ) (m : Medium) (st : Store) (rd : Reader) (out : List ℕ) {x : Item} → (next_call vol m st rd out).answer ≡ ok x → reader_ok rd st ≡ true

@@ -21,7 +21,10 @@ fn sight_of(sought: Option<&[u8]>, payload: &[u8]) -> Sight
         None => Sight::Passed,
         Some(point) => match marks::says(point, payload) {
             None => Sight::Passed,
-            Some(Mark { id, number }) => Sight::Line { id, number },
+            Some(said) => Sight::Line {
+                id: said.id,
+                number: said.number,
+            },
         },
     }
 }
@@ -99,7 +102,10 @@ pub(crate) fn look(
     let seen = walk(volume, medium, store, r.reader, Some(point))?;
     match seen.mark {
         None => Ok(Place::Unset),
-        Some(Mark { id, number }) => Ok(Place::Line { id, number }),
+        Some(said) => Ok(Place::Line {
+            id: said.id,
+            number: said.number,
+        }),
     }
 }
 

@@ -6,12 +6,12 @@ pub returns-in-None : goal.returns-in-None
 unfolding sought_of sight_of
 returns-in-None c = rw c.in-None.is
 
-pub returns-in-Some-None : goal.returns-in-Some-None
+pub returns-in-None-says : goal.returns-in-None-says
 unfolding sought_of sight_of
-returns-in-Some-None c =
-    rw (c.in-Some.is, told c.says.ensures c.in-None.is)
+returns-in-None-says c =
+    rw (c.in-Some.is, told c.says.ensures c.in-None-says.is)
 
-pub returns-in-Some-Some : goal.returns-in-Some-Some
+pub returns-in-Some-says : goal.returns-in-Some-says
 unfolding sought_of sight_of
-returns-in-Some-Some c =
-    rw (c.in-Some.is, told c.says.ensures c.in-Some.is)
+returns-in-Some-says c =
+    rw (c.in-Some.is, told c.says.ensures c.in-Some-says.is)

@@ -1,4 +1,4 @@
-use Rattle.std.proofs.Common.{◌≡◌, Err, rules, sym, arith}
+use Rattle.std.proofs.Common.{◌≡◌, Ok, Err, rules, sym, ap, ◌∙◌, arith}
 use lib.Seq.{length-take-le}
 use Rattle.le.specs.Part.{zeros}
 use Rattle.points.proofs.Scans.{turn_refused, turn_hole, turn_end, turn_payload, next_size}
@@ -16,13 +16,13 @@ pub slice_bounds-out-end : goal.slice_bounds-out-end
 unfolding zeros
 slice_bounds-out-end c =
     let a = c.args in
-    omega (arith, next_size a.volume.now a.medium a.store a.reader c.next-r.result c.next-r.ensures c.in-Payload.is)
+    omega (arith, next_size a.volume.now a.medium a.store a.reader c.next-r.result c.next-r.ensures (c.in_ok-found.was ∙ ap Ok c.in-Payload.is))
 
 pub slice_bounds-sight_of-end : goal.slice_bounds-sight_of-end
 unfolding zeros
 slice_bounds-sight_of-end c =
     let a = c.args in
-    let h = next_size a.volume.now a.medium a.store a.reader c.next-r.result c.next-r.ensures c.in-Payload.is in
+    let h = next_size a.volume.now a.medium a.store a.reader c.next-r.result c.next-r.ensures (c.in_ok-found.was ∙ ap Ok c.in-Payload.is) in
     sym (length-take-le c.in-Payload.length _ (omega (arith, h.0, h.1)))
 
 pub returns : goal.returns
@@ -30,8 +30,8 @@ unfolding zeros
 returns c =
     let a = c.args in
     let r = c.next-r in
-    elim c.match-r.branch [
-      | in-Payload w ↦ rw w.sight-is (turn_payload _ a.volume.now a.medium a.store a.reader r.result r.ensures w.in-Payload.is w.sight_of-sight.ensures)
-      | in-Hole w ↦ rw w.sight-is (turn_hole _ a.volume.now a.medium a.store a.reader r.result r.ensures w.in-Hole.is)
-      | in-End w ↦ rw w.sight-is (turn_end _ a.volume.now a.medium a.store a.reader r.result r.ensures w.in-End.is)
+    elim c.match-found.branch [
+      | in-Payload w ↦ rw w.sight-is (turn_payload _ a.volume.now a.medium a.store a.reader r.result r.ensures (c.in_ok-found.was ∙ ap Ok w.in-Payload.is) w.sight_of-sight.ensures)
+      | in-Hole w ↦ rw w.sight-is (turn_hole _ a.volume.now a.medium a.store a.reader r.result r.ensures (c.in_ok-found.was ∙ ap Ok w.in-Hole.is))
+      | in-End w ↦ rw w.sight-is (turn_end _ a.volume.now a.medium a.store a.reader r.result r.ensures (c.in_ok-found.was ∙ ap Ok w.in-End.is))
     ]

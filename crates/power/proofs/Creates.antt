@@ -1,5 +1,5 @@
 -- create keeps what holds between the calls: its steps stand, and accepted its appender stands at the start of the file made. Assumes nothing.
-use Rattle.std.specs.Prelude.{Option, Some, None, Result, Ok, Err}
+use Rattle.std.specs.Prelude.{Option as Maybe, Some, None, Result, Ok, Err}
 use Prim.Native.Nat.{ℕ, zero, suc, ◌+◌, ◌-◌, ◌^◌, ◌<◌}
 use mathlib.Core.Path.{◌≡◌, refl}
 use mathlib.Core.Bool.{Bool, true, false}
@@ -138,7 +138,7 @@ module _ (t : Terms) (over : Rollover) (spares : t.spared ≡ none) (directed : 
           (λ x d. unmade_ends t w b x k (oldest_stopped w.vol w.medium w.store k.layout b k.whole k.readable (dir_bytes over.dir) None d).0))
           (λ r. refused_ends t w b _ k)
 
-      pick_ends : (seen : Seen) → Look w.vol w.medium w.store t.name seen → seen.exists ≡ false → {slot : ℕ} → seen.free ≡ Some slot → (p : Result (Option ℕ) Error) → free_of w.vol w.medium w.store ≡ p
+      pick_ends : (seen : Seen) → Look w.vol w.medium w.store t.name seen → seen.exists ≡ false → {slot : ℕ} → seen.free ≡ Some slot → (p : Result (Maybe ℕ) Error) → free_of w.vol w.medium w.store ≡ p
           → Ends t w b (on_pick p (refused_at w.vol w.medium w.store) (over_out over next w.vol w.medium w.store) (make_out t.name over w.vol w.medium w.store slot))
       unfolding on_pick
       pick_ends seen l fresh room (Err e) q = refused_ends t w b e k

@@ -32,7 +32,7 @@ use Rattle.append.specs.Calls.{call_of}
 use Rattle.append.specs.Flush.{AppOut}
 use Rattle.files.specs.declared.Rollover.{Rollover}
 use Rattle.files.specs.Opened.{refused_at, next_token, with_token, written_by, new_appender, opened_out}
-use Rattle.reopen.specs.Reopen.{records_from, tail_for, on_records, file_out, reopen_of}
+use Rattle.reopen.specs.Reopen.{records_from, tail_for, file_out, reopen_of}
 use Rattle.reopen.proofs.Counts.{record_inside}
 use Rattle.safe.proofs.Invs.{reads, inv_writer}
 use Rattle.layout.specs.Views.{named, disk_of}

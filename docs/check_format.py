@@ -72,7 +72,7 @@ DEFINED = [
     ("header/Header", "content_of h = over 64 (words (take (body_of h.chunks) h.crcs))"),
     ("marks/Line", f"marks_name = {listed(b'MARKS')}"),
     ("marks/Line", f"line_of p id n = p ++ ({TAB} ∷ decimal_text id) ++ ({TAB} ∷ decimal_text n) ++ ({FEED} ∷ [])"),
-    ("marks/Line", f"says_of p x = pick (eqb (last_byte x) {FEED}) (three_of p (fields (all_but_last x))) Nothing"),
+    ("marks/Line", f"says_of p x = pick (eqb (last_byte x) {FEED}) (three_of p (fields (all_but_last x))) None"),
     ("marks/Line", f"numbers_of id n = mark_of (plain_of {LARGEST} id) (plain_of {LARGEST} n)"),
     ("marks/Edges", f"line_of p 1 3 ≡ {listed(line_of('p', 1, 3))}"),
     ("decimal/Decimal", "pick (ltb n 10) ((48 + n) ∷ []) (digits_of k (n / 10) ++ ((48 + n % 10) ∷ []))"),

@@ -3,7 +3,7 @@
 `rt must-fail` and `rt ci` say of each edit what the prover said first. They call an edit bad that cannot be applied, compiled or read, but count as
 refused also one that only takes a name away, one whose definition does not fit its type, and one at which the prover only met a limit of its own. Such
 an edit shows nothing. Here an edit counts only where it is refused at a proof: the place that is shown stands below proofs/, or is a goal of a function
-that is not proved (no file of specs/ holds a proof, so an error there is never a promise that fails), and rt does not say that it is only for a name or
+that is not proved, or the invariant of a value that it makes (no file of specs/ holds a proof, so an error there is never a promise that fails), and rt does not say that it is only for a name or
 a limit.
 
 A goal is named by the condition above it. So an edit of a condition gives its goal another name, and an answer by the old one is not read. In the
@@ -17,7 +17,7 @@ import subprocess
 
 LINE = re.compile(r"(?:rt: )?must-fail (\w+)/(\S+)\.edit: (.*)")
 REFUSED = re.compile(r"refused, as it must be(?: \((.*?)\))?(?:: (.*))?$")
-PROOF = re.compile(r"(?:\./)?proofs/\S+:\d+:\d+: error|note: src/\S+:\d+:\d+: it is not proved that ")
+PROOF = re.compile(r"(?:\./)?proofs/\S+:\d+:\d+: error|note: src/\S+:\d+:\d+: it is not proved that |note: src/\S+:\d+:\d+: `search` found no proof \(`invariant_of-")
 
 
 def said_in(text):

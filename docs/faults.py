@@ -23,9 +23,9 @@ from sources import usage
 
 # crate, name, what is wrong, old text, new text; the file is the one of src/ that has the old text
 FAULTS = [
-    ("record", "record_without_file", "a record passes without its file id", "(le::get_u32(sector, 12) == file)", "(le::get_u32(sector, 12) != 0)"),
-    ("record", "record_without_store", "a record passes without its store id", "(le::get_u64(sector, 4) == id)", "(le::get_u64(sector, 4) != 0)"),
-    ("record", "record_without_number", "a record passes without its number", "(le::get_u32(sector, 16) == number)", "(le::get_u32(sector, 16) <= 0xffff_ffff)"),
+    ("record", "record_without_file", "a record passes without its file id", "le::get_u32(sector, 12) == file", "le::get_u32(sector, 12) != 0"),
+    ("record", "record_without_store", "a record passes without its store id", "le::get_u64(sector, 4) == id", "le::get_u64(sector, 4) != 0"),
+    ("record", "record_without_number", "a record passes without its number", "le::get_u32(sector, 16) == number", "le::get_u32(sector, 16) <= 0xffff_ffff"),
     ("commit", "other_trusted", "the other copy is trusted whatever store it is of", "    known & (theirs == crc)", "    (theirs == crc)"),
     ("commit", "stale_goes_on", "a store value that is not current is not refused", "    if !is_current(found, store) {", "    if !is_current(Current { copy: store.copy, head: store.head, ..found }, store) {"),
     ("commit", "old_copy_kept", "the store handed back names the old copy", "finished(wm, store, copy, head, free)", "finished(wm, store, store.copy, head, free)"),
@@ -38,16 +38,16 @@ FAULTS = [
     ("format", "over_newest", "format writes over the newest copy", "make(volume, medium, copy_for(c), head)", "make(volume, medium, 1 - copy_for(c), head)"),
     ("header", "mark_kept", "format's first header keeps the last letter of its magic", "    runs::put_zeros(sector, 0, 16);", "    runs::put_zeros(sector, 0, 12);"),
     ("format", "id_taken_again", "format may take an id that a copy has", "let bad = (id == 0) | has_id(c, id);", "let bad = (id == 0) | (has_id(c, id) & false);"),
-    ("remove", "writer_left_open", "a removed file stays open", "            if open == id {", "            if open != id {"),
-    ("files", "spares_the_first", "create's rollover spares the file with id 1", "&bytes[0..n], false, 0);", "&bytes[0..n], true, 1);"),
+    ("remove", "writer_left_open", "a removed file stays open", "    if open.id == id { None } else { writer }", "    if open.id != id { None } else { writer }"),
+    ("files", "spares_the_first", "create's rollover spares the file with id 1", "&bytes[0..n], None);", "&bytes[0..n], Some(1));"),
     ("directory", "name_unseen", "create's look does not see the file of the name", "            exists: true,", "            exists: s.exists,"),
     ("reopen", "writes_on", "a chunk that was begun is written further", "    Tail::Reopened(n)", "    Tail::At(n)"),
-    ("reopen", "one_record_less", "the last valid record is not counted", "return Records::Are(index + 1);", "return Records::Are(index);"),
+    ("reopen", "one_record_less", "the last valid record is not counted", "return Ok(index + 1);", "return Ok(index);"),
     ("record", "number_in_chunk", "records are numbered anew in each chunk", "    position * size + index", "    index"),
     ("append", "bytes_again", "the bytes of a record are written again with the next", "self.standing(self.chunk, self.position, next, 0)", "self.standing(self.chunk, self.position, next, self.fill)"),
-    ("table", "first_free", "the free chunk is the first, whatever the cursor", "if (b < cursor) & (cursor <= i) {", "if (b < cursor) & (cursor < i) {"),
-    ("table", "clears_next_slot", "links of another slot are cleared", "if ((owner % 128) as usize) != slot + 1 {", "if ((owner % 128) as usize) != slot {"),
-    ("directory", "older_spared", "files older than the open one are spared too", "let spared = keeping & (id == keep);", "let spared = keeping & (id <= keep);"),
+    ("table", "first_free", "the free chunk is the first, whatever the cursor", "cursor <= b || i < cursor", "cursor <= b || i <= cursor"),
+    ("table", "clears_next_slot", "links of another slot are cleared", "if ((owner % 128) as usize) == slot + 1 {", "if ((owner % 128) as usize) == slot {"),
+    ("directory", "older_spared", "files older than the open one are spared too", "(Some(file.id) != spared)", "(spared.unwrap_or(0) < file.id)"),
 ]
 
 

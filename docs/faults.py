@@ -40,7 +40,7 @@ FAULTS = [
     ("format", "id_taken_again", "format may take an id that a copy has", "let bad = (id == 0) | has_id(c, id);", "let bad = (id == 0) | (has_id(c, id) & false);"),
     ("remove", "writer_left_open", "a removed file stays open", "    if open.id == id { None } else { writer }", "    if open.id != id { None } else { writer }"),
     ("files", "spares_the_first", "create's rollover spares the file with id 1", "&bytes[0..n], None);", "&bytes[0..n], Some(1));"),
-    ("directory", "name_unseen", "create's look does not see the file of the name", "            exists: true,", "            exists: s.exists,"),
+    ("directory", "name_unseen", "create's look does not see the file of the name", "            exists: true,", "            exists: seen.exists,"),
     ("reopen", "writes_on", "a chunk that was begun is written further", "    Tail::Reopened(n)", "    Tail::At(n)"),
     ("reopen", "one_record_less", "the last valid record is not counted", "return Ok(index + 1);", "return Ok(index);"),
     ("record", "number_in_chunk", "records are numbered anew in each chunk", "    position * size + index", "    index"),

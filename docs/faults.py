@@ -47,7 +47,7 @@ FAULTS = [
     ("append", "bytes_again", "the bytes of a record are written again with the next", "self.standing(self.chunk, self.position, next, 0)", "self.standing(self.chunk, self.position, next, self.fill)"),
     ("table", "first_free", "the free chunk is the first, whatever the cursor", "cursor <= b || i < cursor", "cursor <= b || i <= cursor"),
     ("table", "clears_next_slot", "links of another slot are cleared", "if ((owner % 128) as usize) == slot + 1 {", "if ((owner % 128) as usize) == slot {"),
-    ("directory", "older_spared", "files older than the open one are spared too", "(Some(file.id) != spared)", "(spared.unwrap_or(0) < file.id)"),
+    ("directory", "older_spared", "files older than the open one are spared too", "(Some(file.id) != spared)", "(Some(file.id.max(spared.unwrap_or(0))) != spared)"),
 ]
 
 

@@ -11,9 +11,8 @@ returns-in_err-store c =
 pub returns-in_err-r : goal.returns-in_err-r
 returns-in_err-r c =
     let a = c.args in
-    let e : c.from_residual-in_err-r.result ≡ Err c.in_err-r.field-0.0 = search rules in
-    with_format a.volume.now a.s.now c.ok_or.ensures.value c.in_ok-store.was _
-    (rw e (create_refused a.volume.now a.s.now c.in_ok-store.store a.name.now a.rolls a.dir.now c.create-r.result c.create-r.ensures c.in_err-r.was))
+    let t = create_refused a.volume.now a.s.now c.in_ok-store.store a.name.now a.rolls a.dir.now c.create-r.result c.create-r.ensures c.in_err-r.was in
+    with_format a.volume.now a.s.now c.ok_or.ensures.value c.in_ok-store.was _ (search rules)
 
 pub returns : goal.returns
 returns c =

@@ -24,7 +24,7 @@ class Side:
             area = path.split("/")[2]
             if path.endswith(".rt") and area == "src":
                 rust_items(self, path, text)
-            elif area in ("specs", "proofs") and not re.search(r"/(Answers|Invariants)\.antt$", path):
+            elif area in ("specs", "proofs") and not re.search(r"/proofs/.+/(Answers|Invariants)\.antt$", path):
                 antt_items(self, path, text)
 
     def add(self, part, path, name, text, names, base=-1):

@@ -7,7 +7,7 @@ that is not proved, or the invariant of a value that it makes (no file of specs/
 a limit.
 
 A goal is named by the condition above it. So an edit of a condition gives its goal another name, and an answer by the old one is not read. In the
-functions that seven edits of must-fail/ change so, no answer goes by a condition's name: a law is named on the function, and the other answers take the
+functions that eight edits of must-fail/ change so, no answer goes by a condition's name: a law or definition is named on the function, and the other answers take the
 condition's fact by a tactic. The edits of faults/ that are so stand in docs/PORT.md, "Goals that an edit gives another name", and were tried by hand; so
 is a new one to be."""
 import glob

@@ -40,14 +40,14 @@ FAULTS = [
     ("format", "id_taken_again", "format may take an id that a copy has", "let bad = (id == 0) | has_id(c, id);", "let bad = (id == 0) | (has_id(c, id) & false);"),
     ("remove", "writer_left_open", "a removed file stays open", "    if open.id == id { None } else { writer }", "    if open.id != id { None } else { writer }"),
     ("files", "spares_the_first", "create's rollover spares the file with id 1", "&bytes[0..n], None);", "&bytes[0..n], Some(1));"),
-    ("directory", "name_unseen", "create's look does not see the file of the name", "            exists: true,", "            exists: s.exists,"),
+    ("directory", "name_unseen", "create's look does not see the file of the name", "            exists: true,", "            exists: seen.exists,"),
     ("reopen", "writes_on", "a chunk that was begun is written further", "    Tail::Reopened(n)", "    Tail::At(n)"),
     ("reopen", "one_record_less", "the last valid record is not counted", "return Ok(index + 1);", "return Ok(index);"),
     ("record", "number_in_chunk", "records are numbered anew in each chunk", "    position * size + index", "    index"),
     ("append", "bytes_again", "the bytes of a record are written again with the next", "self.standing(self.chunk, self.position, next, 0)", "self.standing(self.chunk, self.position, next, self.fill)"),
     ("table", "first_free", "the free chunk is the first, whatever the cursor", "cursor <= b || i < cursor", "cursor <= b || i <= cursor"),
     ("table", "clears_next_slot", "links of another slot are cleared", "if ((owner % 128) as usize) == slot + 1 {", "if ((owner % 128) as usize) == slot {"),
-    ("directory", "older_spared", "files older than the open one are spared too", "(Some(file.id) != spared)", "(spared.unwrap_or(0) < file.id)"),
+    ("directory", "older_spared", "files older than the open one are spared too", "(Some(file.id) != spared)", "(Some(file.id.max(spared.unwrap_or(0))) != spared)"),
 ]
 
 

@@ -1,20 +1,24 @@
 -- A word moved over a lane of zeros, bit by bit: what becomes of the highest is computed, the next one takes a step more, and so on. Assumes nothing.
-use mathlib.Core.Path.{◌≡◌, refl, sym, ap, ◌∙◌}
+use mathlib.Core.Path.{◌≡◌, refl, sym, ap, subst, ◌∙◌}
 use Prim.Native.Nat.{ℕ, ◌+◌, ◌-◌, ◌*◌, ◌/◌, ◌%◌, ◌^◌, ◌<◌, ◌≤◌}
 use native.Mathlib.Nat.{mod-lt, mod-eq_of_lt, zero-mul, one-mul, add_comm}
 use native.Mathlib.Omega.{arith}
+use lib.Dec.{lit<}
 use lib.Pow.{pow_pos, pow-add, mod-pow-add}
 use lib.Bits.{bit_xor, xor_zero_l, xor_zero_r, xor_shifted}
 use Rattle.checksum.specs.Crc.{poly, added, bit_step, bit_steps}
 use Rattle.checksum.specs.Lanes.{lane_bits}
 use Rattle.checksum.proofs.Xor.{by_digit}
 use Rattle.std.specs.Int.Bits.{xor_assoc}
-use Rattle.checksum.proofs.Steps.{steps_xor, steps_zero, steps_shifted, steps_add}
+use Rattle.checksum.proofs.Steps.{steps_xor, steps_zero, steps_shifted, steps_add, steps_lt}
 
 -- a bit times the polynomial is what a low bit adds; times any word, it is that word or nothing
 pub times_poly : (b : ℕ) → b < 2 → b * poly ≡ added b
 unfolding added
 times_poly = by_digit (λ (b : ℕ). b * poly ≡ added b) refl refl
+
+times_lt : (k m : ℕ) → k < m → (b : ℕ) → b < 2 → b * k < m
+times_lt k m h = by_digit (λ (b : ℕ). b * k < m) (omega arith) (omega arith)
 
 steps_times : (k x b : ℕ) → b < 2 → bit_steps k (b * x) ≡ b * bit_steps k x
 steps_times k x =
@@ -45,6 +49,9 @@ Moving x n sum k = (k ≡ bit_steps (32 - n) far) × (bit_steps lane_bits x ≡ 
 pub move_start : (x : ℕ) → x < 2 ^ 32 → Moving x 32 0 far
 unfolding bit_steps
 move_start x h = (refl, ap (bit_steps lane_bits) (sym (mod-eq_of_lt h)) ∙ sym (xor_zero_l (bit_steps lane_bits (x % 2 ^ 32))))
+
+pub move_fits : (x n sum k i : ℕ) → Moving x n sum k → x / 2 ^ i % 2 * k < 2 ^ 32
+move_fits x n sum k i (ek, e) = times_lt k (2 ^ 32) (subst (λ (y : ℕ). y < 2 ^ 32) (sym ek) (steps_lt (32 - n) far (lit< tt))) (x / 2 ^ i % 2) (mod-lt (x / 2 ^ i) (pow_pos 1))
 
 pub move_turn : (x m n sum k s : ℕ) → n + 1 ≡ m → m ≤ 32 → s ≡ bit_step k → Moving x m sum k → Moving x n (bit_xor sum (x / 2 ^ n % 2 * k)) s
 unfolding bit_steps

@@ -64,11 +64,11 @@ pub fn no_store() -> Store
     }
 }
 
-// The file that is open: extending and delete_oldest spare it.
+// The file that is open, if one is: extending and delete_oldest spare it.
 pub fn open_file(writer: Option<Writer>) -> Option<u32>
     ensures { result ≡ open_file writer }
 {
-    writer.map(|open| open.id)
+    is_open(writer).then_some(open_id(writer))
 }
 
 // Whether a file is open, and its id.
@@ -163,7 +163,9 @@ pub fn check(store: Store, volume: &[u8], medium: Medium, k: usize) -> Result<()
     let at = base(store.copy) + 1 + (k as u64);
     medium::readable(medium, at)?;
     let start = 512 * (at as usize);
-    if checksum::crc32(&volume[start..start + 512]) == store.head.crcs[k] {
+    // the header by itself: indexed where it stands, the compiler keeps a second store value on the stack of every walk
+    let head = store.head;
+    if checksum::crc32(&volume[start..start + 512]) == head.crcs[k] {
         Ok(())
     } else {
         Err(Error::Corrupt)

@@ -2,10 +2,7 @@
 use mathlib.Core.List.{List}
 use Prim.Native.Nat.{ℕ, ◌≤◌}
 use lib.ListN.{length}
-use Rattle.std.specs.Prelude.{Option, Some, None}
-use Rattle.std.specs.Option.{option_map_or}
-use Rattle.handles.specs.declared.Store.{Store}
-use Rattle.append.specs.declared.Appender.{Appender}
+use Rattle.le.proofs.Choices.{pick_keeps}
 use Rattle.words.specs.Words.{Rollover, Line, format, create, append, sync, delete, list, other, line_of}
 use Rattle.medium.proofs.Laws.{on_ok_keeps}
 use Rattle.store.proofs.Lists.{list_few as call_few}
@@ -18,43 +15,38 @@ use Rattle.lines.specs.Text.{Few}
 abbrev FewOf : Turn → Type 0
 FewOf t = Few t.said
 
--- of a value that is there, or of what stands in its place
-held_keeps : {A B : Type 0} (P : B → Type 0) (f : A → B) (o : Option A) (d : B) → ((a : A) → P (f a)) → P d → P (option_map_or f o d)
-held_keeps P f None d h k = k
-held_keeps P f (Some a) d h k = h a
-
-after_format_lem : (vol : List ℕ) (s : Session) (f : Store → Turn) → ((st : Store) → FewOf (f st)) → FewOf (after_format vol s f)
+after_format_lem : (vol : List ℕ) (s : Session) (t : Turn) → FewOf t → FewOf (after_format vol s t)
 unfolding after_format
-after_format_lem vol s f h = held_keeps FewOf f s.store _ h tt
+after_format_lem vol s t h = pick_keeps FewOf s.formatted _ _ h tt
 
-after_create_lem : (vol : List ℕ) (s : Session) (f : Store → Appender → Turn) → ((st : Store) (a : Appender) → FewOf (f st a)) → FewOf (after_create vol s f)
+after_create_lem : (vol : List ℕ) (s : Session) (t : Turn) → FewOf t → FewOf (after_create vol s t)
 unfolding after_create
-after_create_lem vol s f h = after_format_lem vol s _ (λ st. held_keeps FewOf (f st) s.appender _ (h st) tt)
+after_create_lem vol s t h = after_format_lem vol s _ (pick_keeps FewOf s.created _ _ h tt)
 
 module _ (vol : List ℕ) (s : Session) where
   format_few : (size seed : ℕ) → FewOf (format_line vol s size seed)
   unfolding format_line
   format_few size seed = on_ok_keeps FewOf _ (λ _. tt) (λ n. tt)
 
-  create_few : (name : List ℕ) (over : Rollover) (st : Store) → FewOf (create_line vol s name over st)
+  create_few : (name : List ℕ) (over : Rollover) → FewOf (create_line vol s name over)
   unfolding create_line
-  create_few name over st = on_ok_keeps FewOf _ (λ _. tt) (λ n. tt)
+  create_few name over = on_ok_keeps FewOf _ (λ _. tt) (λ n. tt)
 
-  append_few : (text : List ℕ) (st : Store) (a : Appender) → FewOf (append_line vol s text st a)
+  append_few : (text : List ℕ) → FewOf (append_line vol s text)
   unfolding append_line
-  append_few text st a = on_ok_keeps Few _ (λ _. on_ok_keeps Few _ (λ n. tt) (λ n. tt)) (λ n. tt)
+  append_few text = on_ok_keeps Few _ (λ _. on_ok_keeps Few _ (λ n. tt) (λ n. tt)) (λ n. tt)
 
-  sync_few : (st : Store) (a : Appender) → FewOf (sync_line vol s st a)
+  sync_few : FewOf (sync_line vol s)
   unfolding sync_line
-  sync_few st a = on_ok_keeps Few _ (λ _. on_ok_keeps Few _ (λ n. tt) (λ n. tt)) (λ n. tt)
+  sync_few = on_ok_keeps Few _ (λ _. on_ok_keeps Few _ (λ n. tt) (λ n. tt)) (λ n. tt)
 
-  delete_few : (name : List ℕ) (st : Store) → FewOf (delete_line vol s name st)
+  delete_few : (name : List ℕ) → FewOf (delete_line vol s name)
   unfolding delete_line
-  delete_few name st = on_ok_keeps Few _ (λ _. tt) (λ n. tt)
+  delete_few name = on_ok_keeps Few _ (λ _. tt) (λ n. tt)
 
-  list_few : (rows : List ℕ) → 3072 ≤ length rows → (st : Store) → FewOf (list_line vol s rows st).0
+  list_few : (rows : List ℕ) → 3072 ≤ length rows → FewOf (list_line vol s rows).0
   unfolding list_line
-  list_few rows room st = on_ok_keeps Few _ (λ _. call_few vol _ _ _ _ rows room) (λ n. tt)
+  list_few rows room = on_ok_keeps Few _ (λ _. call_few vol _ _ _ _ rows room) (λ n. tt)
 
   line_few : (rows : List ℕ) → 3072 ≤ length rows → (x : Line) → FewOf (line_step vol s rows x).0
   unfolding line_step
@@ -64,7 +56,7 @@ module _ (vol : List ℕ) (s : Session) where
   line_few rows room (append text) = after_create_lem vol s _ (append_few text)
   line_few rows room sync = after_create_lem vol s _ sync_few
   line_few rows room (delete name) = after_format_lem vol s _ (delete_few name)
-  line_few rows room list = held_keeps (λ (p : Turn × List ℕ). FewOf p.0) (list_line vol s rows) s.store _ (list_few rows room) tt
+  line_few rows room list = pick_keeps (λ (p : Turn × List ℕ). FewOf p.0) s.formatted _ _ (list_few rows room) tt
 
 pub step_few : (vol : List ℕ) (s : Session) (rows line : List ℕ) → 3072 ≤ length rows → Few (step_of vol s rows line).0.said
 unfolding step_of

@@ -1,25 +1,28 @@
 // The line program between its input and its output: what it holds from line to line, what a line does to that and to the volume, and its answer.
 #![tactic(auto)]
 
-ghost use Rattle.std.specs.Prelude.{◌≡◌, Some};
+ghost use Rattle.std.specs.Prelude.{◌≡◌};
 ghost use Rattle.words.specs.Words.{no_rollover, rollover, list, line_of};
 ghost use Rattle.medium.specs.Refusal.{outcome_of};
 ghost use Rattle.append.specs.Calls.{room_call};
 ghost use Rattle.le.specs.Choice.{pick};
 ghost use Rattle.session.specs.Session.{said_of, start_of, allowed_of, held_of, turn, turn_of, format_line, create_line, room_said};
-ghost use Rattle.session.specs.Session.{append_line, sync_line, delete_line, handles_of, after_format, after_create, line_step, step_of};
+ghost use Rattle.session.specs.Session.{append_line, sync_line, delete_line, store_of, handles_of, after_format, after_create, line_step, step_of};
 
 use append::{Appender, Handed, Room};
 use handles::Store;
 use medium::{Error, Medium};
 use words::Parsed;
 
-// What is held from line to line, beside the volume: the store of an accepted format, the appender of an accepted create.
+// What is held from line to line, beside the volume. `formatted`, `created`: a format, a create was accepted.
+// They are no `Option`s, since `step` takes any session and hands it back whole, one with a store and `formatted` false too.
 #[derive(Clone, Copy)]
 pub struct Session {
-    pub store: Option<Store>,
-    pub appender: Option<Appender>,
+    pub store: Store,
+    pub appender: Appender,
     pub medium: Medium,
+    pub formatted: bool,
+    pub created: bool,
 }
 
 // What an accepted line is answered: `ok` and a number, for a list with so many rows after it.
@@ -41,14 +44,16 @@ pub fn start() -> Session
     ensures { result ≡ start_of }
 {
     Session {
-        store: None,
-        appender: None,
+        store: handles::no_store(),
+        appender: append::no_appender(),
         medium: Medium {
             left: 0xffff_ffff,
             unreadable: 0xffff_ffff_ffff_ffff,
             entropy: 0,
             token: 0,
         },
+        formatted: false,
+        created: false,
     }
 }
 
@@ -73,8 +78,20 @@ fn format_line(volume: &mut [u8], s: &mut Session, size: u32, seed: u64) -> Resu
     let r = store::format(volume, s.medium, size, seed);
     s.medium = r.medium;
     r.outcome?;
-    s.store = Some(r.store);
+    s.store = r.store;
+    s.formatted = true;
     Ok(Reply::Number(r.store.chunks() as u64))
+}
+
+// The store of a word that needs one: before an accepted format the word is refused with 5.
+#[tactic(auto, unfolding(crate::specs::Session::store_of, le::specs::Choice::pick))]
+fn held_store(s: &Session) -> Result<Store, Error>
+    ensures { result ≡ store_of s.now }
+{
+    if !s.formatted {
+        return Err(Error::Uninitialized);
+    }
+    Ok(s.store)
 }
 
 // A refused create leaves the appender of the one before it, beside the store that a rollover may have left.
@@ -88,25 +105,24 @@ fn create_line(
     ensures { turn volume.new s.new (said_of result)
         ≡ after_format volume.old s.old (create_line volume.old s.old name.now (pick rolls (rollover dir.now) no_rollover)) }
 {
-    let store = s.store.ok_or(Error::Uninitialized)?;
+    let store = held_store(s)?;
     let r = store::create(volume, s.medium, store, name, rolls, dir);
     s.medium = r.medium;
-    s.store = Some(r.store);
+    s.store = r.store;
     r.outcome?;
-    s.appender = Some(r.appender);
+    s.appender = r.appender;
+    s.created = true;
     Ok(Reply::Number(r.appender.id as u64))
 }
 
 // What stands after an append or a sync is held, refused or not; it is answered the bytes until a record.
 fn flushed(s: &mut Session, f: Handed) -> Result<Reply, Error>
-    ensures { (s.new ≡ held_of (Some f.store) (Some f.appender) f.medium)
+    ensures { (s.new ≡ held_of s.old f.store f.appender f.medium)
         × (said_of result ≡ room_said (outcome_of f.outcome) (room_call f.appender)) }
 {
-    *s = Session {
-        store: Some(f.store),
-        appender: Some(f.appender),
-        medium: f.medium,
-    };
+    s.store = f.store;
+    s.appender = f.appender;
+    s.medium = f.medium;
     f.outcome?;
     match f.appender.room() {
         Room::Refused(e) => Err(e),
@@ -115,13 +131,15 @@ fn flushed(s: &mut Session, f: Handed) -> Result<Reply, Error>
 }
 
 // The handles of append and sync: before an accepted format the word is refused with 5, before an accepted create with 11.
-#[tactic(auto, unfolding(crate::specs::Session::handles_of))]
+#[tactic(auto, unfolding(crate::specs::Session::store_of, crate::specs::Session::handles_of, le::specs::Choice::pick))]
 fn handles(s: &Session) -> Result<(Store, Appender), Error>
     ensures { result ≡ handles_of s.now }
 {
-    let store = s.store.ok_or(Error::Uninitialized)?;
-    let appender = s.appender.ok_or(Error::Stale)?;
-    Ok((store, appender))
+    let store = held_store(s)?;
+    if !s.created {
+        return Err(Error::Stale);
+    }
+    Ok((store, s.appender))
 }
 
 fn append_line(volume: &mut [u8], s: &mut Session, text: &[u8]) -> Result<Reply, Error>
@@ -141,10 +159,10 @@ fn sync_line(volume: &mut [u8], s: &mut Session) -> Result<Reply, Error>
 fn delete_line(volume: &mut [u8], s: &mut Session, name: &[u8]) -> Result<Reply, Error>
     ensures { turn volume.new s.new (said_of result) ≡ after_format volume.old s.old (delete_line volume.old s.old name.now) }
 {
-    let store = s.store.ok_or(Error::Uninitialized)?;
+    let store = held_store(s)?;
     let r = store::delete(volume, s.medium, store, name);
     s.medium = r.medium;
-    s.store = Some(r.store);
+    s.store = r.store;
     r.outcome?;
     Ok(Reply::Number(0))
 }
@@ -153,7 +171,7 @@ fn delete_line(volume: &mut [u8], s: &mut Session, name: &[u8]) -> Result<Reply,
 fn list_line(volume: &[u8], s: &mut Session, rows: &mut [u8]) -> Result<Reply, Error>
     ensures { (turn volume.now s.new (said_of result), rows.new) ≡ line_step volume.now s.old rows.old list }
 {
-    let store = s.store.ok_or(Error::Uninitialized)?;
+    let store = held_store(s)?;
     let mut counts = [0u16; 64];
     let l = store::list(volume, s.medium, store, b"", &mut counts, rows);
     s.medium = l.medium;

@@ -36,6 +36,7 @@ fn walk_free(volume: &[u8], medium: Medium, store: Store) -> Result<Option<u32>,
 
 // The chunk that the next link takes: the first that the map marks at or after the cursor, going round; with an unfit map, the walk's. The
 // table must pass its checksums all the same, so that a refusal comes where the walk has it.
+#[tactic(auto, using(crate::proofs::Ways::by_refusal, crate::proofs::Ways::by_map), unfolding(crate::specs::Free::pick_of, le::specs::Choice::pick, medium::specs::Refusal::on_done, crate::specs::Free::free_of))]
 pub fn free_chunk(volume: &[u8], medium: Medium, store: Store) -> Result<Option<u32>, Error>
     requires { (64 ≤ sectors_of volume.now) × (store.head.chunks ≤ 2048) × (store.head.cursor < store.head.chunks) }
     ensures { result ≡ free_of volume.now medium store }

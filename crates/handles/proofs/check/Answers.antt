@@ -17,22 +17,22 @@ returns-in_err-readable c =
     let e : c.from_residual.result ≡ Err c.in_err-readable.field-0.0 = search rules in
     e ∙ rw (← c.base.ensures.0, told c.readable.ensures c.in_err-readable.was)
 
-pub returns-then-crc32-store : goal.returns-then-crc32-store
+pub returns-then-crc32-head : goal.returns-then-crc32-head
 unfolding check_of on_done sector_at part pick
-returns-then-crc32-store c =
+returns-then-crc32-head c =
     rw (
       ← c.base.ensures.0,
       told c.readable.ensures c.in_ok-readable.was,
       ← (simp add-sub_cancel_left at c.crc32.ensures),
-      eq-eqb _ _ c.if-crc32-store.true,
+      eq-eqb _ _ c.if-crc32-head.true,
     )
 
-pub returns-else-crc32-store : goal.returns-else-crc32-store
+pub returns-else-crc32-head : goal.returns-else-crc32-head
 unfolding check_of on_done sector_at part pick
-returns-else-crc32-store c =
+returns-else-crc32-head c =
     rw (
       ← c.base.ensures.0,
       told c.readable.ensures c.in_ok-readable.was,
       ← (simp add-sub_cancel_left at c.crc32.ensures),
-      ne_eqb _ _ c.if-crc32-store.false,
+      ne_eqb _ _ c.if-crc32-head.false,
     )

@@ -6,7 +6,7 @@ pub returns-in_err-store : goal.returns-in_err-store
 returns-in_err-store c =
     let a = c.args in
     let e : c.from_residual.result ≡ Err c.in_err-store.field-0.0 = search rules in
-    rw e (no_handles a.volume.now a.s.now _ c.handles.ensures c.in_err-store.was)
+    rw e (no_handles a.volume.now a.s.now c.handles.ensures c.in_err-store.was _)
 
 pub returns : goal.returns
 returns c =

@@ -9,7 +9,7 @@ use Rattle.reader.specs.declared.Reader.{Reader}
 use Rattle.reader.specs.declared.Arrived.{Arrived}
 use Rattle.reader.specs.Reader.{reader_ok}
 use Rattle.reader.specs.Next.{arrive_of}
-use Rattle.le.proofs.Turns.{told}
+use Rattle.std.proofs.Common.{rules}
 use Rattle.handles.proofs.Laws.{store_facts}
 use Rattle.reader.proofs.Facts.{reader_facts, reader_ok_lem}
 use Rattle.reader.proofs.Moves.{Arrives, arrive_reads}
@@ -42,4 +42,4 @@ pub cut-requires : goal.cut-requires
 cut-requires c =
     let a = c.args in
     let r = came a.volume.now a.medium a.store a.self c.requires.1 c.arrive-more.ensures in
-    ((store_facts _ _ c.requires.0).head.size_most, reader_ok_lem _ _ r.reads, told c.is_given-given.ensures c.if-not-given.true)
+    ((store_facts _ _ c.requires.0).head.size_most, reader_ok_lem _ _ r.reads, search rules)

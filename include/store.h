@@ -17,7 +17,7 @@
  *     entry first steps over those 128 bytes: give handlers a stack of their
  *     own, or make the calls with interrupts off.
  *   - Stack, at most, for any input, without what memcpy and memset use: mount
- *     3,312 bytes, format 1,008, delete 5,424, list 3,984.
+ *     3,136 bytes, format 992, delete 5,280, list 3,504.
  *
  * The whole volume is in memory. A medium that is not has to be read into an
  * array before a call and its changed sectors written back after it. What is

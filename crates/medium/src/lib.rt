@@ -79,12 +79,12 @@ pub fn spend(medium: Medium) -> Written
             medium,
         }
     } else {
+        // In a copy, and `mix` as a call: by a struct update `format` takes 16 bytes of stack more than C firmware is promised (include/store.h).
+        let mut after = medium;
+        after.left -= 1;
         Written {
             outcome: Ok(()),
-            medium: Medium {
-                left: medium.left - 1,
-                ..medium
-            },
+            medium: after,
         }
     }
 }
